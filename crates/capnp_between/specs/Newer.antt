@@ -4,7 +4,6 @@ use Rattle.std.specs.List.{list_all}
 use Rattle.capnp_model.specs.Segments.{Segments, root as message_root}
 use Rattle.capnp_model.specs.Trees.{Tree}
 use Rattle.capnp_model.specs.Traversal.{tree_at}
-use Rattle.capnp_model.specs.Readings.{Record, record_of}
 use Rattle.capnp_model.specs.Calls.{Call as ModelCall}
 use Rattle.capnp_model.specs.CallRuns.{records_after, record_replies}
 use Rattle.capnp_model.specs.InKindCalls.{IsInKind}

@@ -1,19 +1,17 @@
 -- Lists that are made lie whole.
-use Rattle.std.proofs.Common.{◌≡◌, ℕ, zero, suc, cond, eqb, ◌+◌, ◌*◌, ◌^◌, ◌<◌, ◌≤◌, true, refl, ap, sym, ◌∙◌, subst, arith}
+use Rattle.std.proofs.Common.{◌≡◌, ℕ, zero, suc, cond, eqb, ◌+◌, ◌*◌, ◌^◌, ◌<◌, ◌≤◌, true, ap, sym, ◌∙◌, subst, arith}
 use Rattle.std.specs.Option.{is_some}
 use Rattle.capnp_model.specs.Sections.{words_for}
 use Rattle.capnp_model.specs.Segments.{Segments, Place, after, words_at}
 use Rattle.capnp_object.specs.Objects.{AreThere}
 use Rattle.capnp_object.specs.declared.place.Place as code
 use Rattle.capnp_units.specs.declared.sizes.ElementSize.{ElementSize}
-use Rattle.capnp_units.specs.declared.sizes.ElementSize.TheVariants.{Void, Bit, Byte, TwoBytes, FourBytes, EightBytes, Pointer, InlineComposite}
 use Rattle.capnp_units.specs.Sizes.{size_number, data_bits}
 use Rattle.capnp_wire.specs.Elements.{step_bits, step_words}
 use Rattle.capnp_wire.specs.Places.{place_view}
 use Rattle.capnp_copy.specs.Elements.{IsWhole}
 use Rattle.capnp_copy.specs.Lists.{words_of_list}
 use Rattle.capnp_copy.specs.declared.init.ListPlace.{ListPlace}
-use Rattle.capnp_footprints.proofs.lemmas.Rows.{after_none}
 use Rattle.capnp_widening.proofs.lemmas.WholeLists.{structs_whole, at_front}
 use Rattle.capnp_copy.proofs.lemmas.Parts.{front_there}
 use Rattle.capnp_units.proofs.lemmas.Sizes.{composite_by_number}

@@ -3,13 +3,13 @@ use Rattle.std.proofs.Common.{◌≡◌, ℕ, zero, suc, ◌+◌, ◌*◌, ◌%�
 use Rattle.std.specs.Option.{ok_or}
 use Rattle.std.proofs.lemmas.Bool.Decides.{nat_tests}
 use Rattle.capnp_model.specs.Kinds.{Kind, OutOfBounds, NestingLimitExceeded, CapabilityInCanonical}
-use Rattle.capnp_model.specs.Chains.{◌>>=◌, ◌and_then◌}
+use Rattle.capnp_model.specs.Chains.{◌>>=◌}
 use Rattle.capnp_model.specs.Sections.{section_of}
 use Rattle.capnp_model.specs.Segments.{Segments, Place, words_at}
 use Rattle.capnp_model.specs.Pointers as model
 use Rattle.capnp_model.specs.Trees.{plain_list, size_bits}
 use Rattle.capnp_model.specs.Traversal.{tag_in, ListKind, of_bits, of_pointers, of_structs, list_kind, list_words, list_tree, tree_of, tree_at}
-use Rattle.capnp_model.specs.Visits.{Visit, visits_of, list_visits, object_visits, leaf_visits}
+use Rattle.capnp_model.specs.Visits.{Visit, object_visits, leaf_visits}
 use Rattle.capnp_model.proofs.lemmas.Chaining.{bind_ok, ok_is, ok_or_some}
 use Rattle.capnp_model.proofs.lemmas.ReadFits.{tree_at_fits}
 use Rattle.capnp_units.specs.declared.errors.Error.{Error}

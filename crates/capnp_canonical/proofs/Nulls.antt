@@ -1,5 +1,5 @@
 -- Nulls among pointers, and what is kept of pointers that are trimmed.
-use Rattle.std.proofs.Common.{◌≡◌, ℕ, zero, suc, ◌+◌, ◌<◌, ◌≤◌, Bool, true, false, ◌||◌, List, [], ◌∷◌, ◌++◌, length, get_or, drop, Option, Some, None, Result, Ok, refl, ap, sym, ◌∙◌, subst, arith, eqb, if◌then◌else◌, append_assoc}
+use Rattle.std.proofs.Common.{◌≡◌, ℕ, zero, suc, ◌+◌, ◌<◌, ◌≤◌, Bool, true, false, List, [], ◌∷◌, ◌++◌, length, get_or, drop, Option, Some, None, Result, Ok, refl, ap, sym, ◌∙◌, subst, arith, eqb, if◌then◌else◌, append_assoc}
 use Rattle.std.specs.Option.{ok_or}
 use Rattle.std.proofs.lemmas.Bool.{ne_eqb, eqb-true, eqb-false}
 use Rattle.capnp_model.specs.Kinds.{Kind, OutOfBounds}
@@ -7,7 +7,7 @@ use Rattle.capnp_model.specs.Chains.{◌>>=◌}
 use Rattle.capnp_model.specs.Sections.{bits_at}
 use Rattle.capnp_model.specs.Segments.{Segments, Place, place, after, word_at, words_at}
 use Rattle.capnp_model.specs.Pointers as model
-use Rattle.capnp_model.specs.Trees.{Tree, null, capability, structure, plain_list, pointer_list, struct_list, Trees, none, ◌▸◌, Elements, is_null, tree_count, resized, has_capability, have_capability}
+use Rattle.capnp_model.specs.Trees.{Tree, null, capability, structure, plain_list, pointer_list, struct_list, Trees, none, ◌▸◌, Elements, is_null, tree_count, resized}
 use Rattle.capnp_model.specs.Traversal.{tree_at, tree_of, leaf_of, list_tree, ListKind, of_bits, of_pointers, of_structs, list_kind, list_words, tag_in, each, each_element}
 use Rattle.capnp_model.specs.Coverage.{from_each}
 use Rattle.capnp_model.specs.Visits.{Visit, visits_cost}

@@ -1,6 +1,5 @@
 -- Segments that were changed in place, and stand in their list again.
-use Rattle.std.proofs.Common.{◌≡◌, ℕ, ◌+◌, ◌^◌, ◌<◌, ◌++◌, List, length, take, drop, ap, sym, ◌∙◌, subst, arith}
-use Rattle.std.specs.List.{flat_map}
+use Rattle.std.proofs.Common.{◌≡◌, ℕ, ◌+◌, ◌^◌, ◌<◌, ◌++◌, List, length, take, drop, ap, sym, ◌∙◌, subst}
 use Rattle.capnp_footprints.specs.Writes.{with_zeros}
 use Rattle.capnp_copy.specs.declared.allocator.SegmentBytes.{Ghosts}
 use Rattle.capnp_copy.specs.declared.held.Held.{Held}

@@ -1,6 +1,6 @@
 -- A value's canonical words, and their plain copy.
 use Rattle.std.specs.Bool.{⊤}
-use Rattle.std.proofs.Common.{◌≡◌, ◌⊎◌, ℕ, ◌+◌, ◌≤◌, List, [], ◌∷◌, ◌++◌, length, Option, None, Some, Result, Ok, Err, refl, ap, sym, ◌∙◌, subst, inl, inr}
+use Rattle.std.proofs.Common.{◌≡◌, ◌⊎◌, ℕ, ◌+◌, ◌≤◌, List, [], ◌∷◌, ◌++◌, length, Some, Result, Ok, Err, refl, ap, sym, ◌∙◌, subst, inl, inr}
 use Rattle.std.proofs.lemmas.List.{append-nil}
 use Rattle.capnp_model.specs.Segments.{Segments, Place, root}
 use Rattle.capnp_model.specs.Trees.{Tree, has_capability}
@@ -8,12 +8,11 @@ use Rattle.capnp_model.specs.Trimming.{trim}
 use Rattle.capnp_model.specs.Traversal.{tree_at}
 use Rattle.capnp_model.specs.Visits.{Visit, visits, visits_cost}
 use Rattle.capnp_model.specs.Encoding.{canonical_words}
-use Rattle.capnp_model.proofs.lemmas.Chaining.{bind_some, some_is}
+use Rattle.capnp_model.proofs.lemmas.Chaining.{some_is}
 use Rattle.capnp_units.specs.declared.errors.Error.{Error}
-use Rattle.capnp_units.specs.declared.kinds.ErrorKind.{ErrorKind}
 use Rattle.capnp_units.specs.declared.limiter.ReadLimiter.{ReadLimiter}
-use Rattle.capnp_units.specs.Limits.{less, left_of, granted_of, IsFree}
-use Rattle.capnp_object.specs.Walks.{Walked, Stopped, CannotPass}
+use Rattle.capnp_units.specs.Limits.{IsFree}
+use Rattle.capnp_object.specs.Walks.{Walked, Stopped}
 use Rattle.capnp_footprints.proofs.lemmas.Algebra.{changes_nothing}
 use Rattle.capnp_canonical.specs.Copies.{copy_visits, Halted, Written, Filled, room_of}
 use Rattle.capnp_copy_from.specs.Copies.{BecomesCopy, CopiesValue, FollowsFew, Unplaced}

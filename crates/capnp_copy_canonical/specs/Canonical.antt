@@ -1,5 +1,5 @@
 -- Canonical copies into an arena, by way of lent words. (Encoding, "Canonicalization")
-use Rattle.std.specs.Prelude.{◌≡◌, ◌⊎◌, ⊤, ℕ, ◌+◌, ◌≤◌, false, List, [], ◌∷◌, None, Some, Result, Ok, Err}
+use Rattle.std.specs.Prelude.{◌≡◌, ◌⊎◌, ⊤, ℕ, ◌+◌, ◌≤◌, false, List, [], ◌∷◌, Some, Result, Ok, Err}
 use Rattle.capnp_model.specs.Segments.{Segments, Place, root}
 use Rattle.capnp_model.specs.Trees.{Tree, has_capability}
 use Rattle.capnp_model.specs.Trimming.{trim}

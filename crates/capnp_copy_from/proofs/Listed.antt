@@ -22,7 +22,6 @@ use Rattle.capnp_copy_from.proofs.Made.{words_fill}
 use Rattle.capnp_footprints.specs.Writes.{spliced, spliced_in, with_words}
 use Rattle.capnp_wire.proofs.lemmas.Bytes.{word_is, number_of-drop, number_of-take}
 use Rattle.std.proofs.Math.Pow.{mod-mod-pow}
-use Rattle.capnp_units.proofs.lemmas.FirstBytes.{first_eight}
 use Rattle.capnp_units.specs.Segments.{whole_words}
 use Rattle.capnp_units.specs.Sizes.{size_number, data_bits}
 use Rattle.capnp_units.specs.declared.sizes.ElementSize.{ElementSize}

@@ -19,7 +19,7 @@ use Rattle.capnp_footprints.specs.Writes.{spliced, with_words}
 use Rattle.capnp_footprints.proofs.lemmas.Rows.{after_none}
 use Rattle.capnp_footprints.proofs.lemmas.Lift.{object_replaced_owned, object_replaced_then}
 use Rattle.capnp_footprints.proofs.lemmas.Spans.{grows_then}
-use Rattle.capnp_footprints.proofs.lemmas.Splices.{splice_words, splice_grows, spliced_whole}
+use Rattle.capnp_footprints.proofs.lemmas.Splices.{splice_grows, spliced_whole}
 use Rattle.capnp_footprints.proofs.lemmas.Writing.{struct_words}
 use Rattle.capnp_copy.specs.Allocations.{total_words}
 use Rattle.capnp_copy.specs.Blobs.{whole_of, last_of, front_of, with_bytes}

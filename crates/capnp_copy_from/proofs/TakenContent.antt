@@ -33,7 +33,6 @@ use Rattle.capnp_copy.specs.Structs.{struct_at}
 use Rattle.capnp_copy.specs.declared.fields.StructPlace.{StructPlace}
 use Rattle.capnp_copy.proofs.lemmas.BlobNumbers.{front_words_length, front_section, all_words, number_fits}
 use Rattle.capnp_copy.proofs.lemmas.RoomLaws.{some_of, sizes_grow}
-use Rattle.capnp_copy.proofs.lemmas.ZeroedWords.{written_sizes}
 use Rattle.capnp_object.specs.Walks.{Stopped}
 use Rattle.capnp_model.proofs.lemmas.ReadFits.{words_length}
 use Rattle.capnp_copy_from.specs.Copies.{Copied, Refused, Unplaced, FillsRow, LeavesRow, StructSource}

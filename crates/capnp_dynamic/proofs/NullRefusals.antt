@@ -1,5 +1,5 @@
 -- Why null pointers of active members aren't set.
-use Rattle.std.proofs.Common.{◌≡◌, ℕ, ◌*◌, ◌^◌, ◌≤◌, true, List, [], ◌∷◌, ◌++◌, length, Option, Some, None, Result, Ok, Err, OnOk, IfErr, inl, inr, refl, sym, ap, subst, ◌∙◌}
+use Rattle.std.proofs.Common.{◌≡◌, ℕ, ◌*◌, ◌^◌, ◌≤◌, true, List, length, Option, Some, None, Result, Ok, Err, OnOk, IfErr, inl, inr, refl, sym, ap, subst}
 use Rattle.std.specs.Prelude.{⊤, option_map}
 use Rattle.capnp_model.specs.Accepted.{slot_body, field_body}
 use Rattle.capnp_model.specs.Calls.{blob_tree}
@@ -11,16 +11,11 @@ use Rattle.capnp_model.specs.Segments.{Segments, root}
 use Rattle.capnp_model.specs.Sizes.{object_words}
 use Rattle.capnp_model.specs.Traversal.{tree_at}
 use Rattle.capnp_model.specs.Trees.{Tree, null, capability, structure, plain_list, pointer_list, struct_list}
-use Rattle.capnp_model.specs.Visits.{Visit, visits, visits_cost}
-use Rattle.capnp_model.proofs.lemmas.Chaining.{bind_some}
+use Rattle.capnp_model.specs.Visits.{visits, visits_cost}
 use Rattle.capnp_units.specs.Errors.{kind_of}
-use Rattle.capnp_units.specs.Limits.{left_of}
 use Rattle.capnp_units.specs.Segments.{words_in}
 use Rattle.capnp_units.specs.declared.errors.Error.{Error}
-use Rattle.capnp_units.specs.declared.kinds.ErrorKind.{ErrorKind}
-use Rattle.capnp_units.specs.declared.limiter.ReadLimiter.{ReadLimiter}
 use Rattle.capnp_object.specs.declared.place.Place as code
-use Rattle.capnp_object.specs.Walks.{Stopped, CannotPass}
 use Rattle.capnp_copy_from.specs.Copies.{Unplaced}
 use Rattle.capnp_copy_from.specs.Defaults.{default_segments}
 use Rattle.capnp_builders.specs.Making.{ArenaState, Makes, BytesNotSet, ListRefused}

@@ -1,5 +1,5 @@
 -- Messages that are made of words, and their roots.
-use Rattle.std.proofs.Common.{◌≡◌, ◌≢◌, ◌↔◌, ◌⊎◌, inl, inr, refl, ℕ, zero, suc, ◌+◌, ◌*◌, ◌/◌, ◌<◌, ◌≤◌, ◌^◌, Bool, true, false, List, [], ◌∷◌, ◌++◌, length, map, get_or, take, drop, replicate, Option, Some, None, Result, Ok, Err, Vec, ap, sym, ◌∙◌, subst, arith, leb}
+use Rattle.std.proofs.Common.{◌≡◌, ◌↔◌, ◌⊎◌, inl, inr, refl, ℕ, suc, ◌+◌, ◌*◌, ◌/◌, ◌<◌, ◌≤◌, ◌^◌, Bool, true, false, List, [], ◌∷◌, ◌++◌, length, map, get_or, take, drop, replicate, Option, Some, None, Result, Ok, Err, Vec, ap, sym, ◌∙◌, subst, arith, leb}
 use Rattle.std.specs.Bool.{⊤}
 use Rattle.std.specs.declared.alloc.Global.{Global}
 use Rattle.std.specs.List.{flat_map}
@@ -25,11 +25,10 @@ use Rattle.capnp_copy.specs.Values.{Becomes}
 use Rattle.capnp_model.specs.Encoding.{canonical_words}
 use Rattle.capnp_model.specs.Traversal.{tree_at}
 use Rattle.capnp_model.specs.Trimming.{trim}
-use Rattle.capnp_model.specs.Visits.{Visit, visits, visits_cost}
-use Rattle.capnp_model.proofs.lemmas.Chaining.{bind_some, some_is}
-use Rattle.capnp_units.specs.declared.kinds.ErrorKind.{ErrorKind}
-use Rattle.capnp_units.specs.Limits.{less, left_of, granted_of, IsFree}
-use Rattle.capnp_object.specs.Walks.{CannotPass, Stopped}
+use Rattle.capnp_model.specs.Visits.{visits, visits_cost}
+use Rattle.capnp_model.proofs.lemmas.Chaining.{some_is}
+use Rattle.capnp_units.specs.Limits.{IsFree}
+use Rattle.capnp_object.specs.Walks.{Stopped}
 use Rattle.capnp_copy_from.specs.Copies.{BecomesCopy, CopiesValue, Unplaced}
 use Rattle.capnp_copy_from.proofs.lemmas.Filling.{value_stands}
 use Rattle.capnp_message.specs.Canonical.{GivesCanonical, HasNoRoot, CopiesWords, ReplacesRoot, IsReplaced, HasNoRoom, SetsCanonical}

@@ -1,9 +1,7 @@
 -- A null pointer prints as its default.
-use Rattle.std.proofs.Common.{◌≡◌, ℕ, suc, ◌^◌, ◌<◌, ◌==◌, not, Bool, true, false, if◌then◌else◌, Option, Some, None, List, [], ◌∷◌, ◌++◌, length, take, Result, Ok, Err, refl, ap, sym, ◌∙◌, arith}
-use Rattle.std.specs.Prelude.{slice_index}
+use Rattle.std.proofs.Common.{◌≡◌, ℕ, suc, ◌^◌, ◌<◌, not, Bool, true, false, if◌then◌else◌, Option, Some, None, List, [], ◌∷◌, ◌++◌, Result, Ok, Err, refl, ap, sym, ◌∙◌}
 use Rattle.std.specs.List.{AllByRecursion}
-use Rattle.std.proofs.lemmas.List.{length-append, take_at}
-use Rattle.capnp_model.specs.Kinds.{Kind, TextWithoutZeroByte, NestingLimitExceeded}
+use Rattle.capnp_model.specs.Kinds.{Kind, NestingLimitExceeded}
 use Rattle.capnp_model.specs.Trees.{Tree, is_null as is_null_tree}
 use Rattle.capnp_model.specs.Trimming.{trim}
 use Rattle.capnp_model.specs.Encoding.{canonical_words}
@@ -11,7 +9,7 @@ use Rattle.capnp_model.specs.Bytes.{bytes_of_words}
 use Rattle.capnp_model.specs.Decoding.{decode}
 use Rattle.capnp_model.specs.Calls.{text_tree, blob_tree}
 use Rattle.capnp_model.specs.Schemas.{Ty, void, plain, text, blob, untyped, interface, struct, list, type_of, Value, no_value, bits, text_bytes, blob_bytes, list_segment, struct_segment, untyped_value, interface_value, FieldKind, slot, group, pointer_slot, Schema, default_or_null}
-use Rattle.capnp_model.specs.Readings.{null_pointer, fault, text_of, blob_of, body_of, read, text_reading}
+use Rattle.capnp_model.specs.Readings.{null_pointer, text_of, blob_of, body_of, read, text_reading}
 use Rattle.capnp_model.specs.Printing.{Style, as_type, as_body, as_it_is}
 use Rattle.capnp_model.specs.Accepted.{slot_body, field_body, default_tree, is_good_segment, opens_as}
 use Rattle.capnp_model.proofs.lemmas.Numbers.{numbers_in-number_of}
@@ -21,7 +19,7 @@ use Rattle.capnp_values.specs.GoodDefaults.{IsGoodDefault, KeepsDefault}
 use Rattle.capnp_values.specs.Sources.{default_pointer, null_default}
 use Rattle.capnp_values.specs.Standing.{IsPointerType, NullsAreRead}
 use Rattle.capnp_values.specs.Shown.{Shown, opened, segment_opened, default_opened, slot_opened, slot_shown, kind_shown, is_null_slot}
-use Rattle.capnp_values.proofs.lemmas.DefaultReadings.{last_is, text_is, with_zero, decoded, encoded}
+use Rattle.capnp_values.proofs.lemmas.DefaultReadings.{text_is, with_zero, decoded, encoded}
 use Rattle.capnp_print.specs.ShownReadings.{read_or_fault, reading_within, left_of}
 use Rattle.capnp_print.specs.Defaults.{is_null_segment, is_entered, enters}
 use Rattle.capnp_print.specs.Printed.{printed, empty_printed, bytes_shown, default_shown, text_shown, null_printed}

@@ -1,9 +1,9 @@
 -- A field of a struct prints as the model prints what the struct's record has there.
-use Rattle.std.proofs.Common.{◌≡◌, ℕ, zero, suc, Option, Some, refl, ap, sym, ◌∙◌, subst}
-use Rattle.capnp_model.specs.Schemas.{Fields, no_fields, field, Shape, shape}
-use Rattle.capnp_model.specs.Readings.{Record, no_more, entry, record_as, Extent, just_bits, Children, discriminant, is_active, only_if, body_of, fields_of, shape_record}
+use Rattle.std.proofs.Common.{◌≡◌, ℕ, zero, suc, Some, refl, ap, sym, ◌∙◌, subst}
+use Rattle.capnp_model.specs.Schemas.{Fields, no_fields, field}
+use Rattle.capnp_model.specs.Readings.{Record, no_more, entry, record_as, just_bits}
 use Rattle.capnp_model.specs.Printing.{as_body, fields_in, as_it_is}
-use Rattle.capnp_queries.specs.Fields.{Entry, field_at, union_in}
+use Rattle.capnp_queries.specs.Fields.{Entry, field_at}
 use Rattle.capnp_queries.specs.Structs.{nodes_around, schema_around, shape_of_struct, fields_of_struct, id_of}
 use Rattle.capnp_queries.specs.declared.structs.StructSchema.{StructSchema}
 use Rattle.capnp_wire.specs.Views.{StructView}

@@ -1,5 +1,5 @@
 -- What stands at the place of a raw schema of the set.
-use Rattle.std.proofs.Common.{◌≡◌, ℕ, Bool, true, false, ◌&&◌, ◌==◌, Option, Some, None, List, [], map, get_or, sym, ◌∙◌, ap, arith}
+use Rattle.std.proofs.Common.{◌≡◌, ℕ, Bool, true, false, ◌&&◌, ◌==◌, Option, Some, None, List, [], map, get_or, sym, ◌∙◌, ap}
 use Rattle.capnp_model.specs.Schemas.{Enumerant, StructNode, Node}
 use Rattle.capnp_model.specs.Accepted.{find_node, IsAccepted}
 use Rattle.capnp_model.proofs.lemmas.Tests.{same_number, and_left}

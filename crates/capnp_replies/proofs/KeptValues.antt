@@ -1,5 +1,5 @@
 -- What the values of messages are read as.
-use Rattle.std.proofs.Common.{◌≡◌, ℕ, zero, suc, pos, ◌/◌, ◌==◌, Bool, true, false, if◌then◌else◌, Option, Some, None, option_map, List, [], ◌∷◌, length, Result, Ok, Err, refl, ap, sym, subst, ◌∙◌, arith}
+use Rattle.std.proofs.Common.{◌≡◌, ℕ, zero, suc, pos, ◌/◌, Bool, true, false, if◌then◌else◌, Option, Some, None, option_map, List, [], ◌∷◌, length, Result, Ok, Err, refl, ap, sym, subst, ◌∙◌, arith}
 use Rattle.std.specs.Prelude.{IsSome}
 use Rattle.std.specs.Option.{is_some}
 use Rattle.capnp_model.specs.Kinds.{Kind, TypeMismatch}
@@ -9,7 +9,7 @@ use Rattle.capnp_model.specs.Segments.{root}
 use Rattle.capnp_model.specs.Traversal.{tree_at}
 use Rattle.capnp_model.specs.Decoding.{decode}
 use Rattle.capnp_model.specs.Trees.{Tree, null, capability, structure, plain_list, pointer_list, struct_list, is_null}
-use Rattle.capnp_model.specs.Schemas.{width, Ty, void, plain, text, blob, untyped, interface, struct, list, Schema, default_or_null}
+use Rattle.capnp_model.specs.Schemas.{Ty, struct, list, Schema, default_or_null}
 use Rattle.capnp_model.specs.Accepted.{schema_of}
 use Rattle.capnp_model.specs.Readings.{null_pointer, fault, record_as, Readings, Children, whole_words, shape_record, expected_size, is_list_of, list_reading, read, record_of, record_by_shape}
 use Rattle.capnp_model.specs.Calls.{object, refused_by, message, message_root, struct_content, value_content}

@@ -9,7 +9,6 @@ use Rattle.capnp_model.specs.Edits.{Cell}
 use Rattle.capnp_model.specs.Answers.{Reply, reply_done, reply_of, levels}
 use Rattle.capnp_units.specs.Segments.{words_in}
 use Rattle.capnp_wire.specs.Places.{place_view}
-use Rattle.capnp_wire.specs.Views.{StructView}
 use Rattle.capnp_wire.specs.Views as views
 use Rattle.capnp_footprints.proofs.lemmas.Algebra.{changes_nothing}
 use Rattle.capnp_footprints.proofs.lemmas.Turns.{struct_counted}

@@ -2,7 +2,6 @@
 use Rattle.std.specs.Prelude.{◌≡◌, ℕ, suc, ◌^◌, ◌≤◌, List}
 use Rattle.capnp_model.specs.Segments.{Segments, root}
 use Rattle.capnp_model.specs.Trees.{Tree, Trees, structure}
-use Rattle.capnp_model.specs.Readings.{Record, record_of}
 use Rattle.capnp_model.specs.Calls.{Call}
 use Rattle.capnp_model.specs.Steps.{step}
 use Rattle.capnp_model.specs.Edits.{edit}

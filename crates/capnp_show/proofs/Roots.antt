@@ -1,5 +1,5 @@
 -- What is printed of the root of a message.
-use Rattle.std.proofs.Common.{◌≡◌, ℕ, ℤ, pos, zero, suc, ◌<◌, ◌≤◌, Bool, true, false, ◌⊎◌, inl, inr, Option, Some, None, List, [], ◌∷◌, ◌++◌, Result, Ok, Err, refl, ap, sym, ◌∙◌, subst, arith}
+use Rattle.std.proofs.Common.{◌≡◌, ℕ, ℤ, zero, suc, Bool, true, false, ◌⊎◌, inl, inr, Option, Some, None, List, [], Result, Ok, Err, refl, ap, sym, ◌∙◌, subst, arith}
 use Rattle.std.specs.Option.{ok_or}
 use Rattle.capnp_model.specs.Kinds.{Kind, OutOfBounds}
 use Rattle.capnp_model.specs.Chains.{◌and_then◌}
@@ -9,8 +9,8 @@ use Rattle.capnp_model.specs.Pointers as model
 use Rattle.capnp_model.specs.Trees.{Tree, null, capability, structure, plain_list, pointer_list, struct_list}
 use Rattle.capnp_model.specs.Traversal.{tree_at}
 use Rattle.capnp_model.specs.Schemas.{struct, Schema}
-use Rattle.capnp_model.specs.Readings.{Reading, fault, record_as, record_of, read}
-use Rattle.capnp_model.specs.Printing.{Style, on_one_line, print, nulls_as, as_group, record_text, as_it_is}
+use Rattle.capnp_model.specs.Readings.{fault, record_as, record_of, read}
+use Rattle.capnp_model.specs.Printing.{on_one_line, print, record_text, as_it_is}
 use Rattle.capnp_model.proofs.lemmas.Chaining.{bind_found, bind_ok, ok_is}
 use Rattle.capnp_units.specs.Errors.{kind_of}
 use Rattle.capnp_units.specs.Segments.{words_in}
@@ -29,7 +29,7 @@ use Rattle.capnp_values.specs.Records.{ValuesOfRecords}
 use Rattle.capnp_print.specs.Printed.{shown_text}
 use Rattle.capnp_print.specs.Answers.{IsTextOf, IsRefused, Prints}
 use Rattle.capnp_print.specs.Models.{TextsAreModels}
-use Rattle.capnp_show.specs.Showing.{NotShown, no_struct, no_text, text_or_none, record_shown}
+use Rattle.capnp_show.specs.Showing.{no_struct, no_text, text_or_none, record_shown}
 use Rattle.capnp_show.specs.Printed.{root_shown, HasRoot, NoTextOf}
 use Rattle.capnp_show.specs.declared.show.ShowFault.{ShowFault}
 use Rattle.capnp_show.specs.declared.show.ShowFault.TheVariants as fault-of

@@ -1,5 +1,5 @@
 -- What is shown of bytes.
-use Rattle.std.proofs.Common.{◌≡◌, ℕ, ℤ, pos, ◌+◌, ◌-◌, ◌^◌, ◌<◌, ◌≤◌, not, ◌&&◌, Option, Some, None, List, [], ◌∷◌, length, Result, Ok, Err, refl, ap, sym, ◌∙◌, subst, arith}
+use Rattle.std.proofs.Common.{◌≡◌, ℕ, ℤ, ◌-◌, ◌^◌, ◌≤◌, not, ◌&&◌, Option, Some, None, List, [], ◌∷◌, length, Ok, Err, refl, ap, ◌∙◌, arith}
 use Rattle.capnp_model.specs.Kinds.{Kind}
 use Rattle.capnp_model.specs.Chains.{◌>>=◌, ◌provided◌}
 use Rattle.capnp_model.specs.Segments.{Segments, Place, root}
@@ -15,7 +15,7 @@ use Rattle.capnp_message.specs.declared.options.ReaderOptions.{ReaderOptions}
 use Rattle.capnp_queries.specs.Structs.{schema_around, id_of}
 use Rattle.capnp_queries.specs.declared.structs.StructSchema.{StructSchema}
 use Rattle.capnp_model.specs.Printing.{as_it_is}
-use Rattle.capnp_show.specs.Showing.{NotShown, not_framed, no_value, no_struct, no_text, first_message, value_shown, message_shown}
+use Rattle.capnp_show.specs.Showing.{not_framed, no_value, first_message, value_shown, message_shown}
 use Rattle.capnp_show.specs.Copied.{value_to, IsCopy, IsNoCopy}
 use Rattle.capnp_show.specs.Printed.{root_shown, HasRoot, NoTextOf}
 use Rattle.capnp_show.specs.Answers.{limits_of, shown_by, HasValue, IsFault}

@@ -7,7 +7,6 @@ use Rattle.std.specs.Int.{from_le_bytes, w64}
 use Rattle.std.specs.declared.option.Option.{Option}
 use Rattle.capnp_units.specs.Segments.{whole_words, words_in}
 use Rattle.capnp_model.specs.Kinds as kinds
-use Rattle.capnp_model.specs.Kinds.{Kind}
 use Rattle.capnp_model.specs.Segments.{Segments}
 use Rattle.capnp_model.specs.Bytes.{words_in_bytes, taken, AreBytes}
 use Rattle.capnp_model.specs.Messages.{within, plain_words, flat_words, halves, cut, behind_lengths, behind_first, message_by, flat_at}

@@ -1,5 +1,5 @@
 -- Where segments lie in a buffer. (Encoding, "Serialization Over a Stream")
-use Rattle.std.specs.Prelude.{ℕ, ◌<◌, ◌+◌, ◌-◌, ◌*◌, List, [], ◌∷◌, map, slice_index, slice_range}
+use Rattle.std.specs.Prelude.{ℕ, ◌+◌, ◌-◌, ◌*◌, List, [], ◌∷◌, map, slice_range}
 
 -- Where segments of these lengths lie, one after the other from a word on.
 abbrev pub ranges_from : ℕ → List ℕ → List (ℕ × ℕ)

@@ -10,7 +10,7 @@ use Rattle.std.proofs.lemmas.Bool.Decides.{nat_tests}
 use Rattle.capnp_model.specs.Trees.{size_bits, plain_elements, Tree, null, capability, structure, plain_list, pointer_list, struct_list, none}
 use Rattle.capnp_model.specs.Trimming.{trim}
 use Rattle.capnp_model.specs.Traversal.{each, each_element, tree_at, tree_of, leaf_of, list_tree, ListKind, of_bits, of_pointers, of_structs, list_kind, list_words, tag_in}
-use Rattle.capnp_model.specs.Schemas.{width, Shape, Schema, Ty, void, plain, text, blob, untyped, interface, struct, list}
+use Rattle.capnp_model.specs.Schemas.{Shape, Schema, Ty, void, plain, text, blob, untyped, interface, struct, list}
 use Rattle.capnp_model.specs.Readings.{Reading, null_pointer, fault, text_of, blob_of, list_of, record_as, opaque, read, text_reading, list_reading, is_list_of, plain_readings, pointer_elements, struct_elements, Readings, no_readings, is_accepted_as, expected_size, whole_words, no_children, shape_record}
 use Rattle.capnp_model.specs.Fits.{Fits}
 use Rattle.capnp_model.proofs.lemmas.Chaining.{guard_ok, ok_then, bind_some, bind_found, some_is, ok_is, bind_ok}

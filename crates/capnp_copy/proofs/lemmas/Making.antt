@@ -17,11 +17,10 @@ use Rattle.capnp_footprints.proofs.lemmas.Growing.{zeros_extend}
 use Rattle.capnp_footprints.proofs.lemmas.Levels.{owned_more, grown_owned}
 use Rattle.capnp_footprints.proofs.lemmas.Lift.{replaced_owned}
 use Rattle.capnp_footprints.proofs.lemmas.Prepared.{prepared_here, near_new, init_near, init_far, near_leads, far_leads, starts_near, starts_here, some_pointer}
-use Rattle.capnp_copy.specs.Allocations.{Allocates}
 use Rattle.capnp_copy.specs.declared.room.Room.{Room}
 use Rattle.capnp_copy.specs.declared.room.Room.TheVariants.{Here, Near, Far}
 use Rattle.capnp_copy.specs.Clearing.{ClearsValue}
-use Rattle.capnp_copy.specs.Rooms.{RoomFor, begin_of, slot_word, linked}
+use Rattle.capnp_copy.specs.Rooms.{RoomFor, begin_of, linked}
 use Rattle.capnp_copy.specs.Values.{Becomes, LeadsTo}
 use Rattle.capnp_copy.proofs.lemmas.Ends.{word_before_end, end_within}
 use Rattle.capnp_copy.proofs.lemmas.RoomLaws.{word_there, room_grows, room_pad, pad_stays}

@@ -14,8 +14,6 @@ use Rattle.capnp_model.specs.Edits.{Edit, on_plain, put_bits, put_in_element, on
 use Rattle.capnp_model.proofs.lemmas.Numbers.{number_of-numbers_in}
 use Rattle.capnp_model.proofs.lemmas.PointerWords.{list_kind_small}
 use Rattle.capnp_units.specs.Sizes.{size_number}
-use Rattle.capnp_units.specs.declared.sizes.ElementSize.{ElementSize}
-use Rattle.capnp_units.specs.declared.sizes.ElementSize.TheVariants.{Void, Bit, Byte, TwoBytes, FourBytes, EightBytes, Pointer, InlineComposite}
 use Rattle.capnp_wire.specs.Places.{place_view}
 use Rattle.capnp_object.specs.Objects.{AreThere}
 use Rattle.capnp_footprints.specs.Footprints.{object_footprint, OwnsObject}

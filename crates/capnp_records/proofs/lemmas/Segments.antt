@@ -1,11 +1,8 @@
 -- Values that stand as bytes.
-use Rattle.std.proofs.Common.{◌≡◌, ℕ, zero, suc, ◌+◌, ◌-◌, ◌*◌, ◌/◌, ◌%◌, ◌^◌, ◌<◌, ◌≤◌, Bool, true, false, not, ◌&&◌, nat_lt, Option, Some, None, List, [], ◌∷◌, ◌++◌, length, take, drop, Ok, Err, refl, sym, ◌∙◌, ap, subst, arith, append-nil, length-drop, length-take-le, take-append-drop}
-use Rattle.std.specs.Prelude.{IsSome, slice_index}
-use Rattle.std.specs.Int.{from_le_bytes, to_le_bytes, w64}
+use Rattle.std.proofs.Common.{◌≡◌, ℕ, suc, ◌+◌, ◌-◌, ◌*◌, ◌/◌, ◌%◌, ◌^◌, ◌<◌, ◌≤◌, Bool, true, false, not, ◌&&◌, nat_lt, Option, Some, None, List, [], ◌∷◌, ◌++◌, length, Ok, Err, refl, sym, ◌∙◌, ap, subst, arith, append-nil}
+use Rattle.std.specs.Prelude.{IsSome}
 use Rattle.std.specs.Str.{bytes_eq}
 use Rattle.std.proofs.lemmas.Bool.Decides.{nat_tests}
-use Rattle.std.proofs.lemmas.List.{get_or-drop, nil_from_length}
-use Rattle.std.proofs.lemmas.Nat.{le_bytes_8}
 use Rattle.std.proofs.lemmas.Slice.Eq.{bytes_eq-Decides}
 use Rattle.capnp_model.specs.Kinds.{Kind}
 use Rattle.capnp_model.specs.Sections.{words_for}
@@ -41,7 +38,7 @@ use Rattle.capnp_object.specs.Objects.{object_at}
 use Rattle.capnp_object.specs.Inside.{tree_in, section_at, words_there}
 use Rattle.capnp_object.specs.Laws.{TreesByLevels, VisitsOfFaults}
 use Rattle.capnp_object.specs.Walks.{Stopped, CannotPass}
-use Rattle.capnp_model.proofs.lemmas.ByteLists.{word_of_eight, words_spell}
+use Rattle.capnp_model.proofs.lemmas.ByteLists.{words_spell}
 use Rattle.capnp_object.proofs.lemmas.Words.{whole_words-length}
 use Rattle.capnp_canonical.specs.Standing.{IsSmall, segment_words}
 use Rattle.capnp_model.proofs.lemmas.Tests.{and_false, and_right}

@@ -9,7 +9,6 @@ use Rattle.capnp_model.specs.Segments.{Segments, Place, place, after, words_at}
 use Rattle.capnp_model.specs.Trees.{Tree, Trees, none, child, Elements}
 use Rattle.capnp_model.specs.Kinds.{OutOfBounds}
 use Rattle.capnp_model.specs.Pointers as model
-use Rattle.capnp_model.specs.Pointers.{pointer_of}
 use Rattle.capnp_model.specs.Traversal.{tag_in, ListKind, of_bits, of_pointers, of_structs, list_kind, list_words, each, each_element}
 use Rattle.std.specs.Option.{ok_or}
 use Rattle.capnp_model.proofs.lemmas.Chaining.{bind_some, some_is, bind_ok, ok_is, ok_or_some}

@@ -1,5 +1,5 @@
 -- The used bytes of the segment that is there.
-use Rattle.std.proofs.Common.{◌≡◌, ◌*◌, ℕ, ltb, Bool, true, false, Some, None, List, length, map, take, get_or, ap, sym, ◌∙◌, arith}
+use Rattle.std.proofs.Common.{◌≡◌, ◌*◌, ℕ, ltb, true, false, Some, None, List, length, map, take, get_or, ap, sym, ◌∙◌, arith}
 use Rattle.std.specs.Prelude.{slice_get, option_map}
 use Rattle.std.proofs.lemmas.Bool.{ltb-true, ltb-false}
 use Rattle.std.proofs.lemmas.List.{length-map}

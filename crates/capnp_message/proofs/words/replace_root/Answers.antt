@@ -1,4 +1,4 @@
-use Rattle.std.proofs.Common.{◌≡◌, ℕ, List, map, ap, sym, refl, inl, ◌∙◌, Bor, rules}
+use Rattle.std.proofs.Common.{ℕ, List, map, ap, sym, refl, inl, ◌∙◌, Bor, rules}
 use Rattle.capnp_units.specs.Segments.{words_in}
 use Rattle.capnp_canonical.specs.Writes.{words_view}
 use Rattle.capnp_message.specs.declared.reader.SegmentArray.{SegmentArray}

@@ -1,4 +1,4 @@
-use Rattle.std.proofs.Common.{ℕ, nat_eq, nat_lt, sym, ◌∙◌, ap}
+use Rattle.std.proofs.Common.{nat_eq, nat_lt, sym, ◌∙◌, ap}
 use Rattle.std.specs.HashMap.{get}
 use Rattle.std.specs.List.{list_all}
 use Rattle.capnp_model.specs.Accepted.{groups_of_field}

@@ -1,4 +1,4 @@
-use Rattle.std.proofs.Common.{map, sym, ◌∙◌, ap, string_bytes}
+use Rattle.std.proofs.Common.{map}
 use Rattle.capnp_records.specs.NodeViews.{field_of}
 use Rattle.capnp_records.proofs.OneMore.{put_one_more}
 use Rattle.capnp_records.proofs.parts.push_field_names.Goals as goal

@@ -1,4 +1,4 @@
-use Rattle.std.proofs.Common.{map, refl, sym}
+use Rattle.std.proofs.Common.{map, refl}
 use Rattle.capnp_records.specs.NodeViews.{type_record_of, annotation_of}
 use Rattle.capnp_records.proofs.OneMore.{put_one_more}
 use Rattle.capnp_records.proofs.parts.push_types.Goals as goal

@@ -1,15 +1,14 @@
-use Rattle.std.proofs.Common.{◌≡◌, ℕ, List, [], ◌++◌, Result, Ok, Err, refl, ap, sym, ◌∙◌, subst}
+use Rattle.std.proofs.Common.{ℕ, List, Result, Ok, Err, ap, sym, ◌∙◌, subst}
 use Rattle.capnp_units.specs.Errors.{kind_of}
 use Rattle.capnp_model.specs.Kinds.{Kind}
 use Rattle.capnp_model.specs.Schemas.{struct}
-use Rattle.capnp_model.specs.Printing.{on_one_line, as_it_is}
+use Rattle.capnp_model.specs.Printing.{as_it_is}
 use Rattle.capnp_model.specs.Readings.{read}
 use Rattle.capnp_wire.specs.Views.{seen_pointer, seen_struct}
-use Rattle.capnp_queries.specs.Structs.{schema_around, shape_of_struct, id_of}
+use Rattle.capnp_queries.specs.Structs.{schema_around, id_of}
 use Rattle.capnp_values.specs.Sources.{struct_seen}
-use Rattle.capnp_values.specs.Shown.{Shown, a_struct, opened}
+use Rattle.capnp_values.specs.Shown.{Shown, opened}
 use Rattle.capnp_values.specs.Standing.{or_empty, Answers}
-use Rattle.capnp_show.specs.Printed.{root_shown, HasRoot}
 use Rattle.capnp_show.proofs.Roots.{no_root, root_is, root_answers, get_refused, struct_opened, no_struct_there, text_shown, fault_shown, moved}
 use Rattle.capnp_show.proofs.show.text_of.Goals as goal
 

@@ -1,5 +1,5 @@
 -- The segments stand in their list again, one of them with more used words.
-use Rattle.std.proofs.Common.{◌≡◌, ℕ, ◌+◌, ◌^◌, ◌<◌, ◌≤◌, ◌++◌, ◌⊎◌, inl, inr, Option, Some, None, List, length, get_or, refl, ap, sym, ◌∙◌, subst, arith}
+use Rattle.std.proofs.Common.{◌≡◌, ℕ, ◌+◌, ◌^◌, ◌<◌, ◌≤◌, ◌++◌, ◌⊎◌, inl, inr, Option, None, List, length, get_or, refl, ap, sym, ◌∙◌, subst, arith}
 use Rattle.std.specs.Option.{IfSome, IfNone, OnSome}
 use Rattle.capnp_copy.specs.declared.allocator.SegmentBytes.{Ghosts}
 use Rattle.capnp_copy.specs.declared.held.Held.{Held}

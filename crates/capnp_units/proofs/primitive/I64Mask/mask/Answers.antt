@@ -1,4 +1,3 @@
-use Rattle.std.proofs.Common.{◌≡◌}
 use Rattle.std.specs.Int.{w64, cast_unsigned}
 use Rattle.capnp_units.proofs.SignedMasks.{own_bits, own_number, number_masked, bits_masked, masked_twice}
 use Rattle.capnp_units.proofs.primitive.I64Mask.mask.Goals as goal
