@@ -1,24 +1,14 @@
-use Rattle.std.specs.Int.{w8, cast_unsigned}
+use Rattle.std.specs.Int.{w8}
 use Rattle.capnp_units.proofs.SignedMasks.{own_bits, own_number, number_masked, bits_masked, masked_twice}
 use Rattle.capnp_units.proofs.primitive.I8Mask.mask.Goals as goal
 
-pub returns-clause-value : goal.returns-clause-value
-returns-clause-value g =
+pub returns : goal.returns
+returns g =
     let value = own_bits w8 _ _ g.ranges.value g.cast_unsigned.ensures in
     let mask = own_bits w8 _ _ g.ranges.mask g.cast_unsigned-2.ensures in
     let number = own_number w8 _ _ g.mask.type_inv g.cast_signed.ensures in
-    number_masked w8 g.args.value g.args.mask _ _ _ _ value mask g.mask.ensures.value number
-
-pub returns-clause-bits : goal.returns-clause-bits
-returns-clause-bits g =
-    let value = own_bits w8 _ _ g.ranges.value g.cast_unsigned.ensures in
-    let mask = own_bits w8 _ _ g.ranges.mask g.cast_unsigned-2.ensures in
-    let number = own_number w8 _ _ g.mask.type_inv g.cast_signed.ensures in
-    bits_masked w8 g.args.value g.args.mask _ _ _ _ g.mask.type_inv value mask g.mask.ensures.value number
-
-pub returns-clause-twice : goal.returns-clause-twice
-returns-clause-twice g =
-    let value = own_bits w8 _ _ g.ranges.value g.cast_unsigned.ensures in
-    let mask = own_bits w8 _ _ g.ranges.mask g.cast_unsigned-2.ensures in
-    let number = own_number w8 _ _ g.mask.type_inv g.cast_signed.ensures in
-    masked_twice w8 g.args.value g.args.mask _ _ _ _ g.ranges.value g.mask.type_inv value mask g.mask.ensures.twice number
+    record {
+      value = number_masked w8 g.args.value g.args.mask _ _ _ _ value mask g.mask.ensures.value number;
+      bits = bits_masked w8 g.args.value g.args.mask _ _ _ _ g.mask.type_inv value mask g.mask.ensures.value number;
+      twice = masked_twice w8 g.args.value g.args.mask _ _ _ _ g.ranges.value g.mask.type_inv value mask g.mask.ensures.twice number;
+    }
