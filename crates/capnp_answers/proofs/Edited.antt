@@ -22,11 +22,12 @@ use Rattle.capnp_canonical.specs.Writes.{filled}
 use Rattle.capnp_footprints.specs.Footprints.{Owns}
 use Rattle.capnp_footprints.specs.Changes.{Replaces}
 use Rattle.capnp_run.specs.Runs.{RunsRoot}
-use Rattle.capnp_answers.specs.Answers.{AnswersRoot, MeansTree, StandsIn, answer_view}
+use Rattle.capnp_loop.specs.MessageAnswers.{answer_view, StandsIn}
+use Rattle.capnp_answers.specs.Answers.{AnswersRoot, MeansTree}
 use Rattle.capnp_answers.proofs.Whole.{length_filled}
-use Rattle.capnp_answers.specs.declared.answer.MessageAnswer.{MessageAnswer}
-use Rattle.capnp_answers.specs.declared.answer.MessageAnswer.TheVariants as answers
-use Rattle.capnp_answers.specs.declared.answer.Reason.TheVariants as reasons
+use Rattle.capnp_loop.specs.declared.answer.MessageAnswer.{MessageAnswer}
+use Rattle.capnp_loop.specs.declared.answer.MessageAnswer.TheVariants as answers
+use Rattle.capnp_loop.specs.declared.answer.Reason.TheVariants as reasons
 
 -- what the laws of values say
 pub record EditLaws : Type 0 where

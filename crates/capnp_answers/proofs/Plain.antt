@@ -20,7 +20,7 @@ use Rattle.capnp_queries.specs.declared.structs.StructSchema.{StructSchema}
 use Rattle.capnp_canonical.specs.Writes.{filled, words_view}
 use Rattle.capnp_plain.specs.PlainSets.{SetsWords, after_calls}
 use Rattle.capnp_answers.specs.Answers.{AnswersStruct}
-use Rattle.capnp_answers.specs.declared.answer.MessageAnswer.TheVariants as answers
+use Rattle.capnp_loop.specs.declared.answer.MessageAnswer.TheVariants as answers
 use Rattle.capnp_answers.proofs.Whole.{length_filled}
 use Rattle.capnp_answers.proofs.Edited.{answers_written}
 

@@ -19,11 +19,12 @@ use Rattle.capnp_run.specs.Runs.{EndsLongRoot}
 use Rattle.capnp_model.proofs.lemmas.Lists.{length-take-short}
 use Rattle.capnp_answers.specs.Bounds.{limits_view}
 use Rattle.capnp_answers.specs.declared.bounds.Bounds.{Bounds}
-use Rattle.capnp_answers.specs.Answers.{AnswersRoot, AnswersStruct, AnswersWords, IsAnswered, answer_view, MeansTree, LongFrom, LongFromWords, IsTooLarge}
+use Rattle.capnp_loop.specs.MessageAnswers.{answer_view}
+use Rattle.capnp_answers.specs.Answers.{AnswersRoot, AnswersStruct, AnswersWords, IsAnswered, MeansTree, LongFrom, LongFromWords, IsTooLarge}
 use Rattle.capnp_answers.specs.Reading.{ReadsValue, can_be_opened}
-use Rattle.capnp_answers.specs.declared.answer.MessageAnswer.{MessageAnswer}
-use Rattle.capnp_answers.specs.declared.answer.MessageAnswer.TheVariants as answers
-use Rattle.capnp_answers.specs.declared.answer.Reason.TheVariants as reasons
+use Rattle.capnp_loop.specs.declared.answer.MessageAnswer.{MessageAnswer}
+use Rattle.capnp_loop.specs.declared.answer.MessageAnswer.TheVariants as answers
+use Rattle.capnp_loop.specs.declared.answer.Reason.TheVariants as reasons
 
 one_value : (t u : Tree) → Some t ≡ Some u → t ≡ u
 one_value t u e = cc

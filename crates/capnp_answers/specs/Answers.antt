@@ -17,38 +17,20 @@ use Rattle.capnp_canonical.specs.Writes.{filled}
 use Rattle.capnp_footprints.specs.Footprints.{Owns}
 use Rattle.capnp_run.specs.declared.fault.RunFault.{RunFault}
 use Rattle.capnp_run.specs.declared.fault.RunFault.TheVariants as faults
+use Rattle.capnp_loop.specs.MessageAnswers.{answer_view, StandsIn}
 use Rattle.capnp_answers.specs.Bounds.{limits_view}
 use Rattle.capnp_answers.specs.declared.bounds.Bounds.{Bounds}
 use Rattle.capnp_answers.specs.Reading.{ReadsValue, can_be_opened}
-use Rattle.capnp_answers.specs.declared.answer.Reason.{Reason}
-use Rattle.capnp_answers.specs.declared.answer.Reason.TheVariants as reasons
-use Rattle.capnp_answers.specs.declared.answer.Want.{Want}
-use Rattle.capnp_answers.specs.declared.answer.Want.TheVariants as wants
-use Rattle.capnp_answers.specs.declared.answer.MessageAnswer.{MessageAnswer}
-use Rattle.capnp_answers.specs.declared.answer.MessageAnswer.TheVariants as answers
+use Rattle.capnp_loop.specs.declared.answer.Reason.{Reason}
+use Rattle.capnp_loop.specs.declared.answer.Want.{Want}
+use Rattle.capnp_loop.specs.declared.answer.Want.TheVariants as wants
+use Rattle.capnp_loop.specs.declared.answer.MessageAnswer.{MessageAnswer}
+use Rattle.capnp_loop.specs.declared.answer.MessageAnswer.TheVariants as answers
 
 -- What is wanted where calls in turn end early.
 abbrev pub want_of : RunFault → Want
 want_of faults.Size = wants.Size
 want_of (faults.Refused e) = wants.Memory
-
--- The refusal for a reason.
-abbrev pub refusal_view : Reason → Answer
-refusal_view reasons.Value = refused_value
-refusal_view reasons.Root = refused_root
-refusal_view reasons.Depth = refused_depth
-
--- The answer as the model has it; the one segment that is written stands at the front of a buffer.
-abbrev pub answer_view : List (List ℕ) → MessageAnswer → Answer
-answer_view into (answers.Written count replies) = written (filled count into ∷ []) (map reply_view replies.items)
-answer_view into (answers.Done count calls) = written (filled count into ∷ []) (replicate calls reply_done)
-answer_view into (answers.Refused reason) = refusal_view reason
-
--- What is written stands within the buffer, and has fewer words than 2^29.
-abbrev pub StandsIn : List (List ℕ) → MessageAnswer → Type 0
-StandsIn into (answers.Written count replies) = (count ≤ length into) × (count < 2 ^ 29)
-StandsIn into (answers.Done count calls) = (count ≤ length into) × (count < 2 ^ 29)
-StandsIn into (answers.Refused reason) = ⊤
 
 -- What is written, if anything, means this tree within so many levels.
 abbrev pub MeansTree : ℕ → Tree → Answer → Type 0

@@ -2,8 +2,8 @@
 ghost use Rattle.std.specs.Prelude.{◌≡◌, ◌≤◌, length, Err, IfOk, IfErr, IfSome};
 ghost use Rattle.capnp_units.specs.Segments.{words_in};
 ghost use Rattle.capnp_copy.specs.Memory.{AllZero};
-ghost use Rattle.capnp_answers.specs.declared.answer.Want.{Want};
-ghost use Rattle.capnp_answers.specs.Answers.{IsAnswered, IsTooLarge, ReadsRoot, want_of};
+ghost use Rattle.capnp_loop.specs.declared.answer.Want.{Want};
+ghost use Rattle.capnp_answers.specs.Answers.{IsAnswered, IsTooLarge, ReadsRoot};
 ghost use Rattle.capnp_answers.specs.RootCalls.{root_schema, root_calls};
 
 use crate::bounds::Bounds;
@@ -11,63 +11,13 @@ use crate::built::answer_built;
 use crate::reading::{can_be_opened, read_value};
 use crate::root_calls::RootCalls;
 use capnp_allocators::scratch::ScratchSpaceHeapAllocator;
-use capnp_calls::reply::Reply;
 use capnp_copy::allocator::Allocator;
+pub use capnp_loop::answer::{MessageAnswer, Reason, Want};
 use capnp_message::builder::Builder;
 use capnp_model::laws::{trimmed_values, words_mean_their_value};
-use capnp_run::fault::RunFault;
-use capnp_units::errors::Error;
 use capnp_units::sizes::Word;
 use capnp_wire::arena::ReaderArena;
 use std::alloc::Global;
-
-/// Why a message is skipped.
-#[derive(Clone, Copy, Debug, PartialEq, Eq)]
-pub enum Reason {
-    /// It has no value within the bounds, or one with a capability.
-    Value,
-    /// Its root is a list.
-    Root,
-    /// The edited value is nested too deep.
-    Depth,
-}
-
-/// How many words at the front of a buffer are the one segment that is written, and the replies of the calls; or why there is none.
-#[derive(Debug, Drop)]
-pub enum MessageAnswer {
-    Written { count: usize, replies: Vec<Reply> },
-    /// The same where each call is done: how many they are, in place of their replies.
-    Done { count: usize, calls: usize },
-    Refused(Reason),
-}
-
-/// Why no answer was made.
-#[derive(Clone, Copy, Debug, PartialEq, Eq)]
-pub enum Want {
-    /// A growth was refused: by the system, or since the words of one message, those that calls abandon among them, would pass 2^29 - 1.
-    Memory,
-    /// A call puts a text or data of 2^29 bytes or more with its last zero, or a list of structs of 2^29 words or more.
-    Size,
-}
-
-impl From<Error> for Want {
-    ghost from_gives = { λ _ want. want ≡ Want.Memory };
-
-    fn from(_error: Error) -> Want {
-        Want::Memory
-    }
-}
-
-impl From<RunFault> for Want {
-    ghost from_gives = { λ fault want. want ≡ want_of fault };
-
-    fn from(fault: RunFault) -> Want {
-        match fault {
-            RunFault::Size => Want::Size,
-            RunFault::Refused(_) => Want::Memory,
-        }
-    }
-}
 
 /// How many words at the front of a buffer are those of a message's value, trimmed, which is a struct or null; or why the message is skipped.
 #[inline(always)]

@@ -13,8 +13,8 @@ ghost use Rattle.capnp_message.specs.Built.{loans_held};
 ghost use Rattle.capnp_queries.specs.Structs.{schema_around};
 ghost use Rattle.capnp_ways.specs.Ways.{AreWays};
 ghost use Rattle.capnp_run.specs.Runs.{EndsLongRoot};
-ghost use Rattle.capnp_answers.specs.declared.answer.Want.{Want};
-ghost use Rattle.capnp_answers.specs.Answers.{AnswersRoot, AnswersWords, LongFromWords};
+ghost use Rattle.capnp_loop.specs.declared.answer.Want.{Want};
+ghost use Rattle.capnp_answers.specs.Answers.{AnswersRoot, AnswersWords, LongFromWords, want_of};
 ghost use Rattle.capnp_canonical.specs.Writes.{filled};
 
 use crate::answer::{MessageAnswer, Reason, Want};
@@ -34,6 +34,7 @@ use capnp_model::laws::{
 use capnp_object::place::ROOT;
 use capnp_object::size::size_at;
 use capnp_queries::structs::StructSchema;
+use capnp_run::fault::RunFault;
 use capnp_run::root::run_root;
 use capnp_units::limiter::ReadLimiter;
 use capnp_units::sizes::Word;
@@ -50,6 +51,16 @@ fn is_deeper<A: ReaderArena>(arena: &A, levels: u32) -> bool
     values_on_walks();
     let mut unlimited = ReadLimiter::new(None);
     size_at(arena, &mut unlimited, ROOT, levels).is_err()
+}
+
+/// What is wanted where calls in turn end early.
+fn want_after(fault: RunFault) -> Want
+    ensures { result ≡ want_of fault }
+{
+    match fault {
+        RunFault::Size => Want::Size,
+        RunFault::Refused(_) => Want::Memory,
+    }
 }
 
 /// Answers calls in turn at the root of a message, a struct or null that takes no word twice, and writes the canonical words of what it becomes into a buffer.
@@ -77,7 +88,10 @@ fn answer_root<A: BuilderArena>(
     values_that_are_read();
     trimmed_values();
     words_mean_their_value();
-    let replies = run_root(alloc, arena, schema, calls, ways)?;
+    let replies = match run_root(alloc, arena, schema, calls, ways) {
+        Ok(replies) => replies,
+        Err(fault) => return Err(want_after(fault)),
+    };
     make_room(words, arena.size_in_words())?;
     let mut unlimited = ReadLimiter::new(None);
     match write_canonical(arena, &mut unlimited, ROOT, levels, words.as_mut_slice()) {

@@ -4,15 +4,15 @@ use Rattle.std.specs.Prelude.{⊤}
 use Rattle.capnp_model.specs.Segments.{Segments}
 use Rattle.capnp_model.specs.Answers.{Answer, written}
 use Rattle.capnp_model.specs.Runs.{AnswerEach}
-use Rattle.capnp_relay.specs.declared.ends.Counts.{Counts}
-use Rattle.capnp_relay.specs.declared.ends.Fault.{Fault}
-use Rattle.capnp_relay.specs.declared.ends.Fault.TheVariants as faults
-use Rattle.capnp_relay.specs.declared.ends.RelayFault.{RelayFault}
-use Rattle.capnp_relay.specs.Work.{Work, work}
-use Rattle.capnp_relay.specs.Streams.{Streams, SinkFails}
-use Rattle.capnp_relay.specs.Stops.{StopsInOut, StopsInLog, Stops}
-use Rattle.capnp_relay.specs.Run.{Answered, Relays}
-use Rattle.capnp_relay.specs.Pauses.{RelaysPausing}
+use Rattle.capnp_loop.specs.declared.ends.Counts.{Counts}
+use Rattle.capnp_loop.specs.declared.ends.Fault.{Fault}
+use Rattle.capnp_loop.specs.declared.ends.Fault.TheVariants as faults
+use Rattle.capnp_loop.specs.declared.ends.RelayFault.{RelayFault}
+use Rattle.capnp_loop.specs.Work.{Work, work}
+use Rattle.capnp_loop.specs.Streams.{Streams, SinkFails}
+use Rattle.capnp_loop.specs.Stops.{StopsInOut, StopsInLog, Stops}
+use Rattle.capnp_loop.specs.Run.{Answered, Relays}
+use Rattle.capnp_loop.specs.Pauses.{RelaysPausing}
 
 answer_each : (P Q : Segments → Answer → Type 0) → ((s : Segments) (a : Answer) → P s a → Q s a) → (messages : List Segments) (answers : List Answer) → AnswerEach P messages answers → AnswerEach Q messages answers
 answer_each P Q f [] [] h = tt

@@ -7,19 +7,19 @@ use Rattle.capnp_queries.specs.Structs.{schema_around, id_of}
 use Rattle.capnp_queries.specs.declared.structs.StructSchema.{StructSchema}
 use Rattle.capnp_calls.specs.declared.call.Call.{Call}
 use Rattle.capnp_calls.specs.CallViews.{call_view}
-use Rattle.capnp_relay.specs.declared.ends.Counts.{Counts}
-use Rattle.capnp_relay.specs.declared.ends.RelayFault.{RelayFault}
+use Rattle.capnp_loop.specs.declared.ends.Counts.{Counts}
+use Rattle.capnp_loop.specs.declared.ends.RelayFault.{RelayFault}
 use Rattle.capnp_relay.specs.declared.options.RelayOptions.{RelayOptions}
 use Rattle.capnp_relay.specs.Messages.{IsAnswerBy}
 use Rattle.capnp_relay.specs.Relaying.{relay_work}
-use Rattle.capnp_relay.specs.Run.{Relays}
-use Rattle.capnp_relay.specs.Streams.{Streams}
+use Rattle.capnp_loop.specs.Run.{Relays}
+use Rattle.capnp_loop.specs.Streams.{Streams}
 use Rattle.capnp_between.specs.Newer.{MayRun}
 use Rattle.capnp_between.specs.Ends.{IsAnswerBetween, between_work, RelaysBetween}
 use Rattle.capnp_between.specs.declared.between.BetweenFault.{BetweenFault}
 use Rattle.capnp_between.specs.declared.between.BetweenFault.TheVariants as fault
-use Rattle.capnp_relay.specs.Pauses.{RelaysPausing}
-use Rattle.capnp_relay.proofs.lemmas.PauseLemmas.{never_pausing}
+use Rattle.capnp_loop.specs.Pauses.{RelaysPausing}
+use Rattle.capnp_loop.proofs.lemmas.PauseLemmas.{never_pausing}
 use Rattle.capnp_between.proofs.NewerRecords.{Records, Replies, ReadsAsNewer-of}
 use Rattle.capnp_between.proofs.Answering.{relays_pausing}
 

@@ -9,13 +9,13 @@ use Rattle.capnp_calls.specs.CallViews.{call_view}
 use Rattle.capnp_answers.specs.Answers.{IsTooLarge}
 use Rattle.capnp_answers.specs.declared.bounds.Bounds.{Bounds}
 use Rattle.capnp_compatible.specs.Ways.{IsFirstRefused}
-use Rattle.capnp_relay.specs.declared.ends.Counts.{Counts}
-use Rattle.capnp_relay.specs.declared.ends.RelayFault.{RelayFault}
+use Rattle.capnp_loop.specs.declared.ends.Counts.{Counts}
+use Rattle.capnp_loop.specs.declared.ends.RelayFault.{RelayFault}
 use Rattle.capnp_relay.specs.declared.options.RelayOptions.{RelayOptions}
 use Rattle.capnp_relay.specs.Messages.{IsAnswerBy}
 use Rattle.capnp_relay.specs.Options.{reader_of, writer_of}
-use Rattle.capnp_relay.specs.Work.{Work, work}
-use Rattle.capnp_relay.specs.Streams.{Streams}
+use Rattle.capnp_loop.specs.Work.{Work, work}
+use Rattle.capnp_loop.specs.Streams.{Streams}
 use Rattle.capnp_between.specs.declared.between.BetweenFault.{BetweenFault}
 use Rattle.capnp_between.specs.declared.between.BetweenFault.TheVariants as fault
 use Rattle.capnp_between.specs.Newer.{AreCompatible, is_admitted_between, MayRun, ReadsAsNewer}

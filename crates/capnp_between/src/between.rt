@@ -1,9 +1,9 @@
 //! The relay between two versions of a schema.
 ghost use Rattle.std.specs.Prelude.{◌≡◌, ◌+◌, ◌*◌, length, replicate, IfErr, OnOk};
 ghost use Rattle.capnp_calls.specs.Roots.{IsRoot};
-ghost use Rattle.capnp_relay.specs.Streams.{streams_of};
-ghost use Rattle.capnp_relay.specs.Run.{Relays};
-ghost use Rattle.capnp_relay.specs.Pauses.{RelaysPausing};
+ghost use Rattle.capnp_loop.specs.Streams.{streams_of};
+ghost use Rattle.capnp_loop.specs.Run.{Relays};
+ghost use Rattle.capnp_loop.specs.Pauses.{RelaysPausing};
 ghost use Rattle.capnp_between.specs.Newer.{MayRun};
 ghost use Rattle.capnp_between.specs.Ends.{IsHeld, RelaysBetween, IfRun, IfHeld};
 

@@ -4,14 +4,14 @@ use Rattle.capnp_units.specs.declared.errors.Error.{Error}
 use Rattle.capnp_queries.specs.declared.structs.StructSchema.{StructSchema}
 use Rattle.capnp_queries.specs.Structs.{nodes_around, id_of}
 use Rattle.capnp_calls.specs.declared.call.Call.{Call}
-use Rattle.capnp_relay.specs.declared.ends.Counts.{Counts}
-use Rattle.capnp_relay.specs.declared.ends.Fault.{Fault}
-use Rattle.capnp_relay.specs.declared.ends.Fault.TheVariants as faults
-use Rattle.capnp_relay.specs.declared.ends.RelayFault.{RelayFault}
+use Rattle.capnp_loop.specs.declared.ends.Counts.{Counts}
+use Rattle.capnp_loop.specs.declared.ends.Fault.{Fault}
+use Rattle.capnp_loop.specs.declared.ends.Fault.TheVariants as faults
+use Rattle.capnp_loop.specs.declared.ends.RelayFault.{RelayFault}
 use Rattle.capnp_relay.specs.Relaying.{relay_work}
 use Rattle.std.specs.Prelude.{⊤}
-use Rattle.capnp_relay.specs.Pauses.{RelaysPausing}
-use Rattle.capnp_relay.specs.Streams.{Streams}
+use Rattle.capnp_loop.specs.Pauses.{RelaysPausing}
+use Rattle.capnp_loop.specs.Streams.{Streams}
 use Rattle.capnp_between.specs.Ends.{RunsBetween}
 use Rattle.capnp_model.proofs.lemmas.Tests.{same_some}
 use Rattle.capnp_program.specs.declared.version.Version.{Version}

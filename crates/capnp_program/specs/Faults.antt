@@ -1,6 +1,6 @@
 -- Steps one after the other, the first of which that is refused is the fault.
 use Rattle.std.specs.Prelude.{◌≡◌, Result, Ok, Err, ◌⊎◌}
-use Rattle.capnp_relay.specs.declared.ends.Fault.TheVariants.{Memory}
+use Rattle.capnp_loop.specs.declared.ends.Fault.TheVariants.{Memory}
 use Rattle.capnp_program.specs.declared.stop.Stop.{Stop}
 use Rattle.capnp_program.specs.declared.stop.Stop.TheVariants as stop
 

@@ -2,8 +2,8 @@
 use Rattle.std.specs.Prelude.{ℕ, List, ◌++◌, codes, decimal}
 use Rattle.capnp_units.specs.Errors.{kind_of}
 use Rattle.capnp_model.specs.Kinds.{kind_name}
-use Rattle.capnp_relay.specs.declared.ends.Fault.{Fault}
-use Rattle.capnp_relay.specs.declared.ends.Fault.TheVariants as fault
+use Rattle.capnp_loop.specs.declared.ends.Fault.{Fault}
+use Rattle.capnp_loop.specs.declared.ends.Fault.TheVariants as fault
 use Rattle.capnp_program.specs.declared.stop.Stop.{Stop}
 use Rattle.capnp_program.specs.declared.stop.Stop.TheVariants as stop
 

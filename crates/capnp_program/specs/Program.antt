@@ -10,15 +10,15 @@ use Rattle.capnp_io.specs.Writes.{Writes}
 use Rattle.capnp_queries.specs.declared.structs.StructSchema.{StructSchema}
 use Rattle.capnp_queries.specs.Structs.{id_of}
 use Rattle.capnp_calls.specs.declared.call.Call.{Call}
-use Rattle.capnp_relay.specs.declared.ends.Counts.{Counts}
-use Rattle.capnp_relay.specs.declared.ends.Fault.{Fault}
-use Rattle.capnp_relay.specs.declared.ends.Fault.TheVariants as faults
-use Rattle.capnp_relay.specs.declared.ends.RelayFault.{RelayFault}
+use Rattle.capnp_loop.specs.declared.ends.Counts.{Counts}
+use Rattle.capnp_loop.specs.declared.ends.Fault.{Fault}
+use Rattle.capnp_loop.specs.declared.ends.Fault.TheVariants as faults
+use Rattle.capnp_loop.specs.declared.ends.RelayFault.{RelayFault}
 use Rattle.capnp_relay.specs.declared.options.RelayOptions.{RelayOptions}
 use Rattle.capnp_relay.specs.Relaying.{relay_work}
-use Rattle.capnp_relay.specs.Work.{Work}
-use Rattle.capnp_relay.specs.Pauses.{RelaysPausing}
-use Rattle.capnp_relay.specs.Streams.{Streams, SinkSeen}
+use Rattle.capnp_loop.specs.Work.{Work}
+use Rattle.capnp_loop.specs.Pauses.{RelaysPausing}
+use Rattle.capnp_loop.specs.Streams.{Streams, SinkSeen}
 use Rattle.capnp_between.specs.Newer.{MayRun}
 use Rattle.capnp_between.specs.Ends.{between_work}
 use Rattle.capnp_program.specs.declared.usage.TheConstants.{USAGE}

@@ -1,7 +1,7 @@
 //! The program but for its files.
 ghost use Rattle.std.specs.Prelude.{◌≡◌, [], map, string_bytes};
 ghost use Rattle.std.specs.Option.{option_copied};
-ghost use Rattle.capnp_relay.specs.Streams.{sink_seen, streams_of};
+ghost use Rattle.capnp_loop.specs.Streams.{sink_seen, streams_of};
 ghost use Rattle.capnp_program.specs.Asked.{request};
 ghost use Rattle.capnp_program.specs.Program.{seen_of, Told, ToldFault, Ends};
 

@@ -1,7 +1,7 @@
 //! The run of the program.
 ghost use Rattle.std.specs.Prelude.{◌≡◌, [], map, string_bytes, OnOk, IfOk, IfErr};
 ghost use Rattle.std.specs.Option.{option_copied};
-ghost use Rattle.capnp_relay.specs.Streams.{streams_of};
+ghost use Rattle.capnp_loop.specs.Streams.{streams_of};
 ghost use Rattle.capnp_program.specs.Asked.{request, IsHeldBack};
 ghost use Rattle.capnp_program.specs.Settings.{asked_of};
 ghost use Rattle.capnp_program.specs.Program.{seen_of, Ran, RelaysAll};

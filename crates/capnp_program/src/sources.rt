@@ -3,8 +3,8 @@ ghost use Rattle.std.specs.Prelude.{◌≡◌, ℕ, Option, List, [], length, On
 ghost use Rattle.std.specs.Io.{StartsWith};
 ghost use Rattle.capnp_model.specs.Messages.{message_at};
 ghost use Rattle.capnp_stream.specs.Pieces.{EndsEarly};
-ghost use Rattle.capnp_relay.specs.Streams.{sink_of};
-ghost use Rattle.capnp_relay.specs.Pauses.{SinkRests, FailsInPause};
+ghost use Rattle.capnp_loop.specs.Streams.{sink_of};
+ghost use Rattle.capnp_loop.specs.Pauses.{SinkRests, FailsInPause};
 
 use crate::ahead::{BoundedForm, holds_next};
 use crate::sinks::Flush;

@@ -1,6 +1,6 @@
 //! Why the program ends with status 1.
 ghost use Rattle.std.specs.Prelude.{◌≡◌};
-ghost use Rattle.capnp_relay.specs.declared.ends.Fault.{Fault};
+ghost use Rattle.capnp_loop.specs.declared.ends.Fault.{Fault};
 ghost use Rattle.capnp_program.specs.declared.stop.Stop.{Stop};
 
 use capnp_relay::ends::Fault;

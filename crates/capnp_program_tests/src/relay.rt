@@ -1,3 +1,4 @@
 //! Tests of `capnp_relay`.
 
 mod rows;
+mod streams;

@@ -1,7 +1,2 @@
-pub mod lemmas
-mod StepLemmas
-mod RunLemmas
 mod Whole
 mod Reading
-mod LogLemmas
-mod LineLemmas

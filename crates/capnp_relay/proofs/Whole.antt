@@ -11,15 +11,15 @@ use Rattle.capnp_model.specs.Messages.{Reader, plain_words}
 use Rattle.capnp_stream.specs.Pieces.{ReadsFronts}
 use Rattle.capnp_model.specs.Runs.{BeginWith, finished, broken}
 use Rattle.capnp_stream.specs.Frames.{IsFrameFault}
-use Rattle.capnp_relay.specs.declared.ends.Counts.{Counts}
-use Rattle.capnp_relay.specs.declared.ends.Fault.TheVariants as faults
+use Rattle.capnp_loop.specs.declared.ends.Counts.{Counts}
+use Rattle.capnp_loop.specs.declared.ends.Fault.TheVariants as faults
 use Rattle.capnp_relay.specs.declared.options.Form.{Form}
 use Rattle.capnp_relay.specs.declared.options.Form.TheVariants as form
 use Rattle.capnp_relay.specs.Options.{reader_of}
-use Rattle.capnp_relay.specs.Work.{Work}
-use Rattle.capnp_relay.specs.Streams.{Streams}
-use Rattle.capnp_relay.specs.Run.{RunsOut, RunStops, GoesTo}
-use Rattle.capnp_relay.proofs.RunLemmas.{BeginWith-more}
+use Rattle.capnp_loop.specs.Work.{Work}
+use Rattle.capnp_loop.specs.Streams.{Streams}
+use Rattle.capnp_loop.specs.Run.{RunsOut, RunStops, GoesTo}
+use Rattle.capnp_loop.proofs.lemmas.Beginnings.{BeginWith-more}
 
 IfSome-weaker : (o : Option (List ℕ)) (P Q : List ℕ → Type 0) → ((xs : List ℕ) → P xs → Q xs) → IfSome o P → IfSome o Q
 IfSome-weaker None P Q f p = tt

@@ -7,7 +7,7 @@ use Rattle.capnp_answers.specs.Answers.{IsTooLarge}
 use Rattle.capnp_relay.specs.declared.options.RelayOptions.{RelayOptions}
 use Rattle.capnp_relay.specs.Messages.{IsAnswerBy}
 use Rattle.capnp_relay.specs.Options.{reader_of, writer_of}
-use Rattle.capnp_relay.specs.Work.{Work, work}
+use Rattle.capnp_loop.specs.Work.{Work, work}
 
 -- The calls at the roots of messages, in the forms and within the limits of the options; whether the output and the log may want memory.
 abbrev pub relay_work : StructSchema → List Call → RelayOptions → Type 0 → Type 0 → Work

@@ -1,11 +1,11 @@
 //! Calls at the roots of messages.
 
-use crate::answers::Answers;
 use crate::message::Message;
 use capnp_answers::answer::{MessageAnswer, Want, answer_in_place};
 use capnp_answers::bounds::Bounds;
 use capnp_answers::root_calls::RootCalls;
 use capnp_calls::laws::{calls_are_given, roots_are_no_groups};
+use capnp_loop::answers::Answers;
 use capnp_model::laws_of_edits::records_of_written_values;
 use capnp_stream::buffers::NoAllocSliceSegments;
 use capnp_units::sizes::Word;

@@ -6,11 +6,11 @@ ghost use Rattle.capnp_queries.specs.declared.structs.StructSchema.{StructSchema
 ghost use Rattle.capnp_calls.specs.declared.call.Call.{Call};
 ghost use Rattle.capnp_model.specs.Runs.{finished, broken};
 ghost use Rattle.capnp_stream.specs.Pieces.{ReadsFronts};
-ghost use Rattle.capnp_relay.specs.declared.ends.Counts.{Counts};
-ghost use Rattle.capnp_relay.specs.declared.ends.Fault.{Fault};
+ghost use Rattle.capnp_loop.specs.declared.ends.Counts.{Counts};
+ghost use Rattle.capnp_loop.specs.declared.ends.Fault.{Fault};
 ghost use Rattle.capnp_relay.specs.declared.options.RelayOptions.{RelayOptions};
-ghost use Rattle.capnp_relay.specs.Streams.{Streams};
-ghost use Rattle.capnp_relay.specs.Run.{RunsOut, RunStops, GoesTo};
+ghost use Rattle.capnp_loop.specs.Streams.{Streams};
+ghost use Rattle.capnp_loop.specs.Run.{RunsOut, RunStops, GoesTo};
 ghost use Rattle.capnp_relay.specs.Relaying.{relay_work};
 
 use capnp_packing::form::Packed;

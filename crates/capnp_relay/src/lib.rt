@@ -1,17 +1,10 @@
-//! A relay of framed messages: each message of a source is answered, and its answer written and logged.
+//! A relay of messages: calls are made at the root of each message of a source, and what they make of it is written and logged.
 #![tactic(auto)]
 
-mod answers;
 mod at_root;
-pub mod ends;
 pub mod laws;
-mod line;
-mod logging;
 mod message;
 pub mod options;
-pub mod pauses;
 pub mod relay;
-mod run;
-mod step;
-#[cfg(test)]
-mod tests;
+
+pub use capnp_loop::{ends, pauses};

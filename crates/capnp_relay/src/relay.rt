@@ -1,19 +1,19 @@
 //! The relay.
 ghost use Rattle.std.specs.Prelude.{◌≡◌, ◌+◌, ◌*◌, length, replicate};
 ghost use Rattle.capnp_calls.specs.Roots.{IsRoot};
-ghost use Rattle.capnp_relay.specs.declared.ends.Fault.{Fault};
-ghost use Rattle.capnp_relay.specs.Streams.{streams_of};
-ghost use Rattle.capnp_relay.specs.Run.{Relays};
-ghost use Rattle.capnp_relay.specs.Pauses.{RelaysPausing};
+ghost use Rattle.capnp_loop.specs.declared.ends.Fault.{Fault};
+ghost use Rattle.capnp_loop.specs.Streams.{streams_of};
+ghost use Rattle.capnp_loop.specs.Run.{Relays};
+ghost use Rattle.capnp_loop.specs.Pauses.{RelaysPausing};
 ghost use Rattle.capnp_relay.specs.Relaying.{relay_work};
 
 use crate::at_root::CallsAtRoot;
-use crate::ends::{Counts, Fault, RelayFault};
 use crate::options::{Form, RelayOptions};
-use crate::pauses::{NoPause, Pause};
-use crate::run::answer_all;
 use capnp_answers::root_calls::RootCalls;
 use capnp_calls::Call;
+use capnp_loop::ends::{Counts, Fault, RelayFault};
+use capnp_loop::pauses::{NoPause, Pause};
+use capnp_loop::run::answer_all;
 use capnp_packing::form::Packed;
 use capnp_queries::structs::StructSchema;
 use capnp_stream::forms::Framed;

@@ -7,7 +7,7 @@ use Rattle.capnp_canonical.specs.Writes.{filled}
 use Rattle.capnp_answers.specs.Answers.{ReadsRoot}
 use Rattle.capnp_answers.specs.Found.{SetsFront}
 use Rattle.capnp_answers.specs.RootCalls.{root_schema, root_calls}
-use Rattle.capnp_answers.specs.declared.answer.MessageAnswer.TheVariants as answers
+use Rattle.capnp_loop.specs.declared.answer.MessageAnswer.TheVariants as answers
 use Rattle.capnp_answers.proofs.Whole.{at_struct}
 use Rattle.capnp_answers.proofs.Plain.{done_struct}
 use Rattle.capnp_answers.proofs.answer.answer_known.Goals as goal

@@ -1,4 +1,4 @@
-use Rattle.capnp_relay.specs.Streams.{source_seen, sink_seen, streams}
+use Rattle.capnp_loop.specs.Streams.{source_seen, sink_seen, streams}
 use Rattle.capnp_between.proofs.RunsBetween.{between-never}
 use Rattle.capnp_between.proofs.between.relay_between.Goals as goal
 

@@ -1,5 +1,5 @@
 use Rattle.std.proofs.Common.{Ok, Err}
-use Rattle.capnp_relay.specs.Streams.{source_seen, sink_seen, streams}
+use Rattle.capnp_loop.specs.Streams.{source_seen, sink_seen, streams}
 use Rattle.capnp_between.proofs.RunsBetween.{relays-between}
 use Rattle.capnp_between.proofs.between.relay_between_pausing.Goals as goal
 

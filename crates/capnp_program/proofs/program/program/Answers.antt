@@ -1,6 +1,6 @@
 use Rattle.std.proofs.Common.{rules, arith, ◌≡◌, ◌≤◌, refl, sym, ◌∙◌, map, string_bytes, true, false, List, ℕ, subst}
 use Rattle.std.specs.Option.{option_copied}
-use Rattle.capnp_relay.specs.Streams.{source_seen, sink_seen, streams}
+use Rattle.capnp_loop.specs.Streams.{source_seen, sink_seen, streams}
 use Rattle.capnp_program.specs.Arguments.{is_help}
 use Rattle.capnp_program.specs.Asked.{request}
 use Rattle.capnp_program.specs.Program.{seen_of, Told}

@@ -1,4 +1,4 @@
-use Rattle.capnp_relay.specs.Streams.{sink_seen}
+use Rattle.capnp_loop.specs.Streams.{sink_seen}
 use Rattle.capnp_program.proofs.program.put.Goals as goal
 
 pub returns : goal.returns

@@ -1,7 +1,7 @@
 -- The run of the relay, with what is asked, and the flushes behind it.
 use Rattle.std.proofs.Common.{◌≡◌, refl, inr, Option, Some, None}
-use Rattle.capnp_relay.specs.declared.ends.Fault.TheVariants as faults
-use Rattle.capnp_relay.specs.Streams.{source_seen, sink_seen, streams}
+use Rattle.capnp_loop.specs.declared.ends.Fault.TheVariants as faults
+use Rattle.capnp_loop.specs.Streams.{source_seen, sink_seen, streams}
 use Rattle.capnp_program.specs.Settings.{asked_of}
 use Rattle.capnp_program.specs.Program.{seen_of, Flushes}
 use Rattle.capnp_program.proofs.Running.{runs, behind_run, behind_out, behind_log, behind_none}

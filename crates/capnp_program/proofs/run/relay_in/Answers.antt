@@ -1,5 +1,5 @@
 use Rattle.std.proofs.Common.{Ok, Err}
-use Rattle.capnp_relay.specs.Streams.{source_seen, sink_seen, streams}
+use Rattle.capnp_loop.specs.Streams.{source_seen, sink_seen, streams}
 use Rattle.capnp_program.proofs.Running.{ran_alone, ran_beside}
 use Rattle.capnp_program.proofs.run.relay_in.Goals as goal
 

@@ -1,6 +1,6 @@
 use Rattle.capnp_relay.specs.Relaying.{relay_work}
-use Rattle.capnp_relay.specs.Streams.{source_seen, sink_seen, streams}
-use Rattle.capnp_relay.proofs.lemmas.PauseLemmas.{wants_first}
+use Rattle.capnp_loop.specs.Streams.{source_seen, sink_seen, streams}
+use Rattle.capnp_loop.proofs.lemmas.PauseLemmas.{wants_first}
 use Rattle.capnp_relay.proofs.relay.relay_pausing.Goals as goal
 
 pub returns-in-Err-clause-run : goal.returns-in-Err-clause-run

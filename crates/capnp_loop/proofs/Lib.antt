@@ -1,0 +1,5 @@
+pub mod lemmas
+mod StepLemmas
+mod RunLemmas
+mod LogLemmas
+mod LineLemmas

@@ -1,0 +1,248 @@
+//! One message of a run.
+ghost use Rattle.std.specs.Prelude.{◌≡◌, ◌≢◌, ℕ, List, ◌+◌, ◌-◌, ◌^◌, ◌<◌, ◌≤◌, ◌⊎◌, IfOk, IfErr, OnOk, Err, length};
+ghost use Rattle.capnp_units.specs.declared.kinds.ErrorKind.{ErrorKind};
+ghost use Rattle.capnp_model.specs.Segments.{Segments};
+ghost use Rattle.capnp_model.specs.Messages.{spelled};
+ghost use Rattle.capnp_model.specs.Answers.{Reply as ModelReply, written};
+ghost use Rattle.capnp_model.specs.Runs.{output_of};
+ghost use Rattle.capnp_copy.specs.Memory.{AllZero};
+ghost use Rattle.capnp_canonical.specs.Writes.{filled};
+ghost use Rattle.capnp_stream.specs.Buffers.{found_segments};
+ghost use Rattle.capnp_stream.specs.Segments.{whole_words, words_in};
+ghost use Rattle.capnp_stream.specs.Writing.{IsSegment};
+ghost use Rattle.capnp_loop.specs.MessageAnswers.{answer_view, StandsIn};
+ghost use Rattle.capnp_loop.specs.Answers.{written_one, refused_one, WritesFront};
+ghost use Rattle.capnp_loop.specs.Lines.{IsLine, KeepsLine};
+ghost use Rattle.capnp_loop.specs.Streams.{SinkTakes, sink_of, streams_of};
+ghost use Rattle.capnp_loop.specs.Work.{work_by};
+ghost use Rattle.capnp_loop.specs.Stops.{Steps, SinkRefused};
+
+use crate::answer::{MessageAnswer, Want};
+use crate::answers::Answers;
+use crate::ends::{Counts, Fault};
+use crate::line::Line;
+use capnp_canonical::laws::segments_of_words;
+use capnp_stream::buffers::NoAllocSliceSegments;
+use capnp_stream::forms::MessageForm;
+use capnp_stream::kept::MessageBuffer;
+use capnp_stream::traits::{BufRead, Read, Write};
+use capnp_units::errors::Error;
+use capnp_units::kinds::ErrorKind;
+use capnp_units::sizes::{Word, words_as_bytes};
+use capnp_writing::messages::write_segment_in;
+use std::alloc::Global;
+
+/// Buffers that are kept from message to message: they grow only where a message wants more of them than those before.
+#[derive(Drop)]
+pub(crate) struct Buffers {
+    /// The message that was read lies at the front.
+    message: MessageBuffer,
+    /// What is written of an answer stands at the front.
+    words: Vec<Word>,
+    /// The line of the log.
+    line: Line,
+}
+
+impl Buffers {
+    /// Buffers that have taken no memory yet.
+    pub(crate) fn new(alloc: Global) -> Buffers
+        ensures { KeepsLine result.line }
+    {
+        Buffers {
+            message: MessageBuffer::new(alloc),
+            words: Vec::new(alloc),
+            line: Line::new(alloc),
+        }
+    }
+}
+
+/// The answer to a message, of which `answered` came before. Its words stand at the front of the buffer, and its line is put in place of the bytes.
+#[inline(always)]
+fn prepare<A: Answers>(
+    alloc: Global,
+    answers: &A,
+    answered: u64,
+    message: &NoAllocSliceSegments<'_>,
+    region: &mut [u8],
+    words: &mut Vec<Word>,
+    line: &mut Line,
+) -> Result<MessageAnswer, Fault>
+    requires zeros { AllZero region.old }
+    requires kept { KeepsLine line.old }
+    ensures room { OnOk result (answered < 2 ^ 64 - 1) }
+    ensures answer { IfOk result (λ a. A.is_answer answers.now
+        (words_in (found_segments message.now)) (answer_view words.new.items a)) }
+    ensures stands { IfOk result (StandsIn words.new.items) }
+    ensures line { IfOk result
+        (λ a. IsLine (answered + 1) (answer_view words.new.items a) line.new) }
+    ensures err { IfErr result (λ f. (f ≡ Fault.Memory) ⊎ (f ≡ Fault.Size)) }
+    ensures size { result ≡ Err Fault.Size → (answered ≡ 2 ^ 64 - 1)
+        ⊎ A.is_too_large answers.now (words_in (found_segments message.now)) }
+    ensures zeros { region.new ≡ region.old }
+{
+    if answered == u64::MAX {
+        return Err(Fault::Size);
+    }
+    let answer = match answers.answer(alloc, message, region, words) {
+        Ok(answer) => answer,
+        Err(Want::Memory) => return Err(Fault::Memory),
+        Err(Want::Size) => return Err(Fault::Size),
+    };
+    match line.set(answered + 1, &answer) {
+        Ok(()) => Ok(answer),
+        Err(_) => Err(Fault::Memory),
+    }
+}
+
+/// What a refused read is told as.
+fn source_fault(e: Error) -> Fault
+    ensures memory { e.kind ≡ ErrorKind.OutOfMemory → result ≡ Fault.Memory }
+    ensures device { e.kind ≡ ErrorKind.Device → result ≡ Fault.Source }
+    ensures other { e.kind ≢ ErrorKind.OutOfMemory → e.kind ≢ ErrorKind.Device
+        → result ≡ Fault.Framing e.kind }
+{
+    match e.kind {
+        ErrorKind::OutOfMemory => Fault::Memory,
+        ErrorKind::Device => Fault::Source,
+        kind => Fault::Framing(kind),
+    }
+}
+
+/// What a refused write is told as: want of memory, or else the fault of the sink.
+fn sink_fault(e: Error, sink: Fault) -> Fault
+    ensures memory { e.kind ≡ ErrorKind.OutOfMemory → result ≡ Fault.Memory }
+    ensures other { e.kind ≢ ErrorKind.OutOfMemory → result ≡ sink }
+{
+    match e.kind {
+        ErrorKind::OutOfMemory => Fault::Memory,
+        _ => sink,
+    }
+}
+
+/// The first words, so many, as the bytes of a segment.
+#[inline]
+fn segment_of(words: &[Word], count: usize) -> &[u8]
+    requires there { count ≤ length words.now }
+    requires few { count < 2 ^ 29 }
+    ensures words { whole_words result.now ≡ filled count words.now }
+    ensures segment { IsSegment result.now }
+{
+    let front = &words[..count];
+    segments_of_words(front);
+    words_as_bytes(front)
+}
+
+/// How many words at the front of a buffer are written for an answer; none where the message is skipped.
+#[inline]
+fn written_count(answer: &MessageAnswer) -> Option<usize>
+    ensures { (words : List (List ℕ)) → StandsIn words answer.now
+        → WritesFront words (answer_view words answer.now) result }
+{
+    match answer {
+        MessageAnswer::Written { count, replies: _ } => Some(*count),
+        MessageAnswer::Done { count, calls: _ } => Some(*count),
+        MessageAnswer::Refused(_) => None,
+    }
+}
+
+/// Writes a written answer, whose words stand at the front of these, as one message, and counts it.
+#[inline(always)]
+fn put_out<O: MessageForm, W: Write>(
+    out: &mut W,
+    answer: &MessageAnswer,
+    words: &[Word],
+    counts: &mut Counts,
+) -> Result<(), Fault>
+    requires stands { StandsIn words.now answer.now }
+    requires room { counts.old.written < 2 ^ 64 - 1 }
+    ensures ok { let sink = sink_of ⟦<W as Write>⟧ in let a = answer_view words.now answer.now in
+        OnOk result (SinkTakes (sink out.old) (sink out.new) (output_of O.writer a)
+        × (counts.new.written ≡ counts.old.written + written_one a)) }
+    ensures refused { counts.new.refused ≡ counts.old.refused }
+    ensures err { let sink = sink_of ⟦<W as Write>⟧ in IfErr result (λ f.
+        (segments : Segments) × (replies : List ModelReply)
+        × (answer_view words.now answer.now ≡ written segments replies)
+        × SinkRefused Fault.Out W.may_grow f (sink out.old) (sink out.new)
+        (spelled O.writer segments) × (counts.new ≡ counts.old)) }
+{
+    if let Some(count) = written_count(answer) {
+        let segment = segment_of(words, count);
+        if let Err(e) = write_segment_in::<O, W>(out, segment) {
+            return Err(sink_fault(e, Fault::Out));
+        }
+        counts.written += 1;
+    }
+    Ok(())
+}
+
+/// Writes the line of an answer, and counts a refusal.
+#[inline]
+fn put_log<L: Write>(
+    log: &mut L,
+    answer: &MessageAnswer,
+    line: &[u8],
+    counts: &mut Counts,
+) -> Result<(), Fault>
+    requires room { counts.old.refused < 2 ^ 64 - 1 }
+    ensures ok { (words : List (List ℕ)) → let sink = sink_of ⟦<L as Write>⟧ in OnOk result
+        (SinkTakes (sink log.old) (sink log.new) line.now
+        × (counts.new.refused ≡ counts.old.refused + refused_one (answer_view words answer.now))) }
+    ensures written { counts.new.written ≡ counts.old.written }
+    ensures err { let sink = sink_of ⟦<L as Write>⟧ in IfErr result (λ f.
+        SinkRefused Fault.Log L.may_grow f (sink log.old) (sink log.new) line.now
+        × (counts.new.refused ≡ counts.old.refused)) }
+{
+    if let Err(e) = log.write_all(line) {
+        return Err(sink_fault(e, Fault::Log));
+    }
+    if let MessageAnswer::Refused(_) = answer {
+        counts.refused += 1;
+    }
+    Ok(())
+}
+
+/// Whether a message came; it is answered then. The region is all zeros, before and after.
+#[inline(always)]
+pub(crate) fn step<I: MessageForm, O: MessageForm, R: BufRead, W: Write, L: Write, A: Answers>(
+    alloc: Global,
+    source: &mut R,
+    out: &mut W,
+    log: &mut L,
+    answers: &A,
+    limit: usize,
+    region: &mut [u8],
+    buffers: &mut Buffers,
+    answered: u64,
+    counts: &mut Counts,
+) -> Result<bool, Fault>
+    requires together { counts.old.written + counts.old.refused ≡ answered }
+    requires zeros { AllZero region.old }
+    requires line { KeepsLine buffers.old.line }
+    ensures run { let seen = streams_of ⟦<R as Read>⟧ ⟦<W as Write>⟧ ⟦<L as Write>⟧ in
+        Steps (work_by ⟦<A as Answers>⟧ answers.now I.reader O.writer limit W.may_grow L.may_grow)
+        answered (seen source.old out.old log.old) (seen source.new out.new log.new)
+        counts.old counts.new result }
+    ensures line { OnOk result (KeepsLine buffers.new.line) }
+    ensures zeros { region.new ≡ region.old }
+{
+    let message = match buffers
+        .message
+        .try_read_message::<I, R>(source, Some(limit))
+    {
+        Ok(Some(message)) => message,
+        Ok(None) => return Ok(false),
+        Err(e) => return Err(source_fault(e)),
+    };
+    let answer = prepare(
+        alloc,
+        answers,
+        answered,
+        &message,
+        region,
+        &mut buffers.words,
+        &mut buffers.line,
+    )?;
+    put_out::<O, W>(out, &answer, &buffers.words, counts)?;
+    put_log(log, &answer, &buffers.line.bytes, counts)?;
+    Ok(true)
+}
