@@ -1,19 +1,23 @@
+use Rattle.std.proofs.Common.{◌∙◌}
 use Rattle.capnp_relay.specs.Relaying.{relay_work}
 use Rattle.capnp_loop.specs.Streams.{source_seen, sink_seen, streams}
 use Rattle.capnp_loop.proofs.lemmas.PauseLemmas.{wants_first}
 use Rattle.capnp_relay.proofs.relay.relay_pausing.Goals as goal
 
-pub returns-in-Err-clause-run : goal.returns-in-Err-clause-run
-returns-in-Err-clause-run g c =
+pub returns-in-Err : goal.returns-in-Err
+returns-in-Err g c =
     let here = streams (source_seen g.R.Read.remaining g.R.Read.failures c.args.source.now) (sink_seen g.W.Write.contents g.W.Write.failures g.W.Write.room c.args.out.now) (sink_seen g.L.Write.contents g.L.Write.failures g.L.Write.room c.args.log.now) in
     let wanted = c.wants_memory.ensures in
-    wants_first (relay_work c.args.root c.args.calls.now c.args.options g.W.Write.may_grow g.L.Write.may_grow) g.P.Pause.may_fail here c.wants_memory.result wanted.fault wanted.counts.0 wanted.counts.1
+    record { run = wants_first (relay_work c.args.root c.args.calls.now c.args.options g.W.Write.may_grow g.L.Write.may_grow) g.P.Pause.may_fail here c.wants_memory.result wanted.fault wanted.counts.0 wanted.counts.1; zeros = c.fill.ensures.after (λ y e. e) }
 
-pub returns-in-Framed-Framed-clause-run : goal.returns-in-Framed-Framed-clause-run
-returns-in-Framed-Framed-clause-run g c = rw (c.in-Framed-Framed.is-0, c.in-Framed-Framed.is-1) (rw (c.in-Ok.ensures.schema, c.in-Ok.ensures.calls) at c.answer_all.ensures.run)
+pub returns-in-Framed-Framed : goal.returns-in-Framed-Framed
+returns-in-Framed-Framed g c = record { run = rw (c.in-Framed-Framed.is-0, c.in-Framed-Framed.is-1) (rw (c.in-Ok.ensures.schema, c.in-Ok.ensures.calls) at c.answer_all.ensures.run); zeros = c.answer_all.ensures.zeros ∙ c.fill.ensures.after (λ y e. e) }
 
-pub returns-in-Framed-Packed-clause-run : goal.returns-in-Framed-Packed-clause-run
-returns-in-Framed-Packed-clause-run g c = rw (c.in-Framed-Packed.is-0, c.in-Framed-Packed.is-1) (rw (c.in-Ok.ensures.schema, c.in-Ok.ensures.calls) at c.answer_all-in-Framed-Packed.ensures.run)
+pub returns-in-Framed-Packed : goal.returns-in-Framed-Packed
+returns-in-Framed-Packed g c = record { run = rw (c.in-Framed-Packed.is-0, c.in-Framed-Packed.is-1) (rw (c.in-Ok.ensures.schema, c.in-Ok.ensures.calls) at c.answer_all-in-Framed-Packed.ensures.run); zeros = c.answer_all-in-Framed-Packed.ensures.zeros ∙ c.fill.ensures.after (λ y e. e) }
 
-pub returns-in-Packed-Framed-clause-run : goal.returns-in-Packed-Framed-clause-run
-returns-in-Packed-Framed-clause-run g c = rw (c.in-Packed-Framed.is-0, c.in-Packed-Framed.is-1) (rw (c.in-Ok.ensures.schema, c.in-Ok.ensures.calls) at c.answer_all-in-Packed-Framed.ensures.run)
+pub returns-in-Packed-Framed : goal.returns-in-Packed-Framed
+returns-in-Packed-Framed g c = record { run = rw (c.in-Packed-Framed.is-0, c.in-Packed-Framed.is-1) (rw (c.in-Ok.ensures.schema, c.in-Ok.ensures.calls) at c.answer_all-in-Packed-Framed.ensures.run); zeros = c.answer_all-in-Packed-Framed.ensures.zeros ∙ c.fill.ensures.after (λ y e. e) }
+
+pub returns : goal.returns
+returns g c = record { run = rw (c.in-Packed-Packed.is-0, c.in-Packed-Packed.is-1) (rw (c.in-Ok.ensures.schema, c.in-Ok.ensures.calls) at c.answer_all-in-Packed-Packed.ensures.run); zeros = c.answer_all-in-Packed-Packed.ensures.zeros ∙ c.fill.ensures.after (λ y e. e) }
