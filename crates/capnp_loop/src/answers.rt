@@ -20,7 +20,9 @@ pub trait Answers {
     /// Whether the message is too large to be answered.
     ghost is_too_large: { Self → Segments → Type 0 };
 
-    /// The answer to a message; what is written stands at the front of the words. The region is all zeros, before and after.
+    /// The answer to a message; what is written stands at the front of the words, whatever they held before. The region is all zeros, before and after.
+    ///
+    /// `Memory`: a growth was refused. `Size`: the message is too large to be answered. After both nothing is promised of the words.
     fn answer(
         &self,
         alloc: Global,

@@ -13,3 +13,6 @@ pub returns-in-Some-clause-refused : goal.returns-in-Some-clause-refused
 returns-in-Some-clause-refused c =
     sym c.loop-rule.invariant
     ∙ rule_broken (listed c.args.nodes) c.loop-rule.rule c.in-Some.node (omega (arith, c.loop-rule-test.true)) (sym (c.in_ok-node.ensures) ∙ c.in-Some.is)
+
+pub returns-clause-refused : goal.returns-clause-refused
+returns-clause-refused c = tt
