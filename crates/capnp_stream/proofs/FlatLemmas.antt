@@ -1,6 +1,10 @@
 -- Framed messages at the front of a buffer, from the table on.
 use Rattle.std.proofs.Common.{◌≡◌, ℕ, zero, suc, ◌+◌, ◌-◌, ◌*◌, ◌/◌, ◌%◌, ◌^◌, ◌<◌, ◌≤◌, ◌≢◌, add-one, List, [], ◌∷◌, ◌++◌, true, false, leb, ltb, get_or, None, Ok, Err, refl, sym, ap, ◌∙◌, arith, length, take, drop, sum, length-drop, length-take-le, take-append-drop, append_assoc}
 use Rattle.std.proofs.lemmas.Bool.{lt-ltb, le-leb}
+use Rattle.std.proofs.lemmas.Grind.{common_steps}
+use Rattle.std.specs.Bool.{IsTrue}
+use lib.Dec.{eqb}
+use mathlib.Core.Bool.{Bool, ◌&&◌}
 use Rattle.std.proofs.Math.Seq.{take-suc}
 use Rattle.std.proofs.lemmas.List.{drop-drop, drop-take, get_or-drop, nil_from_length, take_all, take_at, drop_at, length-append}
 use Rattle.std.specs.Int.{from_le_bytes, w64}
@@ -258,6 +262,12 @@ module _ (limit : Option ℕ) (bytes : List ℕ) where
               let behind : drop (8 * total) body ≡ drop (at + 8 * total) bytes = drop-drop (8 * total) at bytes in
               flat-table ∙ guard_then _ _ _ _ kept (ok_then (flat_words total body) _ _ _ (flat-long total body room)
               (ap (λ s. Ok (s, drop (8 * total) body)) parts ∙ ap (λ l. Ok (words_in (frame_segments (word % 2 ^ 32 + 1) bytes), l)) behind))
+
+-- the same table as one that describes the bytes, and no other, describes them
+pub same-info : (found info : NoAllocSegmentTableInfo) (bytes : List ℕ) → Describes found bytes → (r : Bool)
+    → r ≡ (eqb found.segments_count info.segments_count && (eqb found.segment_table_length_bytes info.segment_table_length_bytes && eqb found.total_segments_length_bytes info.total_segments_length_bytes))
+    → (IsTrue r → Describes info bytes) × (Describes info bytes → IsTrue r)
+same-info found info bytes d r is = grind (arith, common_steps)
 
 -- bytes that a table describes begin with a message
 pub described-reads : (info : NoAllocSegmentTableInfo) (bytes : List ℕ) → Describes info bytes → (r : Segments × List ℕ) × (flat_at None bytes ≡ Ok r)

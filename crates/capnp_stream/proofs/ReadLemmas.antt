@@ -1,5 +1,5 @@
 -- From the parts of a reader's promise to the whole.
-use Rattle.std.proofs.Common.{◌≡◌, ◌≢◌, ◌⊎◌, ◌<◌, ◌∙◌, inl, inr, ℕ, [], List, Bool, true, false, None, Some, IsTrue, ◌↔◌, IfSome, Result, Ok, Err, subst, sym}
+use Rattle.std.proofs.Common.{◌≡◌, ◌≢◌, ◌⊎◌, ◌<◌, ◌∙◌, inl, inr, ℕ, [], List, Bool, true, false, None, Some, IsTrue, ◌↔◌, IfSome, IfOk, Result, Ok, Err, subst, sym}
 use Rattle.std.specs.declared.convert.AsSlice.{Ghosts}
 use Rattle.std.specs.declared.option.Option.{Option}
 use Rattle.std.specs.Io.KnownBytes.{Keeps, IsAtEnd}
@@ -9,9 +9,11 @@ use Rattle.capnp_units.specs.declared.kinds.ErrorKind.{ErrorKind}
 use Rattle.capnp_units.specs.declared.kinds.ErrorKind.TheVariants.{OutOfMemory, BufferNotLargeEnough, PrematureEndOfFile, Device}
 use Rattle.capnp_units.specs.Segments.{words_in}
 use Rattle.capnp_model.specs.Messages.{Reader}
-use Rattle.capnp_io.specs.Counting.{KindCounts}
+use Rattle.capnp_model.specs.Spelling.{CanSpell}
+use Rattle.capnp_io.specs.Counting.{Counts, KindCounts}
 use Rattle.capnp_stream.specs.Pieces.{ReadsFronts}
 use Rattle.capnp_stream.specs.Frames.{IsFrameFault, TakesMessage, TakesStart, TakesWholePieces, TakesTable, IsFramingKind, IsReadKind, IsCut}
+use Rattle.capnp_stream.specs.Writing.{AreWritable}
 use Rattle.capnp_stream.specs.Reading.{TriesReading, ReadsMessage}
 use Rattle.capnp_stream.specs.Lent.{IsFillKind, NeedsMore, HasLonger}
 use Rattle.capnp_stream.specs.Buffers.{found_segments}
@@ -117,6 +119,29 @@ module _ {M : Type 0} {bytes : M → List (List ℕ)} {Holds : M → Type 0} (re
     begun = λ w. IfSome-of_kept a b _ kept (t.begun w);
     count = subst (λ k. KindCounts e.kind k n) same t.count;
   }
+
+  -- what was read is a message
+  pub tries-read : (result : Result M Error) → IfOk result (λ s. TakesMessage read limit b c (words_in (bytes s))) → IfOk result (λ s. CanSpell limit (words_in (bytes s))) → IfOk result Holds → IfOk result (λ s. AreWritable (bytes s)) → Counts result m n
+      → (s : M) → result ≡ Ok s → TriesReading {M = M} bytes Holds read faults limit (record { remaining = a; failures = l }) (Ok (Some s)) (record { remaining = c; failures = n })
+  tries-read result message spelled joined writable count s is =
+      let Taken : Result M Error → Type 0 = λ r. IfOk r (λ s. TakesMessage read limit b c (words_in (bytes s))) in
+      let Spelled : Result M Error → Type 0 = λ r. IfOk r (λ s. CanSpell limit (words_in (bytes s))) in
+      let Joined : Result M Error → Type 0 = λ r. IfOk r Holds in
+      let Writable : Result M Error → Type 0 = λ r. IfOk r (λ s. AreWritable (bytes s)) in
+      let Counted : Result M Error → Type 0 = λ r. Counts r m n in
+      tries-behind (Ok (Some s)) (record {
+        message = subst Taken is message;
+        kept = subst Spelled is spelled;
+        joined = subst Joined is joined;
+        writable = subst Writable is writable;
+        none = tt;
+        refused = tt;
+        kind = tt;
+        part = tt;
+        wanted = tt;
+        begun = tt;
+        count = subst Counted is count;
+      })
 
 module _ (read : Reader) (limit : Option ℕ) (a b : Option (List ℕ)) (kept : Keeps a b) where
   longer-of : (size : ℕ) → (size < table_bytes 511) ⊎ IfSome b (HasLonger read limit size) → (size < table_bytes 511) ⊎ IfSome a (HasLonger read limit size)

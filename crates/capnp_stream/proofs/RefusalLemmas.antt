@@ -1,5 +1,5 @@
 -- What the kind of a refusal says and leaves out, and buffers that grow.
-use Rattle.std.proofs.Common.{◌≡◌, ◌∙◌, ℕ, ◌*◌, ◌<◌, ◌≤◌, inl, List, ◌++◌, Option, None, Some, IfSome, Result, Ok, Err, refl, sym, ap, subst, arith, length, take}
+use Rattle.std.proofs.Common.{◌≡◌, ◌∙◌, ℕ, ◌+◌, ◌*◌, ◌/◌, ◌<◌, ◌≤◌, inl, List, ◌++◌, Option, None, Some, IfSome, Result, Ok, Err, refl, sym, ap, subst, arith, length, take}
 use Rattle.std.specs.declared.vec.Vec.{Vec}
 use Rattle.std.specs.Vec.{with_items}
 use Rattle.std.proofs.lemmas.List.{length-append, take_all, with_items_is}
@@ -91,6 +91,26 @@ below-reach a b below = omega (arith, below)
 -- A device that failed wants no memory.
 pub device-wants-none : (k : ErrorKind) → k ≡ Device → k ≡ OutOfMemory → ⊥
 device-wants-none k failed want = absurd cc
+
+-- What has room for the longest table has room for each.
+pub any-table : (n had size : ℕ) → size ≡ had → 2048 ≤ had → n ≤ 511 → 8 * (n / 2 + 1) ≤ size
+any-table n had size same room few = omega (arith, same, room, few)
+
+-- A table has a word at least.
+pub table-word : (n size : ℕ) → 8 * (n / 2 + 1) ≤ size → 8 ≤ size
+table-word n size room = omega (arith, room)
+
+-- So many words, as bytes.
+pub words-of : (total words : ℕ) → total ≡ words → 8 * total / 8 ≡ words
+words-of total words same = omega (arith, same)
+
+-- What has room for the longest table, and no room for its own table and its words, has some word.
+pub wants-words : (n total words had kept : ℕ) → total ≡ words → kept ≡ had → 2048 ≤ had → n ≤ 511 → kept < 8 * (n / 2 + 1) + 8 * total → 0 < words
+wants-words n total words had kept same still room few short = omega (arith, same, still, room, few, short)
+
+-- Nor had it before it grew.
+pub wants-longer : (table long total words had kept : ℕ) → long ≡ table → total ≡ words → had ≤ kept → kept < table + 8 * total → had < long + 8 * words
+wants-longer table long total words had kept size same grown short = omega (arith, size, same, grown, short)
 
 -- What wants more bytes than there are wants a word at least.
 pub some-words : (there words : ℕ) → there < 8 * words → 0 < words

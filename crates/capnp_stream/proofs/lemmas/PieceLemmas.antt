@@ -16,7 +16,7 @@ use Rattle.capnp_model.proofs.lemmas.Chaining.{ok_is, ok_then, bind_ok}
 use Rattle.capnp_model.proofs.lemmas.ByteWords.{taken_front}
 use Rattle.capnp_io.specs.Streams.{ConsumesFewer, EndsBefore}
 use Rattle.capnp_model.proofs.lemmas.WordsInBytes.{words_in_bytes-length}
-use Rattle.capnp_stream.specs.Pieces.{EachIsNeeded, ReadsFronts, TakesPiece, TakesPieceStart, IsPieceFault}
+use Rattle.capnp_stream.specs.Pieces.{EachIsNeeded, ReadsFronts, TakesPiece, TakesPieceStart, IsPieceFault, IsPieceKind, is_framed_fault}
 use Rattle.capnp_stream.specs.Frames.{IsCut}
 use Rattle.capnp_stream.proofs.lemmas.EarlyLemmas.{EndsEarly-of}
 use Rattle.capnp_stream.specs.Segments.{whole_words}
@@ -74,6 +74,11 @@ module _ (n : ℕ) (a b : Option (List ℕ)) (refuses : ErrorKind → Type 0) (d
   pub plain-part : (k : ErrorKind) → (refuses k × ConsumesFewer a b (8 * n)) ⊎ ((k ≡ FailedToFillTheWholeBuffer) × EndsBefore a b (8 * n)) → TakesPieceStart plain_words n a b
   plain-part k (inl p) = plain-start n a b p.1
   plain-part k (inr p) = let q = p.1 in plain-start n a b (q.0, q.1, q.2)
+
+-- a piece of words as they are is refused by a device's kind, or by that of bytes that are cut
+pub plain-own : {X Y : Type 0} (refuses : ErrorKind → Type 0) → ((k : ErrorKind) → refuses k → k ≡ Device) → (k : ErrorKind) → (refuses k × X) ⊎ ((k ≡ FailedToFillTheWholeBuffer) × Y) → IsPieceKind is_framed_fault k
+plain-own refuses device k (inl p) = let failed : k ≡ Device = device k p.0 in rw failed tt
+plain-own refuses device k (inr p) = let cut : k ≡ FailedToFillTheWholeBuffer = p.0 in rw cut tt
 
 -- the bytes of the words that a buffer holds are the buffer's
 pub plain-bytes : (buf : List ℕ) → length buf % 8 ≡ 0 → AreBytes buf → bytes_of_words (whole_words buf) ≡ buf

@@ -1,4 +1,4 @@
-use Rattle.std.proofs.Common.{inl, inr, true, false, ◌≡◌, ◌≤◌, ◌+◌, ◌*◌, ◌/◌, ◌%◌, ◌^◌, ◌++◌, arith, length, sum, refl, sym, ap, subst, List, ℕ, ◌∙◌}
+use Rattle.std.proofs.Common.{inl, inr, true, false, ◌≡◌, ◌≤◌, ◌<◌, ◌+◌, ◌*◌, ◌/◌, ◌%◌, ◌^◌, ◌++◌, length, sum, refl, sym, ap, subst, List, ℕ, ◌∙◌}
 use Rattle.std.specs.Int.{from_le_bytes, w64}
 use Rattle.std.specs.Vec.{with_items}
 use Rattle.std.proofs.lemmas.List.{with_items_is}
@@ -6,13 +6,13 @@ use Rattle.std.proofs.lemmas.Result.{err_from_is_err_and}
 use Rattle.capnp_units.specs.Segments.{words_in}
 use Rattle.capnp_model.specs.Messages.{within}
 use Rattle.capnp_stream.specs.Frames.{IsCut, TakesBody}
-use Rattle.capnp_stream.specs.Flat.{table_lengths, table_bytes, frame_segments}
+use Rattle.capnp_stream.specs.Flat.{table_lengths, table_bytes, frame_segments, Describes}
 use Rattle.capnp_stream.specs.Lent.{HoldsMessage}
 use Rattle.capnp_stream.specs.declared.flat.NoAllocSegmentTableInfo.{NoAllocSegmentTableInfo}
 use Rattle.capnp_stream.proofs.lemmas.WordLemmas.{from_le_bytes-front}
 use Rattle.capnp_stream.proofs.FlatLemmas.{table-holds, table-grown}
 use Rattle.capnp_stream.proofs.TableLemmas.{read-kind}
-use Rattle.capnp_stream.proofs.RefusalLemmas.{wants-none, piece-wants-none, unread, memory-faultless, memory-kind, memory-counts, grown-front, refilled, no-shorter, between, counts-behind}
+use Rattle.capnp_stream.proofs.RefusalLemmas.{wants-none, piece-wants-none, unread, memory-faultless, memory-kind, memory-counts, grown-front, refilled, no-shorter, between, counts-behind, any-table, table-word, words-of, wants-words, wants-longer}
 use Rattle.capnp_stream.proofs.lemmas.FrameLemmas.{no-part, large-part, large-fault, table-part, table-longer, body-fault, body-part, message-of_body}
 use Rattle.capnp_stream.proofs.kept.MessageBuffer.fill.Goals as goal
 
@@ -81,6 +81,7 @@ returns-in_err-grow_to-2 g c =
     let kind = c.in_err-grow_to-2.field-0.0.kind in
     let n = c.in_ok-count.count in
     let read = c.fill_any_table.new.buffer in
+    let short : length (with_items c.grow_to.new.self.bytes read).items < table_bytes n + 8 * c.words_before-total.result = refusal.1 in
     let sized = c.fill_any_table.auto.buffer ∙ c.deref_mut.ensures.len in
     let held : (with_items c.grow_to.new.self.bytes read).items ≡ read = with_items_is c.grow_to.new.self.bytes read sized in
     let ns = table_lengths n read in
@@ -89,15 +90,14 @@ returns-in_err-grow_to-2 g c =
     let front = grown-front c.args.self.now.bytes.items c.grow_to.new.self.bytes.items c.in_ok-grow_to.ensures.front in
     let kept-len = refilled c.grow_to.new.self.bytes c.deref_mut.result.now c.fill_any_table.new.buffer c.fill_any_table.auto.buffer c.deref_mut.ensures.len c.deref_mut.ensures.value in
     let longer = no-shorter _ _ _ front kept-len in
-    let size = ap length held in
-    let long : table_bytes (length ns) ≡ table_bytes n = ap table_bytes (table-holds n read (omega (arith, size, c.deref_mut.ensures.len, c.in_ok-grow_to.ensures.room, c.in_ok-count.ensures.few.1))) in
+    let long : table_bytes (length ns) ≡ table_bytes n = ap table_bytes (table-holds n read (any-table n _ _ (sym (ap length held) ∙ kept-len) c.in_ok-grow_to.ensures.room c.in_ok-count.ensures.few.1)) in
     rw (p.1, p.2) (record {
       message = tt;
       refused = λ framing. absurd (memory-faultless kind refusal.0 framing);
       kind = memory-kind kind refusal.0 g.F.MessageForm.faults;
-      part = table-part g.F.MessageForm.reader g.met.F.MessageForm.fronts c.args.limit ns _ _ c.in_ok-count.ensures.table kept (omega (arith, total, kept-len, refusal.1, c.in_ok-grow_to.ensures.room, c.in_ok-count.ensures.few.1));
+      part = table-part g.F.MessageForm.reader g.met.F.MessageForm.fronts c.args.limit ns _ _ c.in_ok-count.ensures.table kept (wants-words n _ _ _ _ total kept-len c.in_ok-grow_to.ensures.room c.in_ok-count.ensures.few.1 short);
       wanted = λ _. inr (inr (ns, c.in_ok-count.ensures.table));
-      longer = λ _. inr (table-longer g.F.MessageForm.reader g.met.F.MessageForm.fronts c.args.limit ns _ _ c.in_ok-count.ensures.table (length c.args.self.now.bytes.items) kept (omega (arith, total, longer, long, refusal.1)));
+      longer = λ _. inr (table-longer g.F.MessageForm.reader g.met.F.MessageForm.fronts c.args.limit ns _ _ c.in_ok-count.ensures.table (length c.args.self.now.bytes.items) kept (wants-longer _ _ _ _ _ _ long total longer short));
       grown = (between _ _ _ longer (grown-front _ c.grow_to-2.new.self.bytes.items c.in_err-grow_to-2.ensures.front), tt);
       failures = memory-counts kind refusal.0 _ _ c.in_ok-count.ensures.failures;
     })
@@ -105,23 +105,26 @@ returns-in_err-grow_to-2 g c =
 pub fill_body-requires : goal.fill_body-requires
 fill_body-requires g c =
     let n = c.in_ok-count.count in
+    let whole = c.deref_mut-2.result.now in
+    let grows : table_bytes n + 8 * c.words_before-total.result ≤ length c.grow_to-2.new.self.bytes.items = c.in_ok-grow_to-2.ensures.room in
+    let fits : table_bytes n + 8 * c.words_before-total.result ≤ length whole = no-shorter _ _ _ grows (ap length c.deref_mut-2.ensures.value) in
     let read = c.fill_any_table.new.buffer in
     let held : (with_items c.grow_to.new.self.bytes read).items ≡ read = with_items_is c.grow_to.new.self.bytes read (c.fill_any_table.auto.buffer ∙ c.deref_mut.ensures.len) in
     let ns = table_lengths n read in
     let total : c.words_before-total.result ≡ sum ns = c.words_before-total.ensures.total ∙ ap (λ l. sum (table_lengths n l)) (c.deref.ensures.value ∙ held) in
     let more = c.in_ok-grow_to-2.ensures.front.0 in
-    let whole = c.deref_mut-2.result.now in
     let grown : whole ≡ read ++ more = c.deref_mut-2.ensures.value ∙ c.in_ok-grow_to-2.ensures.front.1 ∙ ap (λ l. l ++ more) held in
-    let room : table_bytes n ≤ length read = omega (arith, c.in_ok-grow_to.ensures.room, c.in_ok-count.ensures.few.1) in
+    let kept-len = refilled c.grow_to.new.self.bytes c.deref_mut.result.now read c.fill_any_table.auto.buffer c.deref_mut.ensures.len c.deref_mut.ensures.value in
+    let room : table_bytes n ≤ length read = any-table n _ _ (sym (ap length held) ∙ kept-len) c.in_ok-grow_to.ensures.room c.in_ok-count.ensures.few.1 in
     let same : table_lengths n whole ≡ ns = ap (table_lengths n) grown ∙ table-grown n read more room in
     let f : List ℕ → ℕ = from_le_bytes w64 in
-    let word : f whole ≡ f read = ap f grown ∙ from_le_bytes-front read more (omega (arith, room)) in
+    let word : f whole ≡ f read = ap f grown ∙ from_le_bytes-front read more (table-word n _ room) in
     record {
       count = c.in_ok-count.ensures.count ∙ ap (λ w. w % 2 ^ 32 + 1) (sym word);
       few = c.in_ok-count.ensures.few.1;
       table = refl;
       total = ap (λ m. 8 * m) (total ∙ ap sum (sym same));
-      fits = omega (arith, c.in_ok-grow_to-2.ensures.room, ap length c.deref_mut-2.ensures.value);
+      fits = fits;
     }
 
 pub returns-in_err-fill_body : goal.returns-in_err-fill_body
@@ -129,6 +132,8 @@ returns-in_err-fill_body g c =
     let p = err_from_is_err_and c.from_residual-in_err-fill_body.result c.from_residual-in_err-fill_body.ensures.1 in
     let r = c.in_err-fill_body.ensures in
     let kind = c.in_err-fill_body.field-0.0.kind in
+    let Cut : ℕ → Type 0 = λ m. IsCut g.F.MessageForm.reader m (g.R.Read.remaining c.fill_any_table.new.source) (g.R.Read.remaining c.fill_body.new.source) kind in
+    let wanted : Cut (8 * c.words_before-total.result / 8) = r.cut in
     let n = c.in_ok-count.count in
     let read = c.fill_any_table.new.buffer in
     let sized = c.fill_any_table.auto.buffer ∙ c.deref_mut.ensures.len in
@@ -141,9 +146,7 @@ returns-in_err-fill_body g c =
     let longer = no-shorter _ _ _ front kept-len in
     let grown-again = between _ _ _ longer (grown-front _ c.grow_to-2.new.self.bytes.items c.in_ok-grow_to-2.ensures.front) in
     let kept-again = refilled c.grow_to-2.new.self.bytes c.deref_mut-2.result.now c.fill_body.new.buffer c.fill_body.auto.buffer c.deref_mut-2.ensures.len c.deref_mut-2.ensures.value in
-    let size : 8 * c.words_before-total.result / 8 ≡ sum ns = omega (arith, total) in
-    let Cut : ℕ → Type 0 = λ m. IsCut g.F.MessageForm.reader m (g.R.Read.remaining c.fill_any_table.new.source) (g.R.Read.remaining c.fill_body.new.source) kind in
-    let cut = subst Cut size r.cut in
+    let cut = subst Cut (words-of _ _ total) wanted in
     rw (p.1, p.2) (record {
       message = tt;
       refused = body-fault g.F.MessageForm.reader g.met.F.MessageForm.fronts c.args.limit ns _ _ c.in_ok-count.ensures.table kept _ _ cut;
@@ -158,6 +161,9 @@ returns-in_err-fill_body g c =
 pub returns : goal.returns
 returns g c =
     let n = c.in_ok-count.count in
+    let info : NoAllocSegmentTableInfo = record { segments_count = n; segment_table_length_bytes = table_bytes n; total_segments_length_bytes = 8 * c.words_before-total.result } in
+    let done = c.in_ok-fill_body.ensures in
+    let described : Describes info c.fill_body.new.buffer = done.described in
     let read = c.fill_any_table.new.buffer in
     let sized = c.fill_any_table.auto.buffer ∙ c.deref_mut.ensures.len in
     let held : (with_items c.grow_to.new.self.bytes read).items ≡ read = with_items_is c.grow_to.new.self.bytes read sized in
@@ -172,16 +178,14 @@ returns g c =
     let more = c.in_ok-grow_to-2.ensures.front.0 in
     let whole = c.deref_mut-2.result.now in
     let grown : whole ≡ read ++ more = c.deref_mut-2.ensures.value ∙ c.in_ok-grow_to-2.ensures.front.1 ∙ ap (λ l. l ++ more) held in
-    let room : table_bytes n ≤ length read = omega (arith, sized, c.deref_mut.ensures.len, ap length held, c.in_ok-grow_to.ensures.room, c.in_ok-count.ensures.few.1) in
+    let room : table_bytes n ≤ length read = any-table n _ _ (sym (ap length held) ∙ kept-len) c.in_ok-grow_to.ensures.room c.in_ok-count.ensures.few.1 in
     let same : table_lengths n whole ≡ ns = ap (table_lengths n) grown ∙ table-grown n read more room in
     let bytes = c.fill_body.new.buffer in
     let now : (with_items c.grow_to-2.new.self.bytes bytes).items ≡ bytes = with_items_is c.grow_to-2.new.self.bytes bytes (c.fill_body.auto.buffer ∙ c.deref_mut-2.ensures.len) in
-    let done = c.in_ok-fill_body.ensures in
     let Body : List ℕ → Type 0 = λ l. TakesBody g.F.MessageForm.reader (g.R.Read.remaining c.fill_any_table.new.source) (g.R.Read.remaining c.fill_body.new.source) l (words_in (frame_segments n bytes)) in
-    let info : NoAllocSegmentTableInfo = record { segments_count = n; segment_table_length_bytes = table_bytes n; total_segments_length_bytes = 8 * c.words_before-total.result } in
     let Of : List ℕ → Type 0 = λ l. HoldsMessage g.F.MessageForm.reader c.args.limit (g.R.Read.remaining c.args.source.now) (g.R.Read.remaining c.fill_body.new.source) l info in
     let holds : Of bytes = record {
-      described = done.described;
+      described = described;
       taken = message-of_body g.F.MessageForm.reader g.met.F.MessageForm.fronts c.args.limit ns _ _ c.in_ok-count.ensures.table kept _ _ (subst Body same done.body);
       kept = ap (λ l. within (sum l) c.args.limit) (done.table ∙ same) ∙ kept;
     } in

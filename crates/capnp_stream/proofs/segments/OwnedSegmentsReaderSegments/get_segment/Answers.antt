@@ -1,4 +1,5 @@
-use Rattle.std.proofs.Common.{◌≡◌, ◌*◌, Some, refl, ap, ◌∙◌, sym, List, ℕ, length}
+use Rattle.std.proofs.Common.{◌≡◌, ◌*◌, Some, refl, ap, ◌∙◌, sym, List, ℕ, length, arith, rules}
+use Rattle.std.proofs.lemmas.List.{length-map}
 use Rattle.std.specs.List.{slice_range, slice_get}
 use Rattle.std.specs.Option.{option_map}
 use Rattle.std.proofs.lemmas.Option.{slice_get-map, slice_get_read}
@@ -6,8 +7,8 @@ use Rattle.capnp_units.specs.Segments.{whole_words}
 use Rattle.capnp_stream.specs.Segments.{segment_bytes}
 use Rattle.capnp_stream.proofs.segments.OwnedSegmentsReaderSegments.get_segment.Goals as goal
 
-pub returns-clause-words : goal.returns-clause-words
-returns-clause-words c =
+pub returns : goal.returns
+returns c =
     let s = c.args.self.now in
     let r = c.in_ok-start.field-0.now in
     let all = c.deref.result.now in
@@ -15,6 +16,11 @@ returns-clause-words c =
     let found = c.in_ok-start.ensures.lookup in
     let here : slice_get s.indices.items c.args.id ≡ Some r =
     ap (λ xs. slice_get xs c.args.id) (sym c.deref.ensures.value) ∙ slice_get_read all (length all) c.args.id r refl found.3.0 found.1 in
-    slice_get-map whole_words (segment_bytes s) c.args.id
-    ∙ ap (option_map whole_words) (slice_get-map part s.indices.items c.args.id ∙ ap (option_map part) here)
-    ∙ ap (λ bytes. Some (whole_words (slice_range bytes (8 * r.0) (8 * r.1)))) (sym c.deref-2.ensures.value)
+    let lies : slice_get (segment_bytes s) c.args.id ≡ Some (slice_range c.deref-2.result.now (8 * r.0) (8 * r.1)) =
+    slice_get-map part s.indices.items c.args.id ∙ ap (option_map part) here ∙ ap (λ bytes. Some (slice_range bytes (8 * r.0) (8 * r.1))) (sym c.deref-2.ensures.value) in
+    record {
+      bytes = sym lies;
+      words = slice_get-map whole_words (segment_bytes s) c.args.id ∙ ap (option_map whole_words) lies;
+      whole = search rules;
+      there = (λ some. omega (arith, found, length-map (segment_bytes s) whole_words, length-map s.indices.items part, ap length c.deref.ensures.value), λ below. refl);
+    }
