@@ -72,10 +72,16 @@ fn makes(alloc: Global, form: &str, input: &[u8], output: &[u8]) -> Result<bool,
 #[test]
 fn each_form(rt: HostRuntime) -> Result<(), Fail> {
     let alloc = rt.alloc();
-    assert!(rt; makes(alloc, "framed", &NULL, &SEVEN)?);
-    assert!(rt; makes(alloc, "packed", &PACKED_NULL, &PACKED_SEVEN)?);
-    assert!(rt; makes(alloc, "framed-packed", &NULL, &PACKED_SEVEN)?);
-    assert!(rt; makes(alloc, "packed-framed", &PACKED_NULL, &SEVEN)?);
+    let (null, packed_null) = (NULL.as_slice(), PACKED_NULL.as_slice());
+    let (seven, packed_seven) = (SEVEN.as_slice(), PACKED_SEVEN.as_slice());
+    for (form, input, output) in [
+        ("framed", null, seven),
+        ("packed", packed_null, packed_seven),
+        ("framed-packed", null, packed_seven),
+        ("packed-framed", packed_null, seven),
+    ] {
+        assert!(rt; makes(alloc, form, input, output)?);
+    }
     Ok(())
 }
 
@@ -119,14 +125,16 @@ fn roots_that_are_no_structs_are_refused(rt: HostRuntime) -> Result<(), Fail> {
 fn calls_and_limits_are_refused(rt: HostRuntime) -> Result<(), Fail> {
     let alloc = rt.alloc();
     let first = "{\"calls\":[{\"path\":[],\"verb\":\"get\"}],\"words\":536870911}";
-    assert!(rt; is_refused(alloc, &WORDS, first, "fault: call 1\n")?);
     let second =
         "{\"calls\":[{\"path\":[\"a\"],\"verb\":\"get\"},{\"path\":[\"a\"],\"verb\":\"set\"}]}";
-    assert!(rt; is_refused(alloc, &WORDS, second, "fault: call 2\n")?);
-    let words = "{\"calls\":[],\"words\":536870911}";
-    assert!(rt; is_refused(alloc, &WORDS, words, "fault: options\n")?);
-    let nesting = "{\"calls\":[],\"nesting\":-1}";
-    assert!(rt; is_refused(alloc, &WORDS, nesting, "fault: options\n")?);
+    for (calls, line) in [
+        (first, "fault: call 1\n"),
+        (second, "fault: call 2\n"),
+        ("{\"calls\":[],\"words\":536870911}", "fault: options\n"),
+        ("{\"calls\":[],\"nesting\":-1}", "fault: options\n"),
+    ] {
+        assert!(rt; is_refused(alloc, &WORDS, calls, line)?);
+    }
     Ok(())
 }
 
@@ -135,15 +143,18 @@ fn files_are_refused(rt: HostRuntime) -> Result<(), Fail> {
     let alloc = rt.alloc();
     let schema = Some(SCHEMA.as_bytes());
     let calls = Some(SET_A.as_bytes());
-    assert!(rt; refuses(alloc, None, calls, "fault: schema file\n")?);
-    assert!(rt; refuses(alloc, None, None, "fault: schema file\n")?);
-    assert!(rt; refuses(alloc, calls, calls, "fault: schema file\n")?);
-    assert!(rt; refuses(alloc, schema, None, "fault: calls file\n")?);
-    assert!(rt; refuses(alloc, schema, schema, "fault: calls file\n")?);
     let overlapping: &[u8] =
         b"[{\"id\":1,\"name\":\"P\",\"data\":1,\"pointers\":1,\"fields\":[{\"name\":\"a\",\"type\":\"UInt16\",\"offset\":0},{\"name\":\"b\",\"type\":\"UInt8\",\"offset\":1}]}]";
-    let line = "fault: schema rule 9 node 0\n";
-    assert!(rt; refuses(alloc, Some(overlapping), None, line)?);
+    for (nodes, calls, line) in [
+        (None, calls, "fault: schema file\n"),
+        (None, None, "fault: schema file\n"),
+        (calls, calls, "fault: schema file\n"),
+        (schema, None, "fault: calls file\n"),
+        (schema, schema, "fault: calls file\n"),
+        (Some(overlapping), None, "fault: schema rule 9 node 0\n"),
+    ] {
+        assert!(rt; refuses(alloc, nodes, calls, line)?);
+    }
     Ok(())
 }
 
