@@ -1,10 +1,12 @@
 -- What one step of a run does to its streams, and how a fault leaves them.
-use Rattle.std.specs.Prelude.{◌≡◌, ℕ, ◌+◌, ◌-◌, ◌^◌, ◌<◌, Bool, true, false, List, [], ⊤, ◌⊎◌, IfSome, Result, Ok, Err}
+use Rattle.std.specs.Prelude.{◌≡◌, ◌≢◌, ℕ, ◌+◌, ◌-◌, ◌^◌, ◌<◌, Bool, true, false, List, [], ⊤, ◌⊎◌, IfSome, Result, Ok, Err}
 use Rattle.std.specs.Io.KnownBytes.{IsAtEnd}
 use Rattle.capnp_model.specs.Segments.{Segments}
 use Rattle.capnp_model.specs.Messages.{spelled}
 use Rattle.capnp_model.specs.Answers.{Answer, Reply, written}
 use Rattle.capnp_model.specs.Runs.{line_of, output_of}
+use Rattle.capnp_units.specs.declared.kinds.ErrorKind.{ErrorKind}
+use Rattle.capnp_units.specs.declared.kinds.ErrorKind.TheVariants.{OutOfMemory, Device}
 use Rattle.capnp_io.specs.Counting.{Rose}
 use Rattle.capnp_stream.specs.Frames.{IsFrameFault, IsFramingKind, TakesMessage, TakesPart}
 use Rattle.capnp_loop.specs.declared.ends.Counts.{Counts}
@@ -13,6 +15,12 @@ use Rattle.capnp_loop.specs.declared.ends.Fault.TheVariants as faults
 use Rattle.capnp_loop.specs.Answers.{CountsOne, written_one}
 use Rattle.capnp_loop.specs.Work.{Work}
 use Rattle.capnp_loop.specs.Streams.{Streams, SinkSeen, SourceStays, SinkStays, SinkTakes, SinkTakesPart, SinkFails}
+
+-- What a refused read is told as: want of memory, a failure of the source, or else that the bytes are framed wrongly.
+pub record ReadIsToldAs (kind : ErrorKind) (fault : Fault) : Type 0 where
+  pub memory : kind ≡ OutOfMemory → fault ≡ faults.Memory
+  pub device : kind ≡ Device → fault ≡ faults.Source
+  pub other : kind ≢ OutOfMemory → kind ≢ Device → fault ≡ faults.Framing kind
 
 -- A sink refused these bytes, with the sink's own fault or, where it grows, for want of memory.
 abbrev pub SinkRefused : Fault → Type 0 → Fault → SinkSeen → SinkSeen → List ℕ → Type 0

@@ -1,5 +1,5 @@
 //! One message of a run.
-ghost use Rattle.std.specs.Prelude.{◌≡◌, ◌≢◌, ℕ, List, ◌+◌, ◌-◌, ◌^◌, ◌<◌, ◌≤◌, ◌⊎◌, IfOk, IfErr, OnOk, Err, length};
+ghost use Rattle.std.specs.Prelude.{◌≡◌, ◌≢◌, ℕ, List, ◌+◌, ◌-◌, ◌^◌, ◌<◌, ◌≤◌, ◌⊎◌, IfOk, IfErr, OnOk, IsErrAnd, Err, length};
 ghost use Rattle.capnp_units.specs.declared.kinds.ErrorKind.{ErrorKind};
 ghost use Rattle.capnp_model.specs.Segments.{Segments};
 ghost use Rattle.capnp_model.specs.Messages.{spelled};
@@ -15,7 +15,7 @@ ghost use Rattle.capnp_loop.specs.Answers.{written_one, refused_one, WritesFront
 ghost use Rattle.capnp_loop.specs.Lines.{IsLine, KeepsLine};
 ghost use Rattle.capnp_loop.specs.Streams.{SinkTakes, sink_of, streams_of};
 ghost use Rattle.capnp_loop.specs.Work.{work_by};
-ghost use Rattle.capnp_loop.specs.Stops.{Steps, SinkRefused};
+ghost use Rattle.capnp_loop.specs.Stops.{Steps, SinkRefused, ReadIsToldAs};
 
 use crate::answer::{MessageAnswer, Want};
 use crate::answers::Answers;
@@ -94,17 +94,14 @@ fn prepare<A: Answers>(
     }
 }
 
-/// What a refused read is told as.
-fn source_fault(e: Error) -> Fault
-    ensures memory { e.kind ≡ ErrorKind.OutOfMemory → result ≡ Fault.Memory }
-    ensures device { e.kind ≡ ErrorKind.Device → result ≡ Fault.Source }
-    ensures other { e.kind ≢ ErrorKind.OutOfMemory → e.kind ≢ ErrorKind.Device
-        → result ≡ Fault.Framing e.kind }
+/// Ends the run at a refused read.
+fn end_at_read(e: Error) -> Result<bool, Fault>
+    ensures { IsErrAnd result (ReadIsToldAs e.kind) }
 {
     match e.kind {
-        ErrorKind::OutOfMemory => Fault::Memory,
-        ErrorKind::Device => Fault::Source,
-        kind => Fault::Framing(kind),
+        ErrorKind::OutOfMemory => Err(Fault::Memory),
+        ErrorKind::Device => Err(Fault::Source),
+        kind => Err(Fault::Framing(kind)),
     }
 }
 
@@ -231,7 +228,7 @@ pub(crate) fn step<I: MessageForm, O: MessageForm, R: BufRead, W: Write, L: Writ
     {
         Ok(Some(message)) => message,
         Ok(None) => return Ok(false),
-        Err(e) => return Err(source_fault(e)),
+        Err(e) => return end_at_read(e),
     };
     let answer = prepare(
         alloc,

@@ -69,15 +69,15 @@ returns-in_err-put_log g c =
 pub returns-in-Err : goal.returns-in-Err
 returns-in-Err g c =
     let read = c.in-Err.ensures.message in
-    let told = c.source_fault.ensures in
+    let told = err_from_is_err_and c.end_at_read.result c.end_at_read.ensures in
     let old = streams (source_seen g.R.Read.remaining g.R.Read.failures c.args.source.now) (sink_seen g.W.Write.contents g.W.Write.failures g.W.Write.room c.args.out.now) (sink_seen g.L.Write.contents g.L.Write.failures g.L.Write.room c.args.log.now) in
     let new = streams (source_seen g.R.Read.remaining g.R.Read.failures c.try_read_message.new.source) (sink_seen g.W.Write.contents g.W.Write.failures g.W.Write.room c.args.out.now) (sink_seen g.L.Write.contents g.L.Write.failures g.L.Write.room c.args.log.now) in
-    record {
-      run = Stops-of_read (work g.I.MessageForm.reader g.O.MessageForm.writer (Some c.args.limit) (g.A.Answers.is_answer c.args.answers.now) (g.A.Answers.is_too_large c.args.answers.now) g.W.Write.may_grow g.L.Write.may_grow) (g.I.MessageForm.faults) (c.args.answered + 1) old new c.args.counts.now read.part (Keeps-refl _, refl) (Keeps-refl _, refl) c.source_fault.result c.in-Err.e.kind
-          read.kind read.refused read.count told.memory told.device told.other;
+    rw told.1 (record {
+      run = Stops-of_read (work g.I.MessageForm.reader g.O.MessageForm.writer (Some c.args.limit) (g.A.Answers.is_answer c.args.answers.now) (g.A.Answers.is_too_large c.args.answers.now) g.W.Write.may_grow g.L.Write.may_grow) (g.I.MessageForm.faults) (c.args.answered + 1) old new c.args.counts.now read.part (Keeps-refl _, refl) (Keeps-refl _, refl) told.0 c.in-Err.e.kind
+          read.kind read.refused read.count told.2.memory told.2.device told.2.other;
       line = tt;
       zeros = refl;
-    }
+    })
 
 pub returns-in-Ok-None : goal.returns-in-Ok-None
 returns-in-Ok-None g c =
