@@ -1,5 +1,5 @@
 -- What a clause reads of a sink in a slice.
-use Rattle.std.specs.Prelude.{ℕ, ◌-◌, List, length, take}
+use Rattle.std.specs.Prelude.{ℕ, ◌-◌, List, length, take, drop}
 use Rattle.std.specs.Borrow.{MutBor}
 use Rattle.capnp_io.specs.declared.slice_writer.SliceWriter.{SliceWriter}
 
@@ -14,3 +14,7 @@ writer_contents w = take w.written w.slice.now
 -- How many bytes still fit.
 abbrev pub writer_room : SliceWriter → ℕ
 writer_room w = length w.slice.now - w.written
+
+-- The bytes of the slice behind those that were written.
+abbrev pub writer_rest : SliceWriter → List ℕ
+writer_rest w = drop w.written w.slice.now

@@ -1,6 +1,9 @@
 //! A sink in a slice.
-ghost use Rattle.std.specs.Prelude.{◌≡◌, ◌≤◌, ◌-◌, ◌+◌, [], Some, length};
+ghost use Rattle.std.specs.Prelude.{◌≡◌, ◌≢◌, ◌≤◌, ◌-◌, ◌+◌, [], Some, length, drop, IfErr, OnOk, OnErr};
+ghost use Rattle.std.specs.Io.KnownBytes.{Keeps, Appends};
 ghost use Rattle.capnp_units.specs.declared.kinds.ErrorKind.{ErrorKind};
+ghost use Rattle.capnp_io.specs.Counting.{Counts};
+ghost use Rattle.capnp_io.specs.Streams.{AppendsPart, RoomFalls, IsWriteRefusal};
 
 use crate::traits::Write;
 use capnp_units::errors::{Error, Result};
@@ -42,9 +45,9 @@ impl<'a> SliceWriter<'a> {
     }
 }
 
-/// The bytes go behind those that were written. Where they don't fit none is taken.
+/// The bytes go behind those that were written, and what is behind them stands. Where they don't fit the slice is left as it was.
 impl Write for SliceWriter<'_> {
-    ghost use Rattle.capnp_io.specs.SliceWriters.{writer_slice, writer_contents, writer_room};
+    ghost use Rattle.capnp_io.specs.SliceWriters.{writer_slice, writer_contents, writer_room, writer_rest};
 
     ghost contents = { λ w. Some (writer_contents w) };
 
@@ -52,7 +55,25 @@ impl Write for SliceWriter<'_> {
 
     ghost room = { λ w. Some (writer_room w) };
 
-    fn write_all(&mut self, buf: &[u8]) -> Result<()> {
+    fn write_all(&mut self, buf: &[u8]) -> Result<()>
+        ensures ok { OnOk result (Appends (Some (writer_contents self.old))
+            (Some (writer_contents self.new)) buf.now) }
+        ensures rest { OnOk result
+            (writer_rest self.new ≡ drop (length buf.now) (writer_rest self.old)) }
+        ensures falls { OnOk result (RoomFalls (Some (writer_room self.old))
+            (Some (writer_room self.new)) (length buf.now)) }
+        ensures err { OnErr result (AppendsPart (Some (writer_contents self.old))
+            (Some (writer_contents self.new)) buf.now) }
+        ensures refusal { IfErr result
+            (λ e. IsWriteRefusal ⊥ (Some (writer_room self.old)) (length buf.now) e.kind) }
+        ensures nothing { IfErr result (λ e. e.kind ≢ ErrorKind.Device
+            → Keeps (Some (writer_contents self.old)) (Some (writer_contents self.new))) }
+        ensures kept { IfErr result (λ e. e.kind ≢ ErrorKind.Device
+            → Some (writer_room self.new) ≡ Some (writer_room self.old)) }
+        ensures unchanged { OnErr result
+            ((writer_slice self.new).now ≡ (writer_slice self.old).now) }
+        ensures count { Counts result 0 0 }
+    {
         if self.room() < buf.len() {
             return Err(Error::from(ErrorKind::BufferNotLargeEnough));
         }
