@@ -1,0 +1,142 @@
+#!/usr/bin/env python3
+"""Refuses in seconds what would fail the gate after an hour: files out of layout, edits that no longer apply, dead links.
+
+usage: quick.py    (at the top of the repository)
+
+Prints a line for each fault, and ends with status 1 where there is one.
+"""
+import concurrent.futures
+import os
+import re
+import shutil
+import subprocess
+import sys
+import tempfile
+
+# The most wrong bodies in the repository, and in a crate.
+MOST_EDITS = 130
+MOST_EDITS_OF_A_CRATE = 8
+# The folders of a crate that hold its text, and the most lines of a file of code.
+PARTS = ("src", "specs", "proofs")
+MOST_LINES = 400
+
+
+def text_of(path):
+    with open(path, encoding="utf-8") as file:
+        return file.read()
+
+
+def files_below(folder):
+    for at, _, names in os.walk(folder):
+        for name in sorted(names):
+            yield os.path.join(at, name)
+
+
+def listed_crates():
+    """The crates that crates.txt names."""
+    lines = [line.split("#")[0].strip() for line in text_of("crates.txt").splitlines()]
+    return [line.split(":")[0].split()[0] for line in lines if line]
+
+
+def faults_of_crates(crates):
+    """Crates that are listed twice, or listed and not there, or there and not listed."""
+    there = {it for it in os.listdir("crates") if os.path.isdir(f"crates/{it}/src")}
+    yield from (f"crates.txt: {it} is listed twice" for it in set(crates) if crates.count(it) > 1)
+    yield from (f"crates.txt: crates/{it} is not there" for it in sorted(set(crates) - there))
+    yield from (f"crates/{it} is not in crates.txt" for it in sorted(there - set(crates)))
+
+
+def fault_of_edit(crate, path):
+    """Why an edit can't be applied to its crate, or nothing."""
+    file, old, pairs, texts = "", None, 0, {}
+    for line in text_of(path).split("\n"):
+        if line.startswith("file: "):
+            file = f"crates/{crate}/{line[len('file: '):].strip()}"
+        elif line.startswith("old: "):
+            old = line[len("old: "):]
+        elif line.startswith("new:"):
+            if not file or old is None:
+                return "a new text stands before any file or old text"
+            if file not in texts:
+                if not os.path.isfile(file):
+                    return f"{file} is not there"
+                texts[file] = text_of(file)
+            count = texts[file].count(old)
+            if count != 1:
+                return f"its old text stands in {file} {count} times, and not once: {old.strip()[:60]}"
+            texts[file] = texts[file].replace(old, line[len("new:"):].removeprefix(" "))
+            old, pairs = None, pairs + 1
+    return None if pairs else "it has no pair of an old and a new text"
+
+
+def faults_of_edits(crates):
+    """Edits that can't be applied, and crates that have too many."""
+    count = 0
+    for crate in crates:
+        folder = f"crates/{crate}/must-fail"
+        edits = sorted(os.listdir(folder)) if os.path.isdir(folder) else []
+        count += len(edits)
+        if len(edits) > MOST_EDITS_OF_A_CRATE:
+            yield f"{folder} has {len(edits)} edits, and {MOST_EDITS_OF_A_CRATE} are the most"
+        for name in edits:
+            why = fault_of_edit(crate, f"{folder}/{name}")
+            if why:
+                yield f"{folder}/{name}: {why}"
+    if count > MOST_EDITS:
+        yield f"there are {count} edits, and {MOST_EDITS} are the most"
+
+
+def faults_of_links():
+    """Links of the pages to files that are not there."""
+    pages = subprocess.run(["git", "ls-files", "*.md"], capture_output=True, text=True, check=True).stdout.split()
+    for page in pages:
+        text = re.sub(r"(?s)```.*?```", "", text_of(page))
+        for link in re.findall(r"\]\(([^)\s]+)\)", text):
+            target = link.split("#")[0]
+            if "://" in link or not target:
+                continue
+            if not os.path.exists(os.path.join(os.path.dirname(page), target)):
+                yield f"{page}: there is no {target}"
+
+
+def faults_of_lengths(crates):
+    """Files of code that are too long."""
+    for crate in crates:
+        for path in files_below(f"crates/{crate}/src"):
+            if path.endswith(".rt") and len(text_of(path).splitlines()) > MOST_LINES:
+                yield f"{path} has more than {MOST_LINES} lines"
+
+
+def faults_of_layout(crate, room):
+    """The files of a crate that rt fmt changes, tried on a copy."""
+    copy = f"{room}/crates/{crate}"
+    for part in PARTS:
+        if os.path.isdir(f"crates/{crate}/{part}"):
+            shutil.copytree(f"crates/{crate}/{part}", f"{copy}/{part}")
+    ran = subprocess.run(["rt", "fmt"], cwd=copy, capture_output=True, text=True)
+    if ran.returncode:
+        return [f"crates/{crate}: rt fmt can't lay it out: {(ran.stdout + ran.stderr).strip()[:200]}"]
+    changed = []
+    for path in files_below(copy):
+        own = os.path.relpath(path, room)
+        if os.path.isfile(own) and text_of(path) != text_of(own):
+            changed.append(f"{own} isn't in rt fmt's layout")
+    return changed
+
+
+def main():
+    crates = listed_crates()
+    found = [*faults_of_crates(crates), *faults_of_edits(crates), *faults_of_links(), *faults_of_lengths(crates)]
+    with tempfile.TemporaryDirectory() as room:
+        shutil.copy("crates.txt", room)
+        with concurrent.futures.ThreadPoolExecutor(os.cpu_count()) as pool:
+            for lines in pool.map(lambda it: faults_of_layout(it, room), crates):
+                found += lines
+    for line in found:
+        print(line)
+    print(f"quick look: {len(crates)} crates, {len(found)} faults")
+    return 1 if found or not crates else 0
+
+
+if __name__ == "__main__":
+    sys.exit(main())
