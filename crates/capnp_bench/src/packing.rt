@@ -1,45 +1,23 @@
 //! Unpacks and packs streams of messages, piece by piece.
 ghost use Rattle.std.specs.Prelude.{◌≡◌, ◌*◌, ◌%◌, ◌<◌, ◌≤◌, ◌^◌, length, IfOk};
 
-use crate::bytewise;
 use capnp_packing::streams::{PackedRead, PackedWrite};
 use capnp_stream::traits::Read;
 use capnp_units::errors::{Error, Result};
 use capnp_units::kinds::ErrorKind;
 
-/// A way to read and to write packed pieces.
-pub trait Pieces {
-    fn read(source: &mut &[u8], buf: &mut [u8]) -> Result<()>
-        requires { length buf.old % 8 ≡ 0 };
-
-    fn write(out: &mut Vec<u8>, bytes: &[u8]) -> Result<()>
-        requires { length bytes.now % 8 ≡ 0 };
+/// Unpacks the next bytes into whole words.
+fn read_words(source: &mut &[u8], buf: &mut [u8]) -> Result<()>
+    requires { length buf.old % 8 ≡ 0 }
+{
+    PackedRead { inner: source }.read_exact(buf)
 }
 
-/// In whole groups, as `capnp_packing` does.
-pub struct ByGroups;
-
-impl Pieces for ByGroups {
-    fn read(source: &mut &[u8], buf: &mut [u8]) -> Result<()> {
-        PackedRead { inner: source }.read_exact(buf)
-    }
-
-    fn write(out: &mut Vec<u8>, bytes: &[u8]) -> Result<()> {
-        PackedWrite { inner: out }.write_piece(bytes)
-    }
-}
-
-/// Byte by byte, as it was done before.
-pub struct ByBytes;
-
-impl Pieces for ByBytes {
-    fn read(source: &mut &[u8], buf: &mut [u8]) -> Result<()> {
-        bytewise::read_words(source, buf)
-    }
-
-    fn write(out: &mut Vec<u8>, bytes: &[u8]) -> Result<()> {
-        bytewise::write_words(out, bytes)
-    }
+/// Packs whole words.
+fn write_words(out: &mut Vec<u8>, bytes: &[u8]) -> Result<()>
+    requires { length bytes.now % 8 ≡ 0 }
+{
+    PackedWrite { inner: out }.write_piece(bytes)
 }
 
 /// A number of a table.
@@ -73,36 +51,36 @@ fn whole_length(first: usize, table: &[u8]) -> usize
 }
 
 /// Unpacks the next message, segments behind one another, and answers how many bytes its pieces have.
-pub fn unpack_message<P: Pieces>(source: &mut &[u8], words: &mut [u8]) -> Result<usize> {
+pub fn unpack_message(source: &mut &[u8], words: &mut [u8]) -> Result<usize> {
     let mut head = [0u8; 8];
-    P::read(source, &mut head)?;
+    read_words(source, &mut head)?;
     let (table, first) = first_lengths(&head);
     if table > words.len() {
         return Err(Error::from(ErrorKind::BufferNotLargeEnough));
     }
-    P::read(source, &mut words[..table])?;
+    read_words(source, &mut words[..table])?;
     let segments = whole_length(first, &words[..table]);
     if segments > words.len() {
         return Err(Error::from(ErrorKind::BufferNotLargeEnough));
     }
-    P::read(source, &mut words[..segments])?;
+    read_words(source, &mut words[..segments])?;
     Ok(8 + table + segments)
 }
 
 /// Writes the first bytes as a segment, and answers those behind it.
-fn pack_segment<'a, P: Pieces>(out: &mut Vec<u8>, words: &'a [u8], len: usize) -> Result<&'a [u8]>
+fn pack_segment<'a>(out: &mut Vec<u8>, words: &'a [u8], len: usize) -> Result<&'a [u8]>
     requires { len % 8 ≡ 0 }
 {
     if len > words.len() {
         return Err(Error::from(ErrorKind::PrematureEndOfFile));
     }
     let (segment, behind) = words.split_at(len);
-    P::write(out, segment)?;
+    write_words(out, segment)?;
     Ok(behind)
 }
 
 /// Packs the framed message at the front, and answers the bytes behind it.
-pub fn pack_message<'a, P: Pieces>(out: &mut Vec<u8>, framed: &'a [u8]) -> Result<&'a [u8]> {
+pub fn pack_message<'a>(out: &mut Vec<u8>, framed: &'a [u8]) -> Result<&'a [u8]> {
     let Some((head, behind)) = framed.split_first_chunk::<8>() else {
         return Err(Error::from(ErrorKind::PrematureEndOfFile));
     };
@@ -111,13 +89,13 @@ pub fn pack_message<'a, P: Pieces>(out: &mut Vec<u8>, framed: &'a [u8]) -> Resul
         return Err(Error::from(ErrorKind::PrematureEndOfFile));
     }
     let (mut left, segments) = behind.split_at(table);
-    P::write(out, head)?;
+    write_words(out, head)?;
     if !left.is_empty() {
-        P::write(out, left)?;
+        write_words(out, left)?;
     }
-    let mut words = pack_segment::<P>(out, segments, first)?;
+    let mut words = pack_segment(out, segments, first)?;
     while let Some((size, rest)) = left.split_first_chunk::<4>() {
-        words = pack_segment::<P>(out, words, number(size) * 8)?;
+        words = pack_segment(out, words, number(size) * 8)?;
         left = rest;
     }
     Ok(words)

@@ -1,5 +1,5 @@
 //! Unpacks and packs files of messages, many times over.
-use crate::packing::{ByBytes, ByGroups, Pieces, pack_message, unpack_message};
+use crate::packing::{pack_message, unpack_message};
 use capnp_units::errors::Result;
 use std::time::Instant;
 use std::{fs, io};
@@ -14,7 +14,7 @@ struct Round {
     bytes: u64,
 }
 
-fn unpack_all<P: Pieces>(text: &[u8], words: &mut [u8]) -> Result<Round> {
+fn unpack_all(text: &[u8], words: &mut [u8]) -> Result<Round> {
     let mut source = text;
     let mut round = Round {
         messages: 0,
@@ -24,21 +24,21 @@ fn unpack_all<P: Pieces>(text: &[u8], words: &mut [u8]) -> Result<Round> {
         if source.is_empty() {
             break;
         }
-        let len = unpack_message::<P>(&mut source, words)?;
+        let len = unpack_message(&mut source, words)?;
         round.messages = round.messages.wrapping_add(1);
         round.bytes = round.bytes.wrapping_add(len as u64);
     }
     Ok(round)
 }
 
-fn pack_all<P: Pieces>(framed: &[u8], out: &mut Vec<u8>) -> Result<Round> {
+fn pack_all(framed: &[u8], out: &mut Vec<u8>) -> Result<Round> {
     let mut left = framed;
     let mut messages = 0u64;
     for _ in 0..framed.len() {
         if left.is_empty() {
             break;
         }
-        left = pack_message::<P>(out, left)?;
+        left = pack_message(out, left)?;
         messages = messages.wrapping_add(1);
     }
     Ok(Round {
@@ -67,14 +67,6 @@ fn tell_best(rt: &HostRuntime, what: &str, bytes: usize, best: u64) -> io::Resul
     eprintln!(rt; "{what}: {rate} bytes a second")
 }
 
-/// Says what both ways gave, and how fast each was in its fastest round.
-fn tell_both(rt: &HostRuntime, what: &str, bytes: usize, before: u64, now: u64) -> io::Result<()> {
-    tell_best(rt, "byte by byte", bytes, before)?;
-    tell_best(rt, "by groups", bytes, now)?;
-    let hundredths = before as u128 * 100 / now.max(1) as u128;
-    eprintln!(rt; "{what}: {hundredths} hundredths as fast")
-}
-
 fn tell_round(rt: &HostRuntime, round: &Result<Round>, bytes: &[u8]) -> io::Result<()> {
     match round {
         Ok(round) => println!(rt;
@@ -87,24 +79,24 @@ fn tell_round(rt: &HostRuntime, round: &Result<Round>, bytes: &[u8]) -> io::Resu
     }
 }
 
-fn unpack_round<P: Pieces>(
+fn unpack_round(
     rt: &HostRuntime,
     text: &[u8],
     words: &mut [u8],
 ) -> io::Result<(Result<Round>, u64)> {
     let start = Instant::now(rt)?;
-    let round = unpack_all::<P>(text, words);
+    let round = unpack_all(text, words);
     Ok((round, nanos(rt, start)?))
 }
 
-fn pack_round<P: Pieces>(
+fn pack_round(
     rt: &HostRuntime,
     framed: &[u8],
     out: &mut Vec<u8>,
 ) -> io::Result<(Result<Round>, u64)> {
     out.clear();
     let start = Instant::now(rt)?;
-    let round = pack_all::<P>(framed, out);
+    let round = pack_all(framed, out);
     Ok((round, nanos(rt, start)?))
 }
 
@@ -112,9 +104,9 @@ fn pack_round<P: Pieces>(
 pub fn unpack(rt: &HostRuntime, path: &str, rounds: u32) -> io::Result<()> {
     let text = fs::read(rt, path)?;
     let mut words = vec![in rt.alloc(); 0u8; MOST]?;
-    let (mut last, mut best) = unpack_round::<ByGroups>(rt, &text, &mut words)?;
+    let (mut last, mut best) = unpack_round(rt, &text, &mut words)?;
     for _ in 0..rounds {
-        let (round, time) = unpack_round::<ByGroups>(rt, &text, &mut words)?;
+        let (round, time) = unpack_round(rt, &text, &mut words)?;
         last = round;
         best = best.min(time);
     }
@@ -126,38 +118,12 @@ pub fn unpack(rt: &HostRuntime, path: &str, rounds: u32) -> io::Result<()> {
 pub fn pack(rt: &HostRuntime, path: &str, rounds: u32) -> io::Result<()> {
     let framed = fs::read(rt, path)?;
     let mut out = Vec::new(rt.alloc());
-    let (mut last, mut best) = pack_round::<ByGroups>(rt, &framed, &mut out)?;
+    let (mut last, mut best) = pack_round(rt, &framed, &mut out)?;
     for _ in 0..rounds {
-        let (round, time) = pack_round::<ByGroups>(rt, &framed, &mut out)?;
+        let (round, time) = pack_round(rt, &framed, &mut out)?;
         last = round;
         best = best.min(time);
     }
     tell_best(rt, "packed", out.len(), best)?;
     tell_round(rt, &last, &out)
-}
-
-/// Unpacks a file both ways in turn, so many times, and packs another so.
-pub fn compare(rt: &HostRuntime, packed: &str, framed: &str, rounds: u32) -> io::Result<()> {
-    let text = fs::read(rt, packed)?;
-    let mut words = vec![in rt.alloc(); 0u8; MOST]?;
-    let (round, mut before) = unpack_round::<ByBytes>(rt, &text, &mut words)?;
-    tell_round(rt, &round, &words)?;
-    let (round, mut now) = unpack_round::<ByGroups>(rt, &text, &mut words)?;
-    tell_round(rt, &round, &words)?;
-    for _ in 0..rounds {
-        before = before.min(unpack_round::<ByBytes>(rt, &text, &mut words)?.1);
-        now = now.min(unpack_round::<ByGroups>(rt, &text, &mut words)?.1);
-    }
-    tell_both(rt, "unpacking", text.len(), before, now)?;
-    let framed = fs::read(rt, framed)?;
-    let mut out = Vec::new(rt.alloc());
-    let (round, mut before) = pack_round::<ByBytes>(rt, &framed, &mut out)?;
-    tell_round(rt, &round, &out)?;
-    let (round, mut now) = pack_round::<ByGroups>(rt, &framed, &mut out)?;
-    tell_round(rt, &round, &out)?;
-    for _ in 0..rounds {
-        before = before.min(pack_round::<ByBytes>(rt, &framed, &mut out)?.1);
-        now = now.min(pack_round::<ByGroups>(rt, &framed, &mut out)?.1);
-    }
-    tell_both(rt, "packing", out.len(), before, now)
 }

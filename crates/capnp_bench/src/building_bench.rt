@@ -1,24 +1,14 @@
 //! Makes builder calls so many times, so that their instructions can be counted.
-//!
-//! The words that are given to the program are what to do and how often: `fields` tests that a struct's words are there and sets a number through a handle, `tests` tests once more behind that, `structs` makes structs of four words behind the pointers of a list, `slots` goes over the pointers alone, `bytes` makes lists of 64 KiB, and `fill` fills as many bytes with zeros. What was made is printed on standard output.
-#![tactic(auto)]
+ghost use Rattle.std.specs.Prelude.{◌≤◌, length};
 
-ghost use Rattle.std.specs.Prelude.{◌≡◌, ◌≤◌, length};
-
-mod building;
-mod segments;
-
-use building::Task;
+use crate::building::{self, Task};
+use crate::segments::Large;
 use capnp_copy::allocator::Allocator;
 use capnp_copy::arena::Memory;
 use capnp_copy::segments::BuilderArenaImpl;
 use capnp_units::errors::Result;
-use segments::Large;
 use std::alloc::Global;
-use std::{env, io};
-
-/// What is done where no word is given, and how often.
-const COUNT: u32 = 100;
+use std::io;
 
 /// Builds a message in segments of an allocator, which is handed back.
 fn build_in<A: Allocator + Drop>(
@@ -61,17 +51,8 @@ fn made(alloc: Global, word: &str, count: u32) -> Result<u64> {
     made
 }
 
-fn main(rt: HostRuntime) -> io::Result<()> {
-    let mut given = env::args(&rt)?;
-    let (word, times) = (given.nth(1), given.next());
-    let count = match times {
-        Some(text) => text.parse::<u32>().unwrap_or(COUNT),
-        None => COUNT,
-    };
-    let word = match &word {
-        Some(word) => word.as_str(),
-        None => "fields",
-    };
+/// Does what a word names so many times, and prints what was made.
+pub fn build(rt: &HostRuntime, word: &str, count: u32) -> io::Result<()> {
     match made(rt.alloc(), word, count) {
         Ok(made) => println!(rt; "{word}: {made}"),
         Err(e) => println!(rt; "{word}: {e}"),
