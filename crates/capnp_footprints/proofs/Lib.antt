@@ -1,8 +1,6 @@
 pub mod lemmas
 mod Clearing
-mod Cleared
 mod MovedChildren
-mod NewObjects
 mod CanonicalWords
 mod Counting
 mod Depths

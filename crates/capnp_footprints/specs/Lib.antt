@@ -6,6 +6,4 @@ pub mod Children
 pub mod NewObjects
 pub mod Detached
 pub mod Rows
-pub mod Turns
-pub mod Beside
 pub mod Totals

@@ -5,7 +5,3 @@ pub mod laws;
 pub mod laws_of_canonical_words;
 pub mod laws_of_clearing;
 pub mod laws_of_depths;
-pub mod laws_of_detached_objects;
-pub mod laws_of_moves;
-pub mod laws_of_new_objects;
-pub mod laws_of_rows;

@@ -5,9 +5,8 @@ ghost use Rattle.capnp_object.specs.Arenas.{segment_bytes};
 ghost use Rattle.capnp_object.specs.Places.{place_view};
 ghost use Rattle.capnp_object.specs.Near.{list_object, struct_object, IsMeasured, IsNear};
 
-use crate::arena::ReaderArena;
 use crate::lists::NearList;
-use crate::place::{Place, begins_at, reach, segment_bytes, word_in};
+use crate::place::{Place, begins_at, reach, word_in};
 use crate::structs::NearStruct;
 use crate::word_pointer::{WordPointer, pointer_of_word};
 use capnp_units::sizes::StructSize;
@@ -15,19 +14,9 @@ use capnp_units::sizes::StructSize;
 /// The numbers of the sizes of plain elements are below this one.
 const PLAIN_SIZES: u64 = 6;
 
-/// The list that the pointer at a place names, where it is one of plain elements in the same segment, without a landing pad, and its words are there. It is what `object_at` tells of the place, got sooner: the segment is asked for once.
+/// The list that the pointer at a place names, where it is one of plain elements in the same segment, without a landing pad, and its words are there. It is what `object_at` tells of the place. The segment is the one of these bytes, and isn't asked for.
 ///
 /// `None` has no meaning: whatever is there, a list too, `object_at` tells it or refuses it.
-#[inline(always)]
-pub fn near_list<A: ReaderArena>(arena: &A, place: Place) -> Option<NearList>
-    ensures near { IfSome result (λ list.
-        IsNear (words_in (A.segments arena.now)) (place_view place) (list_object list)) }
-    ensures measured { IfSome result IsMeasured }
-{
-    near_list_in(segment_bytes(arena, place.segment), place)
-}
-
-/// The same of a place in the segment of these bytes, which isn't asked for.
 #[inline(always)]
 pub fn near_list_in(bytes: &[u8], place: Place) -> Option<NearList>
     ensures near { (segments : List (List ℕ)) → bytes.now ≡ segment_bytes segments place.segment
@@ -62,18 +51,9 @@ pub fn near_list_in(bytes: &[u8], place: Place) -> Option<NearList>
     Some(list)
 }
 
-/// The struct that the pointer at a place names, where it lies in the same segment, without a landing pad, and its words are there. It is what `object_at` tells of the place, got sooner: the segment is asked for once.
+/// The struct that the pointer at a place names, where it lies in the same segment, without a landing pad, and its words are there. It is what `object_at` tells of the place. The segment is the one of these bytes, and isn't asked for.
 ///
 /// `None` has no meaning: whatever is there, a struct too, `object_at` tells it or refuses it.
-#[inline(always)]
-pub fn near_struct<A: ReaderArena>(arena: &A, place: Place) -> Option<NearStruct>
-    ensures { IfSome result (λ near.
-        IsNear (words_in (A.segments arena.now)) (place_view place) (struct_object near)) }
-{
-    near_struct_in(segment_bytes(arena, place.segment), place)
-}
-
-/// The same of a place in the segment of these bytes, which isn't asked for.
 #[inline(always)]
 pub fn near_struct_in(bytes: &[u8], place: Place) -> Option<NearStruct>
     ensures near { (segments : List (List ℕ)) → bytes.now ≡ segment_bytes segments place.segment

@@ -6,5 +6,4 @@ mod Levels
 mod Tested
 mod InTurn
 mod AtRoot
-mod Copied
 mod CallWays

@@ -1,4 +1,3 @@
 pub mod Runs
-pub mod Written
 pub mod Ends
 pub mod Handles

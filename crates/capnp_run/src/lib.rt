@@ -6,4 +6,3 @@ pub mod fault;
 mod long;
 pub mod root;
 pub mod run;
-pub mod written;
