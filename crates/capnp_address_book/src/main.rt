@@ -5,14 +5,10 @@ ghost use Rattle.std.specs.Prelude.{◌≡◌, ◌<◌};
 ghost use Rattle.capnp_message.specs.Built.{words_held, loans_held};
 ghost use Rattle.capnp_message.specs.Placed.{StructLies};
 
-use capnp_builders::pointer_builder::PointerBuilder;
-use capnp_builders::struct_builder::StructBuilder;
+use capnp_layout::{PointerBuilder, PointerReader, Result, StructBuilder, text};
 use capnp_message::message::{Allocator, Builder, DEFAULT_READER_OPTIONS};
 use capnp_message::placed::{PlacedStruct, StructPlace, StructSize};
 use capnp_message::serialize_packed::{read_message, write_message};
-use capnp_text::text;
-use capnp_units::errors::Result;
-use capnp_wire::pointer::PointerReader;
 use std::alloc::Global;
 
 /// A person of the address book that is built, where it lies: pointers to a name and a mail address.
