@@ -171,23 +171,24 @@ second_missing s h = by (slice_get s 1) refl
 -- ---- what is told of a message
 
 pub more_segments : (n : ℕ) (s : Segments) (l : ReadLimiter) → is_some (words_at s (place 1 0) 0) ≡ true → TellsMessage n s l (Ok false) l
-more_segments n s l h = ((λ small. two_segments n s (second_there s h)), began_none (visits n s root) l)
+more_segments n s l h = ((λ small. two_segments n s (second_there s h)), began_none (visits n s root) l, (λ _. refl))
 
 pub message_tells : (n : ℕ) (s : Segments) (l m : ReadLimiter) (after : Place) (more : Bool) → is_some (words_at s (place 1 0) 0) ≡ false → more ≡ is_some (words_at s after 1) → after.segment ≡ 0
     → Agrees (tree_at n s root) has_capability (λ t end. IsBehind s root 1 (place 0 1) × Stands s root 1 (trim t) end) (visits n s root) l after.position m → TellsMessage n s l (Ok (not more)) m
 message_tells n s l m after true alone is at x =
     let stand = x.stand in
     let there : is_some (words_at s (place 0 after.position) 1) ≡ true = ap (λ (i : ℕ). is_some (words_at s (place i after.position) 1)) (sym at) ∙ sym is in
-    ((λ small. words_left n s x.what after.position x.there_is stand.1 there), record { before = visits n s root; rest = []; path_is = sym (append-nil (visits n s root)); walked = x.walked })
+    ((λ small. words_left n s x.what after.position x.there_is stand.1 there), record { before = visits n s root; rest = []; path_is = sym (append-nil (visits n s root)); walked = x.walked }, (λ second. absurd cc))
 message_tells n s l m after false alone is at x =
     let stand = x.stand in
     let past : is_some (words_at s (place 0 after.position) 1) ≡ false = ap (λ (i : ℕ). is_some (words_at s (place i after.position) 1)) (sym at) ∙ sym is in
     (message_is n s x.what after.position (second_missing s alone) x.there_is x.clean stand.1 past, x.walked)
 
-pub message_differs : (n : ℕ) (s : Segments) (l m : ReadLimiter) → Differs (tree_at n s root) has_capability (λ t end. IsBehind s root 1 (place 0 1) × Stands s root 1 (trim t) end) (IsSmall s root) (visits n s root) l m → TellsMessage n s l (Ok false) m
-message_differs n s l m x = (
+pub message_differs : (n : ℕ) (s : Segments) (l m : ReadLimiter) → is_some (words_at s (place 1 0) 0) ≡ false → Differs (tree_at n s root) has_capability (λ t end. IsBehind s root 1 (place 0 1) × Stands s root 1 (trim t) end) (IsSmall s root) (visits n s root) l m → TellsMessage n s l (Ok false) m
+message_differs n s l m alone x = (
   (λ small. never_true (is_canonical_message n s) (λ e.
       let a = message_stands n s e in
       x.apart small a.0 (length (canonical_words (trim a.0))) a.1 a.2 (a.4, a.5))),
   x.began,
+  (λ second. absurd cc),
 )

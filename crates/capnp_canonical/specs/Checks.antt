@@ -1,7 +1,7 @@
 -- What a walk tells that looks whether values stand as canonical words.
 use Rattle.std.specs.Prelude.{◌≡◌, ℕ, ◌+◌, ◌*◌, ◌^◌, ◌<◌, ◌≤◌, Bool, true, false, List, ◌++◌, Option, Some, None, Result, Ok, Err}
 use Rattle.std.specs.Option.{is_some}
-use Rattle.capnp_model.specs.Segments.{Segments, Place, root, after, words_at}
+use Rattle.capnp_model.specs.Segments.{Segments, Place, place, root, after, words_at}
 use Rattle.capnp_model.specs.Canonical.{is_canonical_message}
 use Rattle.capnp_model.specs.Trees.{Trees, structure, has_capability, have_capability, elements_have_capability}
 use Rattle.capnp_model.specs.Traversal.{tree_at, each, each_element}
@@ -87,8 +87,12 @@ pub record StandsStruct (s : Segments) (p : Place) (d k : ℕ) (head : Place) (t
 abbrev pub TellsStruct : ℕ → Segments → Place → ℕ → ℕ → Place → ReadLimiter → Result Bool Error → Place → ReadLimiter → Type 0
 TellsStruct n s p d k head = Tells (each (tree_at n s) (after p d) k) have_capability (StandsStruct s p d k head) (IsSmall s p) (from_each (visits n s) (after p d) k) head
 
--- What is told of a message: whether it is one segment of the canonical words of its value.
+-- A second segment is there.
+abbrev pub has_second : Segments → Bool
+has_second s = is_some (words_at s (place 1 0) 0)
+
+-- What is told of a message: whether it is one segment of the canonical words of its value. Where a second segment is there it is not, and nothing was followed.
 abbrev pub TellsMessage : ℕ → Segments → ReadLimiter → Result Bool Error → ReadLimiter → Type 0
 TellsMessage n s old (Ok true) new = (is_canonical_message n s ≡ true) × Walked (visits n s root) old new
-TellsMessage n s old (Ok false) new = (IsSmall s root → is_canonical_message n s ≡ false) × Began (visits n s root) old new
-TellsMessage n s old (Err e) new = Stopped (visits n s root) old e new
+TellsMessage n s old (Ok false) new = (IsSmall s root → is_canonical_message n s ≡ false) × Began (visits n s root) old new × (has_second s ≡ true → new ≡ old)
+TellsMessage n s old (Err e) new = Stopped (visits n s root) old e new × (has_second s ≡ false)

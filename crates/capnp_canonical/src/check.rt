@@ -87,7 +87,7 @@ pub fn is_canonical_struct<A: ReaderArena>(
     are_canonical(arena, limiter, first, size.pointers as u32, levels, head)
 }
 
-/// Whether a message is one segment of the canonical words of its value. Where there is a second segment no pointer is followed.
+/// Whether a message is one segment of the canonical words of its value. Where there is a second segment it is not, no pointer is followed, and nothing is paid.
 ///
 /// It is refused as `is_canonical` is. A no is exact where the segment has at most 2^29 - 1 words.
 pub fn is_canonical_message<A: ReaderArena>(

@@ -8,3 +8,4 @@ mod GroupLemmas
 mod PieceLemmas
 mod RunLemmas
 mod SizeLemmas
+mod LeftLemmas

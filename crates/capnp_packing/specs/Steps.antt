@@ -1,12 +1,13 @@
 -- What was unpacked of bytes that are shown. (Encoding, "Packing")
-use Rattle.std.specs.Prelude.{◌≡◌, ℕ, ◌-◌, ◌/◌, ◌%◌, ◌≤◌, ◌<◌, List, ◌++◌, length, take, drop, get_or, Ok}
+use Rattle.std.specs.Prelude.{◌≡◌, ℕ, ◌-◌, ◌/◌, ◌%◌, ◌≤◌, ◌<◌, List, ◌++◌, length, take, drop, get_or, replicate, Ok}
 use Rattle.std.specs.Int.{w64, from_le_bytes}
 use Rattle.capnp_model.specs.Bytes.{words_in_bytes}
 use Rattle.capnp_model.specs.Packing as model
 use Rattle.capnp_model.specs.Packing.{group_at, unpacked_from}
 use Rattle.std.specs.declared.option.Option.{Option}
 use Rattle.capnp_stream.specs.Pieces.{EachIsNeeded}
-use Rattle.capnp_packing.specs.Parts.{Leads, with_front, tagged}
+use Rattle.capnp_units.specs.declared.kinds.ErrorKind.{ErrorKind}
+use Rattle.capnp_packing.specs.Parts.{Leads, Refuses, with_front, tagged}
 use Rattle.capnp_packing.specs.Tags.{marks}
 use Rattle.capnp_packing.specs.Runs.{run_view, IsOver}
 use Rattle.capnp_packing.specs.declared.runs.Run.{Run}
@@ -52,3 +53,11 @@ pub record Reads (run : Run) (old new : Option (List ℕ)) (buf : List ℕ) (ste
   pub fits : step.filled ≤ length buf
   pub whole : step.filled % 8 ≡ 0
   pub leads : Leads (unpacked_from (length buf / 8) (run_view run)) old new (λ more. with_front (words_in_bytes (step.filled / 8) (take step.filled buf)) (unpacked_from ((length buf - step.filled) / 8) (run_view step.run) more))
+
+-- What a refused unpacking of a piece, from inside a run on, leaves in a buffer: at its front words that were taken, and zeros behind them. The words that were to follow are refused.
+pub record Leaves (run : Run) (old new : Option (List ℕ)) (buf : List ℕ) (kind : ErrorKind) : Type 0 where
+  pub step : Step
+  pub reached : Option (List ℕ)
+  pub reads : Reads run old reached buf step
+  pub fault : Refuses (unpacked_from ((length buf - step.filled) / 8) (run_view step.run)) reached new kind
+  pub zeros : drop step.filled buf ≡ replicate (length buf - step.filled) 0

@@ -6,6 +6,8 @@ use Rattle.std.specs.Io.KnownBytes.{Keeps, IsAtEnd}
 use Rattle.capnp_model.specs.Packing.{unpacked}
 use Rattle.capnp_stream.specs.Pieces.{TakesPiece}
 use Rattle.capnp_packing.specs.Parts.{Refuses}
+use Rattle.capnp_packing.specs.Steps.{Leaves}
+use Rattle.capnp_packing.specs.declared.runs.Run.TheVariants.{First}
 use Rattle.capnp_units.specs.declared.errors.Error.{Error}
 use Rattle.capnp_units.specs.declared.kinds.ErrorKind.{ErrorKind}
 use Rattle.capnp_units.specs.declared.kinds.ErrorKind.TheVariants.{FailedToFillTheWholeBuffer, PrematureEndOfPackedInput, PackedInputDidNotEndCleanlyOnASegmentBoundary, BufferNotLargeEnough, Device}
@@ -33,7 +35,15 @@ pub record ReadsPiece (count len : ℕ) (old new : Option (List ℕ)) (words : L
 
 -- Why a buffer of so many bytes wasn't read: it ends in a part of a word, and nothing was taken, or the bytes begin with no such piece, or the device failed.
 abbrev pub RefusesPiece : ℕ → Option (List ℕ) → Option (List ℕ) → ErrorKind → Type 0
-RefusesPiece len old new kind = ((kind ≡ BufferNotLargeEnough) × (len % 8 ≢ 0) × Keeps old new) ⊎ Refuses (unpacked (len / 8)) old new kind
+RefusesPiece len old new kind = ((kind ≡ BufferNotLargeEnough) × (len % 8 ≢ 0) × Keeps old new) ⊎ ((len % 8 ≡ 0) × Refuses (unpacked (len / 8)) old new kind)
+
+-- What a refused piece leaves in its buffer: words that were taken, and zeros behind them.
+abbrev pub LeavesPiece : Option (List ℕ) → Option (List ℕ) → List ℕ → ErrorKind → Type 0
+LeavesPiece old new buf kind = Leaves First old new buf kind
+
+-- The same, or nothing was taken and the buffer is as it was.
+abbrev pub LeavesBuffer : List ℕ → Option (List ℕ) → Option (List ℕ) → List ℕ → ErrorKind → Type 0
+LeavesBuffer before old new after kind = ((after ≡ before) × Keeps old new) ⊎ LeavesPiece old new after kind
 
 -- What a call that reads at most one piece into a buffer of so many bytes promises of the bytes that are left before and after it. The buffer then has these words.
 pub record TriesPiece (len : ℕ) (old : Option (List ℕ)) (result : Result ℕ Error) (new : Option (List ℕ)) (words : List ℕ) : Type 0 where

@@ -1,11 +1,15 @@
 //! The packed form of messages.
+ghost use Rattle.std.specs.Prelude.{◌≡◌, ◌/◌, ◌%◌, length, IfErr, OnOk, OnErr};
 ghost use Rattle.capnp_model.specs.Packing.{packed, unpacked};
-ghost use Rattle.capnp_packing.specs.Streams.{is_packed_fault};
+ghost use Rattle.capnp_io.specs.Counting.{Counts};
+ghost use Rattle.capnp_stream.specs.Pieces.{TakesPiece, TakesPieceStart, IsPieceFault, IsPieceKind};
+ghost use Rattle.capnp_stream.specs.Segments.{whole_words};
+ghost use Rattle.capnp_packing.specs.Streams.{LeavesPiece, is_packed_fault};
 
 use crate::packing::write_words;
 use crate::unpacking::read_words;
 use capnp_stream::forms::MessageForm;
-use capnp_stream::traits::{BufRead, Write};
+use capnp_stream::traits::{BufRead, Read, Write};
 use capnp_units::errors::Result;
 
 /// Words in groups, each a tag byte and the bytes that aren't zero, with runs of zero words and of words as they are.
@@ -25,7 +29,20 @@ impl MessageForm for Packed {
 
     ghost faults = { is_packed_fault };
 
-    fn read_piece<R: BufRead>(source: &mut R, buf: &mut [u8]) -> Result<()> {
+    /// After a refusal the buffer holds words in front of the fault, and zeros behind them.
+    fn read_piece<R: BufRead>(source: &mut R, buf: &mut [u8]) -> Result<()>
+        requires { length buf.old % 8 ≡ 0 }
+        ensures ok { OnOk result (TakesPiece unpacked (R.remaining source.old)
+            (R.remaining source.new) (whole_words buf.new)) }
+        ensures kind { IfErr result
+            (λ e. IsPieceFault unpacked (length buf.old / 8) (R.remaining source.old) e.kind) }
+        ensures own { IfErr result (λ e. IsPieceKind is_packed_fault e.kind) }
+        ensures part { OnErr result (TakesPieceStart unpacked (length buf.old / 8)
+            (R.remaining source.old) (R.remaining source.new)) }
+        ensures count { Counts result (R.failures source.old) (R.failures source.new) }
+        ensures left { IfErr result (λ e.
+            LeavesPiece (R.remaining source.old) (R.remaining source.new) buf.new e.kind) }
+    {
         read_words(source, buf)
     }
 

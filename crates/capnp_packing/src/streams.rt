@@ -8,7 +8,7 @@ ghost use Rattle.capnp_io.specs.Counting.{Counts};
 ghost use Rattle.capnp_stream.specs.Segments.{whole_words};
 ghost use Rattle.capnp_io.specs.Streams.{ConsumesFewer, EndsBefore};
 ghost use Rattle.capnp_io.specs.Writes.{Writes, sink_seen};
-ghost use Rattle.capnp_packing.specs.Streams.{IsUnpackingKind, TriesPiece, FillsWithPiece};
+ghost use Rattle.capnp_packing.specs.Streams.{IsUnpackingKind, TriesPiece, FillsWithPiece, LeavesBuffer};
 
 use crate::bytes::is_at_end;
 use crate::packing::write_words;
@@ -32,7 +32,7 @@ impl<R: BufRead> Read for PackedRead<R> {
 
     /// Fills `buf`, which has whole words, with one piece, and answers its length in bytes; 0 where it is empty, or no byte is left.
     ///
-    /// `BufferNotLargeEnough`: `buf` ends in a part of a word; nothing is taken. `Device`: the source failed; any other kind says why the bytes that are left begin with no such piece. Then less than the piece was taken.
+    /// `BufferNotLargeEnough`: `buf` ends in a part of a word; nothing is taken. `Device`: the source failed; any other kind says why the bytes that are left begin with no such piece. Then less than the piece was taken, and `buf` is as it was, or holds words in front of the fault and zeros behind them.
     fn read(&mut self, buf: &mut [u8]) -> Result<usize>
         ensures bound { ReadsAtMost result buf.new }
         ensures bytes { ReadConsumes None None result buf.new }
@@ -40,6 +40,8 @@ impl<R: BufRead> Read for PackedRead<R> {
         ensures count { Counts result (R.failures self.old.inner) (R.failures self.new.inner) }
         ensures piece { TriesPiece (length buf.old) (R.remaining self.old.inner) result
             (R.remaining self.new.inner) (whole_words buf.new) }
+        ensures left { IfErr result (λ e. LeavesBuffer buf.old (R.remaining self.old.inner)
+            (R.remaining self.new.inner) buf.new e.kind) }
     {
         if buf.len() % 8 != 0 {
             return Err(Error::from(ErrorKind::BufferNotLargeEnough));
@@ -53,7 +55,7 @@ impl<R: BufRead> Read for PackedRead<R> {
 
     /// Fills `buf`, which has whole words, with one piece.
     ///
-    /// `BufferNotLargeEnough`: `buf` ends in a part of a word; nothing is taken. `Device`: the source failed; any other kind says why the bytes that are left begin with no such piece. Then less than the piece was taken.
+    /// `BufferNotLargeEnough`: `buf` ends in a part of a word; nothing is taken. `Device`: the source failed; any other kind says why the bytes that are left begin with no such piece. Then less than the piece was taken, and `buf` is as it was, or holds words in front of the fault and zeros behind them.
     fn read_exact(&mut self, buf: &mut [u8]) -> Result<()>
         ensures ok { OnOk result (Consumes None None buf.new) }
         ensures part { IfErr result (λ e.
@@ -63,6 +65,8 @@ impl<R: BufRead> Read for PackedRead<R> {
         ensures count { Counts result (R.failures self.old.inner) (R.failures self.new.inner) }
         ensures piece { FillsWithPiece (length buf.old) (R.remaining self.old.inner) result
             (R.remaining self.new.inner) (whole_words buf.new) }
+        ensures left { IfErr result (λ e. LeavesBuffer buf.old (R.remaining self.old.inner)
+            (R.remaining self.new.inner) buf.new e.kind) }
     {
         if buf.len() % 8 != 0 {
             return Err(Error::from(ErrorKind::BufferNotLargeEnough));

@@ -9,7 +9,8 @@ ghost use Rattle.capnp_io.specs.Counting.{Counts};
 ghost use Rattle.capnp_stream.specs.Segments.{whole_words};
 ghost use Rattle.capnp_packing.specs.Parts.{Leads, Takes, Refuses, count_at, tagged};
 ghost use Rattle.capnp_packing.specs.Runs.{run_view, IsOver};
-ghost use Rattle.capnp_packing.specs.Steps.{Reads};
+ghost use Rattle.capnp_packing.specs.Steps.{Reads, Leaves};
+ghost use Rattle.capnp_packing.specs.Streams.{LeavesPiece};
 
 use crate::bytes::byte_or;
 use crate::runs::Run;
@@ -232,6 +233,8 @@ fn read_rest<R: BufRead>(source: &mut R, run: Run, buf: &mut [u8]) -> Result<()>
     ensures refused { IfErr result (λ e.
         Refuses (unpacked_from (length buf.old / 8) (run_view run)) (R.remaining source.old)
         (R.remaining source.new) e.kind) }
+    ensures left { IfErr result (λ e.
+        Leaves run (R.remaining source.old) (R.remaining source.new) buf.new e.kind) }
     ensures count { Counts result (R.failures source.old) (R.failures source.new) }
 {
     let mut run = run;
@@ -253,6 +256,8 @@ pub(crate) fn read_words<R: BufRead>(source: &mut R, buf: &mut [u8]) -> Result<(
     ensures refused { IfErr result (λ e.
         Refuses (unpacked (length buf.old / 8)) (R.remaining source.old) (R.remaining source.new)
         e.kind) }
+    ensures left { IfErr result (λ e.
+        LeavesPiece (R.remaining source.old) (R.remaining source.new) buf.new e.kind) }
     ensures count { Counts result (R.failures source.old) (R.failures source.new) }
 {
     if buf.is_empty() {

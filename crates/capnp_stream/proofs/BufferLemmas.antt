@@ -10,6 +10,7 @@ use Rattle.capnp_model.specs.Bytes.{words_in_bytes, AreBytes}
 use Rattle.capnp_model.specs.Messages.{halves, cut, within}
 use Rattle.capnp_model.specs.Spelling.{CanSpell}
 use Rattle.capnp_model.proofs.lemmas.WordsInBytes.{words_in_bytes-length}
+use Rattle.capnp_stream.specs.Shown.{bytes_in_all}
 use Rattle.capnp_stream.specs.Ranges.{ranges_from}
 use Rattle.capnp_stream.specs.Flat.{table_lengths, table_bytes, message_bytes, frame_segments, Describes}
 use Rattle.capnp_stream.specs.Writing.{AreWritable}
@@ -102,14 +103,18 @@ module _ (info : NoAllocSegmentTableInfo) (bytes : List ℕ) (d : Describes info
   unfolding lengths behind
   parts = cut-of_joined behind behind (ranges_from 0 lengths) lengths refl refl room
 
-  -- they fit into the bytes
-  pub described-room : message_bytes (map length (words_in (frame_segments info.segments_count bytes))) ≤ length bytes
+  -- with the table they have so many bytes
+  pub described-size : message_bytes (map length (words_in (frame_segments info.segments_count bytes))) ≡ bytes_in_all info
   unfolding lengths behind
-  described-room =
+  described-size =
       let words = words_in_bytes (sum lengths) behind in
       let sizes : map length (words_in (frame_segments info.segments_count bytes)) ≡ lengths = ap (map length) parts ∙ lengths-cut lengths words (omega (arith, words_in_bytes-length (sum lengths) behind)) in
       let total : message_bytes (map length (words_in (frame_segments info.segments_count bytes))) ≡ message_bytes lengths = ap message_bytes sizes in
-      omega (arith, total, ap table_bytes count, d.table, d.total, d.fits)
+      omega (arith, total, ap table_bytes count, d.table, d.total)
+
+  -- they fit into the bytes
+  pub described-room : message_bytes (map length (words_in (frame_segments info.segments_count bytes))) ≤ length bytes
+  described-room = omega (arith, described-size, d.fits)
 
   -- they can be written again
   module _ (small : AreBytes bytes) where

@@ -15,12 +15,12 @@ use Rattle.capnp_stream.specs.Pieces.{ReadsFronts}
 use Rattle.capnp_stream.specs.Frames.{IsFrameFault, TakesMessage, TakesStart, TakesWholePieces, TakesTable, IsFramingKind, IsReadKind, IsCut}
 use Rattle.capnp_stream.specs.Writing.{AreWritable}
 use Rattle.capnp_stream.specs.Reading.{TriesReading, ReadsMessage}
-use Rattle.capnp_stream.specs.Lent.{IsFillKind, NeedsMore, HasLonger}
+use Rattle.capnp_stream.specs.Lent.{HasAsLong, IsFillKind, NeedsMore, HasLonger}
 use Rattle.capnp_stream.specs.Buffers.{found_segments}
 use Rattle.capnp_stream.specs.declared.buffers.NoAllocBufferSegments.{NoAllocBufferSegments}
 use Rattle.capnp_stream.specs.Filling.{TriesFilling, FillsMessage}
 use Rattle.capnp_stream.specs.Flat.{table_bytes}
-use Rattle.capnp_stream.specs.Kept.{WantsForLonger}
+use Rattle.capnp_stream.specs.Kept.{GrowsInVain, WantsForLonger}
 use Rattle.capnp_io.proofs.lemmas.KnownLemmas.{Consumes-of_kept, IfSome-of_kept}
 use Rattle.capnp_stream.proofs.lemmas.FrameLemmas.{part-of_kept, TakesStart-of_kept, TakesMessage-of_kept, fault-of_kept}
 
@@ -147,6 +147,10 @@ module _ (read : Reader) (limit : Option ℕ) (a b : Option (List ℕ)) (kept : 
   longer-of : (size : ℕ) → (size < table_bytes 511) ⊎ IfSome b (HasLonger read limit size) → (size < table_bytes 511) ⊎ IfSome a (HasLonger read limit size)
   longer-of size (inl short) = inl short
   longer-of size (inr long) = inr (IfSome-of_kept a b (HasLonger read limit size) kept long)
+
+  pub vain-behind : (old new : ℕ) → GrowsInVain read limit b old new → GrowsInVain read limit a old new
+  vain-behind old new (inl little) = inl little
+  vain-behind old new (inr long) = inr (IfSome-of_kept a b (HasAsLong read limit new) kept long)
 
   pub longer-behind : {A : Type 0} (size : ℕ) (result : Result A Error) → WantsForLonger read limit size b result → WantsForLonger read limit size a result
   longer-behind size (Ok x) w = tt

@@ -1,9 +1,10 @@
 -- What the kind of a refusal says and leaves out, and buffers that grow.
-use Rattle.std.proofs.Common.{◌≡◌, ◌∙◌, ℕ, ◌+◌, ◌*◌, ◌/◌, ◌<◌, ◌≤◌, inl, List, ◌++◌, Option, None, Some, IfSome, Result, Ok, Err, refl, sym, ap, subst, arith, length, take}
+use Rattle.std.proofs.Common.{◌≡◌, ◌∙◌, ℕ, ◌+◌, ◌*◌, ◌/◌, ◌<◌, ◌≤◌, ◌⊎◌, max, inl, inr, List, ◌++◌, Option, None, Some, IfSome, Result, Ok, Err, refl, sym, ap, subst, arith, length, take}
 use Rattle.std.specs.declared.vec.Vec.{Vec}
 use Rattle.std.specs.Vec.{with_items}
 use Rattle.std.proofs.lemmas.List.{length-append, take_all, with_items_is}
 use Rattle.std.specs.Io.KnownBytes.{Keeps}
+use Rattle.std.proofs.lemmas.Bool.{cases_lt}
 use Rattle.capnp_units.specs.declared.errors.Error.{Error}
 use Rattle.capnp_units.specs.declared.kinds.ErrorKind.{ErrorKind}
 use Rattle.capnp_units.specs.declared.kinds.ErrorKind.TheVariants.{OutOfMemory, BufferNotLargeEnough, Device}
@@ -115,3 +116,29 @@ wants-longer table long total words had kept size same grown short = omega (arit
 -- What wants more bytes than there are wants a word at least.
 pub some-words : (there words : ℕ) → there < 8 * words → 0 < words
 some-words there words more = omega (arith, more)
+
+pub own-reach : (a b : ℕ) → a ≤ max a b
+own-reach a b = omega arith
+
+pub other-reach : (a b : ℕ) → b ≤ max a b
+other-reach a b = omega arith
+
+-- What is as long as a buffer that grew to the longest table at most, or not at all.
+pub grows-little : (had grown size : ℕ) → grown ≤ max had 2048 → size ≡ grown → size ≤ max had (max 2048 0)
+grows-little had grown size most same = omega (arith, most, same)
+
+-- What grew once more, to a message.
+pub grows-again : (had grown size again more : ℕ) → grown ≤ max had 2048 → size ≡ grown → again ≤ max size more → again ≤ max had (max 2048 more)
+grows-again had grown size again more most same further = omega (arith, most, same, further)
+
+-- What is no longer than a buffer, than the longest table, and than a message, where the last says this.
+pub grew-in-vain : (had size more : ℕ) (X : Type 0) → size ≤ max had (max 2048 more) → (size ≤ more → X) → (size ≤ max had (max 2048 0)) ⊎ X
+grew-in-vain had size more X most says = by (cases_lt more size)
+  where
+    by : (more < size) ⊎ (size ≤ more) → (size ≤ max had (max 2048 0)) ⊎ X
+    by (inl above) = inl (omega (arith, most, above))
+    by (inr within) = inr (says within)
+
+-- So many words, in a message.
+pub message-reach : (table long total words size : ℕ) → long ≡ table → total ≡ words → size ≤ table + 8 * total → size ≤ long + 8 * words
+message-reach table long total words size same count most = omega (arith, same, count, most)

@@ -1,5 +1,5 @@
 -- What the reader of one message into a kept buffer promises. (Encoding, "Serialization Over a Stream")
-use Rattle.std.specs.Prelude.{◌≡◌, ◌⊎◌, ℕ, ◌<◌, ◌≤◌, ⊤, List, length, map, IfSome, IfOk, IfErr, OnOk}
+use Rattle.std.specs.Prelude.{◌≡◌, ◌⊎◌, ℕ, ◌<◌, ◌≤◌, ⊤, List, length, map, max, Some, None, Ok, Err, IfSome, IfOk, IfErr, OnOk}
 use Rattle.std.specs.Borrow.{Fml, MutBor}
 use Rattle.std.specs.Io.BufRead.{Rests}
 use Rattle.std.specs.declared.convert.AsSlice.{Ghosts}
@@ -14,8 +14,9 @@ use Rattle.capnp_model.specs.Messages.{Reader}
 use Rattle.capnp_stream.specs.Flat.{table_bytes, message_bytes, frame_segments, Describes}
 use Rattle.capnp_stream.specs.declared.flat.NoAllocSegmentTableInfo.{NoAllocSegmentTableInfo}
 use Rattle.capnp_stream.specs.Buffers.{found_segments}
-use Rattle.capnp_stream.specs.Lent.{HasLonger}
+use Rattle.capnp_stream.specs.Lent.{HasAsLong, HasLonger}
 use Rattle.capnp_stream.specs.Reading.{SourceSeen, TriesReading}
+use Rattle.capnp_stream.specs.Shown.{bytes_in_all}
 use Rattle.capnp_stream.specs.declared.buffers.NoAllocBufferSegments.{NoAllocBufferSegments}
 use Rattle.capnp_stream.specs.declared.kept.MessageBuffer.{MessageBuffer}
 use Rattle.capnp_stream.specs.contracts.kept.MessageBuffer.{the_row}
@@ -36,9 +37,31 @@ HasTableRoom size result = IfOk result (λ o. IfSome o (λ _. table_bytes 511 �
 abbrev pub HasRoomFor : Segments → ℕ → Type 0
 HasRoomFor s size = (table_bytes 511 ≤ size) × (message_bytes (map length s) ≤ size)
 
--- Once the segments are no longer lent the buffer has at least as many bytes as before, and room for them.
-abbrev pub RestsGrown : {T : Type 0} {g : Ghosts T ℕ} → MutBor MessageBuffer → Result (Option (NoAllocBufferSegments T g)) Error → Fml
-RestsGrown b result = Rests the_row b (λ new. (buffer_len b.now ≤ buffer_len new) × IfOk result (λ o. IfSome o (λ s. HasRoomFor (words_in (found_segments s)) (buffer_len new))))
+-- A buffer grew no further than to the longest table, or to so many bytes.
+abbrev pub GrowsTo : ℕ → ℕ → ℕ → Type 0
+GrowsTo most old new = new ≤ max old (max (table_bytes 511) most)
+
+-- Without a message a buffer grew no further than to the longest table, or to the message within the limits with whose table the bytes begin.
+abbrev pub GrowsInVain : Reader → Option ℕ → Option (List ℕ) → ℕ → ℕ → Type 0
+GrowsInVain read limit left old new = GrowsTo 0 old new ⊎ IfSome left (HasAsLong read limit new)
+
+-- A buffer grew for the message that this table describes, or, where none was read, not at all.
+abbrev pub GrowsForTable : Reader → Option ℕ → Option (List ℕ) → ℕ → ℕ → Result (Option NoAllocSegmentTableInfo) Error → Type 0
+GrowsForTable read limit left old new (Ok (Some info)) = GrowsTo (bytes_in_all info) old new
+GrowsForTable read limit left old new (Ok None) = new ≡ old
+GrowsForTable read limit left old new (Err e) = GrowsInVain read limit left old new
+
+-- The same of segments, for which the buffer has room.
+abbrev pub GrowsForMessage : {T : Type 0} {g : Ghosts T ℕ} → Reader → Option ℕ → Option (List ℕ) → ℕ → ℕ → Result (Option (NoAllocBufferSegments T g)) Error → Type 0
+GrowsForMessage read limit left old new (Ok (Some s)) =
+    let message = words_in (found_segments s) in
+    HasRoomFor message new × GrowsTo (message_bytes (map length message)) old new
+GrowsForMessage read limit left old new (Ok None) = new ≡ old
+GrowsForMessage read limit left old new (Err e) = GrowsInVain read limit left old new
+
+-- Once the segments are no longer lent the buffer has at least as many bytes as before, room for them, and no more than they want.
+abbrev pub RestsGrown : {T : Type 0} {g : Ghosts T ℕ} → Reader → Option ℕ → Option (List ℕ) → MutBor MessageBuffer → Result (Option (NoAllocBufferSegments T g)) Error → Fml
+RestsGrown read limit left b result = Rests the_row b (λ new. (buffer_len b.now ≤ buffer_len new) × GrowsForMessage read limit left (buffer_len b.now) (buffer_len new) result)
 
 -- A message is read, whose segments a buffer lends, or none is left.
 abbrev pub TriesMessageInto : {T : Type 0} {g : Ghosts T ℕ} → Reader → (ErrorKind → Type 0) → Option ℕ → SourceSeen → Result (Option (NoAllocBufferSegments T g)) Error → SourceSeen → Type 0

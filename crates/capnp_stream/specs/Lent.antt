@@ -1,5 +1,5 @@
 -- Messages that are read into a buffer. (Encoding, "Serialization Over a Stream")
-use Rattle.std.specs.Prelude.{◌≡◌, ◌⊎◌, ℕ, ◌+◌, ◌<◌, true, List, ◌∷◌, ◌++◌, sum, ⊤, IfSome, IfErr}
+use Rattle.std.specs.Prelude.{◌≡◌, ◌⊎◌, ℕ, ◌+◌, ◌<◌, ◌≤◌, true, List, ◌∷◌, ◌++◌, sum, ⊤, IfSome, IfErr}
 use Rattle.std.specs.declared.result.Result.{Result}
 use Rattle.std.specs.declared.option.Option.{Option}
 use Rattle.capnp_units.specs.declared.errors.Error.{Error}
@@ -31,6 +31,11 @@ TellsLengths read limit bytes ns =
 abbrev pub HasLonger : Reader → Option ℕ → ℕ → List ℕ → Type 0
 HasLonger read limit size bytes =
     (ns : List ℕ) × TellsLengths read limit bytes ns × (within (sum ns) limit ≡ true) × (size < message_bytes ns)
+
+-- The same, where it has at least so many.
+abbrev pub HasAsLong : Reader → Option ℕ → ℕ → List ℕ → Type 0
+HasAsLong read limit size bytes =
+    (ns : List ℕ) × TellsLengths read limit bytes ns × (within (sum ns) limit ≡ true) × (size ≤ message_bytes ns)
 
 -- No message has so few bytes unpacked, or the bytes begin with the table of a message within the limits of segments and words, and the table, or the table with the segments, has more bytes unpacked than so many.
 abbrev pub NeedsMore : Reader → Option ℕ → ℕ → List ℕ → Type 0

@@ -1,5 +1,5 @@
 //! Messages that are read one after the other into memory that is kept.
-ghost use Rattle.std.specs.Prelude.{◌≡◌, ℕ, List, true, ◌≤◌, ◌+◌, ◌%◌, ◌^◌, ◌<◌, ◌++◌, length, sum, IfOk, IfErr, OnOk, OnErr};
+ghost use Rattle.std.specs.Prelude.{◌≡◌, ℕ, List, true, ◌≤◌, ◌+◌, ◌%◌, ◌^◌, ◌<◌, ◌++◌, length, max, sum, IfOk, IfErr, OnOk, OnErr};
 ghost use Rattle.std.specs.Borrow.{sem};
 ghost use Rattle.std.specs.Int.{from_le_bytes, w64};
 ghost use Rattle.capnp_units.specs.declared.kinds.ErrorKind.{ErrorKind};
@@ -10,8 +10,8 @@ ghost use Rattle.capnp_stream.specs.Frames.{TellsFault, TakesMessage, TakesStart
 ghost use Rattle.capnp_stream.specs.Flat.{table_lengths, frame_segments, Describes};
 ghost use Rattle.capnp_stream.specs.Lent.{HoldsMessage, IsFillKind};
 ghost use Rattle.capnp_stream.specs.Reading.{WantsBetweenPieces, source_seen};
-ghost use Rattle.capnp_stream.specs.Kept.{buffer_len, HasTableRoom, IsGrown, RestsGrown, TriesMessageInto, TriesTableIn, WantsForLonger};
-ghost use Rattle.capnp_stream.specs.Shown.{TakesShown};
+ghost use Rattle.capnp_stream.specs.Kept.{buffer_len, GrowsForTable, GrowsInVain, GrowsTo, HasTableRoom, IsGrown, RestsGrown, TriesMessageInto, TriesTableIn, WantsForLonger};
+ghost use Rattle.capnp_stream.specs.Shown.{TakesShown, bytes_in_all};
 ghost use Rattle.std.specs.Io.KnownBytes.{Keeps};
 
 use crate::buffers::{NoAllocBufferSegments, NoAllocSliceSegments};
@@ -68,6 +68,8 @@ impl MessageBuffer {
     fn grow_to(&mut self, len: usize) -> Result<()>
         ensures front { (more : List ℕ) × (self.new.bytes.items ≡ self.old.bytes.items ++ more) }
         ensures room { OnOk result (len ≤ buffer_len self.new) }
+        ensures most { OnOk result (buffer_len self.new ≤ max (buffer_len self.old) len) }
+        ensures stays { OnErr result (buffer_len self.new ≡ buffer_len self.old) }
         ensures refusal { IfErr result
             (λ e. (e.kind ≡ ErrorKind.OutOfMemory) × (buffer_len self.old < len)) }
     {
@@ -94,6 +96,10 @@ impl MessageBuffer {
         ensures longer { WantsForLonger F.reader limit (buffer_len self.old)
             (R.remaining source.old) result }
         ensures grown { IsGrown (buffer_len self.old) (buffer_len self.new) result }
+        ensures most { IfOk result
+            (λ i. GrowsTo (bytes_in_all i) (buffer_len self.old) (buffer_len self.new)) }
+        ensures vain { OnErr result (GrowsInVain F.reader limit (R.remaining source.old)
+            (buffer_len self.old) (buffer_len self.new)) }
         ensures failures { Counts result (R.failures source.old) (R.failures source.new) }
     {
         self.grow_to(LONGEST_TABLE)?;
@@ -147,6 +153,8 @@ impl MessageBuffer {
         ensures longer { WantsForLonger F.reader limit (buffer_len self.old)
             (R.remaining source.old) result }
         ensures grown { buffer_len self.old ≤ buffer_len self.new }
+        ensures most { GrowsForTable F.reader limit (R.remaining source.old)
+            (buffer_len self.old) (buffer_len self.new) result }
         ensures room { HasTableRoom (buffer_len self.new) result }
     {
         if is_at_end(source)? {
@@ -170,6 +178,8 @@ impl MessageBuffer {
         ensures longer { WantsForLonger F.reader limit (buffer_len self.old)
             (R.remaining source.old) result }
         ensures grown { buffer_len self.old ≤ buffer_len self.new }
+        ensures most { GrowsForTable F.reader limit (R.remaining source.old)
+            (buffer_len self.old) (buffer_len self.new) result }
         ensures room { HasTableRoom (buffer_len self.new) result }
     {
         if let Some(info) = self.read_shown::<F, R>(source, limit)? {
@@ -181,7 +191,7 @@ impl MessageBuffer {
 
     /// The segments of the next message in a form, or `None` where no byte is left. They lie in the buffer until the next message is read into it.
     ///
-    /// A message of more words than the limit is refused. `OutOfMemory`: some byte is left, the buffer has fewer bytes than the longest table or than the message unpacked, and the memory for them was refused; so a buffer into which a message was read takes none for those that are no longer. After a refusal less than a message was taken, and no byte behind the first that is at fault. The buffer never shrinks.
+    /// A message of more words than the limit is refused. `OutOfMemory`: some byte is left, the buffer has fewer bytes than the longest table or than the message unpacked, and the memory for them was refused; so a buffer into which a message was read takes none for those that are no longer. After a refusal less than a message was taken, and no byte behind the first that is at fault. The buffer never shrinks, and grows to no more bytes than the longest table or the message has.
     #[inline(always)]
     pub fn try_read_message<F: MessageForm, R: BufRead>(
         &mut self,
@@ -193,7 +203,8 @@ impl MessageBuffer {
             (source_seen R.remaining R.failures source.new) }
         ensures longer { WantsForLonger F.reader limit (buffer_len self.old)
             (R.remaining source.old) result }
-        ensures* grown { sem 𝓛 (RestsGrown self.entry result) }
+        ensures* grown { sem 𝓛 (RestsGrown F.reader limit (R.remaining source.old)
+            self.entry result) }
     {
         let Some(info) = self.read_next::<F, R>(source, limit)? else {
             return Ok(None);

@@ -16,7 +16,7 @@ use Rattle.capnp_model.proofs.lemmas.Chaining.{ok_is, ok_then, guard_then, bind_
 use Rattle.capnp_stream.specs.Pieces.{EndsEarly, EachIsNeeded, ReadsFronts, TakesPiece, TakesPieceStart}
 use Rattle.capnp_stream.specs.Frames.{IsFrameFault, HasNoMessage, TakesMessage, TakesStart, TakesPart, TakesTable, TakesBody, IsFramingKind, IsCut}
 use Rattle.capnp_stream.specs.Flat.{table_bytes}
-use Rattle.capnp_stream.specs.Lent.{NeedsMore, HasLonger}
+use Rattle.capnp_stream.specs.Lent.{NeedsMore, HasAsLong, HasLonger}
 use Rattle.capnp_io.proofs.lemmas.KnownLemmas.{IfSome-of_front, IfSome-of_behind, Consumes-of_kept}
 use Rattle.capnp_stream.proofs.lemmas.EarlyLemmas.{early-same, early-then, early-guard, early-none, wants-some, none-needed, needed-joined}
 use Rattle.capnp_stream.proofs.lemmas.PieceLemmas.{err_then, guard_err, message_more}
@@ -246,6 +246,9 @@ module _ (read : Reader) (fronts : ReadsFronts read) (limit : Option ℕ) where
 
     pub table-longer : (size : ℕ) → within (sum ns) limit ≡ true → size < table_bytes (length ns) + 8 * sum ns → IfSome a (HasLonger read limit size)
     table-longer size kept short = IfSome-of_front a b table.0 (HasLonger read limit size) table.1 (λ more. (ns, (table.0, more, refl, table.2), kept, short))
+
+    pub table-reaches : (size : ℕ) → within (sum ns) limit ≡ true → size ≤ table_bytes (length ns) + 8 * sum ns → IfSome a (HasAsLong read limit size)
+    table-reaches size kept short = IfSome-of_front a b table.0 (HasAsLong read limit size) table.1 (λ more. (ns, (table.0, more, refl, table.2), kept, short))
 
     pub large-fault : within (sum ns) limit ≡ false → IfSome a (λ xs. IsFrameFault read limit xs MessageTooLarge)
     large-fault large = fault-said read limit table.0 (behind_lengths read limit ns) table.2 table.3 a b table.1 MessageTooLarge (λ more. lengths-refuse read limit ns more large)

@@ -28,4 +28,4 @@ returns-else-begins g c =
     let m = c.is_canonical.new.limiter in
     let l = c.args.limiter.now in
     let x = subst (λ (b : Bool). TellsValue c.args.levels s root (place 0 1) l (Ok b) after m) c.if-begins.false c.in_ok-begins.ensures in
-    subst (λ (b : Bool). TellsMessage c.args.levels s l (Ok b) m) (sym c.if-begins.false) (message_differs c.args.levels s l m x.1)
+    subst (λ (b : Bool). TellsMessage c.args.levels s l (Ok b) m) (sym c.if-begins.false) (message_differs c.args.levels s l m (sym c.has_words.ensures.there ∙ c.if-has_words.false) x.1)

@@ -1,6 +1,6 @@
-use Rattle.std.proofs.Common.{◌≡◌, ℕ, ◌+◌, ◌-◌, ◌/◌, List, ◌++◌, length, take, refl, sym, ap, subst, ◌∙◌, rules, arith}
+use Rattle.std.proofs.Common.{◌≡◌, ℕ, ◌+◌, ◌-◌, ◌/◌, List, ◌++◌, length, take, replicate, refl, sym, ap, subst, ◌∙◌, rules, arith}
 use Rattle.std.proofs.lemmas.List.{take_all}
-use Rattle.std.proofs.lemmas.Result.{on_ok_weaker, IfErr-weaker}
+use Rattle.std.proofs.lemmas.Result.{err_from_is_err_and, on_ok_weaker, IfErr-weaker}
 use borrow.Rule.Slice.PartMut.{put_mid}
 use Rattle.capnp_io.proofs.lemmas.Filling.{take-put_mid_more}
 use Rattle.capnp_model.specs.Bytes.{words_in_bytes}
@@ -10,6 +10,8 @@ use Rattle.capnp_packing.specs.Parts.{Leads, Takes, with_front}
 use Rattle.capnp_packing.specs.Runs.{run_view}
 use Rattle.capnp_packing.specs.declared.runs.Run.TheVariants.{First}
 use Rattle.capnp_packing.proofs.PieceLemmas.{piece-start, piece-refused, piece-end, piece-joined}
+use Rattle.capnp_packing.proofs.ReadLemmas.{refused-count}
+use Rattle.capnp_packing.proofs.LeftLemmas.{left-at, left-behind, put-behind}
 use Rattle.capnp_packing.proofs.unpacking.read_words.Goals as goal
 
 pub returns-then-is_empty-clause-ok : goal.returns-then-is_empty-clause-ok
@@ -53,3 +55,24 @@ returns-clause-refused g c =
     let same : length buf / 8 ≡ length c.args.buf.now / 8 = ap (λ (n : ℕ). n / 8) c.next_words_or_zeros.auto.buf in
     let leads = subst (λ (n : ℕ). Leads (unpacked n) (g.R.Read.remaining c.args.source.now) (g.R.Read.remaining c.next_words_or_zeros.new.source) (λ more. with_front (words_in_bytes (step.filled / 8) (take step.filled buf)) (unpacked_from ((length buf - step.filled) / 8) (run_view step.run) more))) same read.leads in
     IfErr-weaker c.read_rest.result _ _ (λ e h. piece-refused _ _ _ buf step.filled step.run leads read.whole (omega arith) (omega arith) _ (omega arith) _ e.kind h) c.read_rest.ensures.refused
+
+pub returns-in_err-step-clause-left : goal.returns-in_err-step-clause-left
+returns-in_err-step-clause-left g c =
+    let p = err_from_is_err_and c.from_residual.result c.from_residual.ensures.1 in
+    let old = c.args.buf.now in
+    let whole : length old ≡ length old - 0 = omega arith in
+    let cleared = c.in_err-step.ensures.cleared ∙ ap (λ (n : ℕ). replicate n 0) whole in
+    let fault = refused-count _ _ (run_view First) _ _ _ (ap (λ (n : ℕ). n / 8) whole) c.in_err-step.ensures.refused in
+    rw (p.1, p.2) (left-at First _ _ _ _ old c.next_words_or_zeros.new.buf 0 First _ refl (piece-start _ _ _ _ (omega arith)) refl (omega arith) c.next_words_or_zeros.auto.buf cleared fault)
+
+pub returns-clause-left : goal.returns-clause-left
+returns-clause-left g c =
+    let step = c.in_ok-step.step in
+    let buf = c.next_words_or_zeros.new.buf in
+    let tail = c.read_rest.new.buf in
+    let read = c.in_ok-step.ensures.words.0 in
+    let after = put_mid step.filled (length buf - step.filled) buf tail in
+    let behind : length tail ≡ length buf - step.filled = search rules in
+    let kept : length after ≡ length buf = search rules in
+    let joined = put-behind step.filled buf tail read.fits behind kept in
+    IfErr-weaker c.read_rest.result _ _ (λ e h. left-behind First _ _ _ buf tail after step.filled step.run e.kind read.leads read.whole (omega arith) (omega arith) behind kept joined h) c.read_rest.ensures.left

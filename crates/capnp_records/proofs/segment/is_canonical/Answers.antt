@@ -10,7 +10,7 @@ use Rattle.capnp_records.proofs.segment.is_canonical.Goals as goal
 
 pub returns-in-Err : goal.returns-in-Err
 returns-in-Err g c =
-    sym (stopped_not c.values_on_walks.ensures.cost 64 (words_in (g.A.ReaderArena.segments c.args.arena.now)) c.new-unlimited.result c.is_canonical_message.new.limiter c.in-Err.field-0 c.new-unlimited.ensures.left c.in-Err.ensures)
+    sym (stopped_not c.values_on_walks.ensures.cost 64 (words_in (g.A.ReaderArena.segments c.args.arena.now)) c.new-unlimited.result c.is_canonical_message.new.limiter c.in-Err.field-0 c.new-unlimited.ensures.left c.in-Err.ensures.0)
 
 -- What is told of a small message is so.
 told : (n : ℕ) (s : Segments) (old new : ReadLimiter) (stands : Bool) → IsSmall s root → TellsMessage n s old (Ok stands) new → stands ≡ is_canonical_message n s

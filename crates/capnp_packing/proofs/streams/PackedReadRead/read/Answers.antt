@@ -5,6 +5,8 @@ use Rattle.capnp_model.specs.Packing.{unpacked}
 use Rattle.capnp_stream.specs.Segments.{whole_words}
 use Rattle.capnp_packing.specs.Parts.{Takes}
 use Rattle.capnp_packing.proofs.PieceLemmas.{piece-taken, piece-of_kept, failed-at_once}
+use Rattle.capnp_packing.specs.declared.runs.Run.TheVariants.{First}
+use Rattle.capnp_packing.proofs.LeftLemmas.{left-of_kept}
 use Rattle.capnp_packing.proofs.streams.PackedReadRead.read.Goals as goal
 
 pub returns-in_err-is_at_end-clause-piece : goal.returns-in_err-is_at_end-clause-piece
@@ -14,7 +16,7 @@ returns-in_err-is_at_end-clause-piece g c =
     record {
       whole = search rules;
       piece = search rules;
-      fault = rw (p.1, p.2, c.in_err-is_at_end.ensures.refusal) (inr (failed-at_once (length c.args.buf.now / 8) _ _ (omega (arith, some)) c.is_at_end.ensures.kept));
+      fault = rw (p.1, p.2, c.in_err-is_at_end.ensures.refusal) (inr (search rules, failed-at_once (length c.args.buf.now / 8) _ _ (omega (arith, some)) c.is_at_end.ensures.kept));
       some = search rules;
     }
 
@@ -31,3 +33,9 @@ returns-clause-piece g c =
       fault = search rules;
       some = search rules;
     }
+
+pub returns-in_err-read_words-clause-left : goal.returns-in_err-read_words-clause-left
+returns-in_err-read_words-clause-left g c =
+    let r = c.from_residual-in_err-read_words in
+    let p = err_from_is_err_and r.result r.ensures.1 in
+    rw (p.1, p.2) (inr (left-of_kept First _ _ _ c.read_words.new.buf _ c.is_at_end.ensures.kept c.in_err-read_words.ensures.left))

@@ -17,5 +17,8 @@ returns-clause-piece g c =
     record {
       whole = search rules;
       piece = IfOk-weaker c.read_words.result _ _ (λ _ h. piece-taken _ _ buf (subst P (sym c.read_words.auto.buf) h)) c.read_words.ensures.ok;
-      fault = IfErr-weaker c.read_words.result _ _ (λ e h. inr h) c.read_words.ensures.refused;
+      fault = IfErr-weaker c.read_words.result _ _ (λ e h. inr (search rules, h)) c.read_words.ensures.refused;
     }
+
+pub returns-clause-left : goal.returns-clause-left
+returns-clause-left g c = IfErr-weaker c.read_words.result _ _ (λ e h. inr h) c.read_words.ensures.left

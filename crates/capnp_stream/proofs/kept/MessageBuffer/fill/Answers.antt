@@ -1,4 +1,4 @@
-use Rattle.std.proofs.Common.{inl, inr, true, false, ◌≡◌, ◌≤◌, ◌<◌, ◌+◌, ◌*◌, ◌/◌, ◌%◌, ◌^◌, ◌++◌, length, sum, refl, sym, ap, subst, List, ℕ, ◌∙◌}
+use Rattle.std.proofs.Common.{inl, inr, true, false, ◌≡◌, ◌≤◌, ◌<◌, ◌+◌, ◌*◌, ◌/◌, ◌%◌, ◌^◌, ◌++◌, length, max, sum, refl, sym, ap, subst, List, ℕ, ◌∙◌}
 use Rattle.std.specs.Int.{from_le_bytes, w64}
 use Rattle.std.specs.Vec.{with_items}
 use Rattle.std.proofs.lemmas.List.{with_items_is}
@@ -12,8 +12,8 @@ use Rattle.capnp_stream.specs.declared.flat.NoAllocSegmentTableInfo.{NoAllocSegm
 use Rattle.capnp_stream.proofs.lemmas.WordLemmas.{from_le_bytes-front}
 use Rattle.capnp_stream.proofs.FlatLemmas.{table-holds, table-grown}
 use Rattle.capnp_stream.proofs.TableLemmas.{read-kind}
-use Rattle.capnp_stream.proofs.RefusalLemmas.{wants-none, piece-wants-none, unread, memory-faultless, memory-kind, memory-counts, grown-front, refilled, no-shorter, between, counts-behind, any-table, table-word, words-of, wants-words, wants-longer}
-use Rattle.capnp_stream.proofs.lemmas.FrameLemmas.{no-part, large-part, large-fault, table-part, table-longer, body-fault, body-part, message-of_body}
+use Rattle.capnp_stream.proofs.RefusalLemmas.{own-reach, grows-little, grows-again, grew-in-vain, message-reach, wants-none, piece-wants-none, unread, memory-faultless, memory-kind, memory-counts, grown-front, refilled, no-shorter, between, counts-behind, any-table, table-word, words-of, wants-words, wants-longer}
+use Rattle.capnp_stream.proofs.lemmas.FrameLemmas.{no-part, large-part, large-fault, table-part, table-longer, table-reaches, body-fault, body-part, message-of_body}
 use Rattle.capnp_stream.proofs.kept.MessageBuffer.fill.Goals as goal
 
 pub returns-in_err-grow_to : goal.returns-in_err-grow_to
@@ -28,6 +28,8 @@ returns-in_err-grow_to g c =
       part = no-part g.F.MessageForm.reader g.met.F.MessageForm.fronts c.args.limit _;
       wanted = λ _. inl (unread _);
       longer = λ _. inl refusal.1;
+      most = tt;
+      vain = inl (grows-little _ _ _ (own-reach _ _) c.in_err-grow_to.ensures.stays);
       grown = (grown-front c.args.self.now.bytes.items c.grow_to.new.self.bytes.items c.in_err-grow_to.ensures.front, tt);
       failures = memory-counts kind refusal.0 _ _ refl;
     })
@@ -47,6 +49,8 @@ returns-in_err-count g c =
       part = r.part;
       wanted = λ want. absurd (wants-none g.F.MessageForm.faults kind r.fill_kind want);
       longer = λ want. absurd (wants-none g.F.MessageForm.faults kind r.fill_kind want);
+      most = tt;
+      vain = inl (grows-little _ _ _ c.in_ok-grow_to.ensures.most kept-len);
       grown = (longer, tt);
       failures = r.failures;
     })
@@ -70,6 +74,8 @@ returns-then-not-is_within g c =
       part = large-part g.F.MessageForm.reader g.met.F.MessageForm.fronts c.args.limit ns _ _ c.in_ok-count.ensures.table large;
       wanted = λ want. absurd cc;
       longer = λ want. absurd cc;
+      most = tt;
+      vain = inl (grows-little _ _ _ c.in_ok-grow_to.ensures.most kept-len);
       grown = (longer, tt);
       failures = c.in_ok-count.ensures.failures;
     })
@@ -98,6 +104,8 @@ returns-in_err-grow_to-2 g c =
       part = table-part g.F.MessageForm.reader g.met.F.MessageForm.fronts c.args.limit ns _ _ c.in_ok-count.ensures.table kept (wants-words n _ _ _ _ total kept-len c.in_ok-grow_to.ensures.room c.in_ok-count.ensures.few.1 short);
       wanted = λ _. inr (inr (ns, c.in_ok-count.ensures.table));
       longer = λ _. inr (table-longer g.F.MessageForm.reader g.met.F.MessageForm.fronts c.args.limit ns _ _ c.in_ok-count.ensures.table (length c.args.self.now.bytes.items) kept (wants-longer _ _ _ _ _ _ long total longer short));
+      most = tt;
+      vain = inl (grows-little _ _ _ c.in_ok-grow_to.ensures.most (c.in_err-grow_to-2.ensures.stays ∙ kept-len));
       grown = (between _ _ _ longer (grown-front _ c.grow_to-2.new.self.bytes.items c.in_err-grow_to-2.ensures.front), tt);
       failures = memory-counts kind refusal.0 _ _ c.in_ok-count.ensures.failures;
     })
@@ -147,6 +155,9 @@ returns-in_err-fill_body g c =
     let grown-again = between _ _ _ longer (grown-front _ c.grow_to-2.new.self.bytes.items c.in_ok-grow_to-2.ensures.front) in
     let kept-again = refilled c.grow_to-2.new.self.bytes c.deref_mut-2.result.now c.fill_body.new.buffer c.fill_body.auto.buffer c.deref_mut-2.ensures.len c.deref_mut-2.ensures.value in
     let cut = subst Cut (words-of _ _ total) wanted in
+    let room : table_bytes n ≤ length read = any-table n _ _ (sym (ap length held) ∙ kept-len) c.in_ok-grow_to.ensures.room c.in_ok-count.ensures.few.1 in
+    let long : table_bytes (length ns) ≡ table_bytes n = ap table_bytes (table-holds n read room) in
+    let most = subst (λ m. m ≤ max (length c.args.self.now.bytes.items) (max 2048 (table_bytes n + 8 * c.words_before-total.result))) (sym kept-again) (grows-again _ _ _ _ _ c.in_ok-grow_to.ensures.most kept-len c.in_ok-grow_to-2.ensures.most) in
     rw (p.1, p.2) (record {
       message = tt;
       refused = body-fault g.F.MessageForm.reader g.met.F.MessageForm.fronts c.args.limit ns _ _ c.in_ok-count.ensures.table kept _ _ cut;
@@ -154,6 +165,8 @@ returns-in_err-fill_body g c =
       part = body-part g.F.MessageForm.reader g.met.F.MessageForm.fronts c.args.limit ns _ _ c.in_ok-count.ensures.table kept _ _ cut;
       wanted = λ want. absurd (piece-wants-none g.F.MessageForm.faults kind r.own want);
       longer = λ want. absurd (piece-wants-none g.F.MessageForm.faults kind r.own want);
+      most = tt;
+      vain = grew-in-vain _ _ _ _ most (λ within_it. table-reaches g.F.MessageForm.reader g.met.F.MessageForm.fronts c.args.limit ns _ _ c.in_ok-count.ensures.table _ kept (message-reach _ _ _ _ _ long total within_it));
       grown = (no-shorter _ _ _ grown-again kept-again, tt);
       failures = counts-behind kind _ _ _ c.in_ok-count.ensures.failures r.failures;
     })
@@ -198,6 +211,8 @@ returns g c =
       part = tt;
       wanted = tt;
       longer = tt;
+      most = subst (λ m. m ≤ max (length c.args.self.now.bytes.items) (max 2048 (table_bytes n + 8 * c.words_before-total.result))) (sym kept-again) (grows-again _ _ _ _ _ c.in_ok-grow_to.ensures.most kept-len c.in_ok-grow_to-2.ensures.most);
+      vain = tt;
       grown = (no-shorter _ _ _ grown-again kept-again, no-shorter _ _ _ (between _ _ _ table-room still) kept-again);
       failures = c.in_ok-fill_body.ensures.failures ∙ c.in_ok-count.ensures.failures;
     }

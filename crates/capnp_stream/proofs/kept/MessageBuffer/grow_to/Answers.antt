@@ -1,6 +1,6 @@
-use Rattle.std.proofs.Common.{◌∙◌, ◌≤◌, ◌<◌, [], arith, length, append-nil, sym, subst}
+use Rattle.std.proofs.Common.{◌∙◌, ◌≤◌, ◌<◌, [], arith, length, max, append-nil, sym, ap, subst}
 use Rattle.std.proofs.lemmas.Result.{err_from_is_err_and}
-use Rattle.capnp_stream.proofs.RefusalLemmas.{same-reach, below-reach, resized-front}
+use Rattle.capnp_stream.proofs.RefusalLemmas.{same-reach, own-reach, other-reach, below-reach, resized-front}
 use Rattle.capnp_stream.proofs.kept.MessageBuffer.grow_to.Goals as goal
 
 pub returns-else-len : goal.returns-else-len
@@ -9,6 +9,8 @@ returns-else-len c =
     record {
       front = ([], sym (append-nil old.items));
       room = omega (arith, c.if-len.false, c.len.ensures, old.ok.0);
+      most = own-reach _ _;
+      stays = tt;
       refusal = tt;
     }
 
@@ -20,6 +22,8 @@ returns-in_ok-resize c =
     record {
       front = resized-front old.items new.items _ c.args.len (below-reach _ _ below) c.in_ok-resize.ensures.items;
       room = subst (λ n. c.args.len ≤ n) (sym c.in_ok-resize.ensures.len ∙ new.ok.0) (same-reach _);
+      most = subst (λ n. n ≤ max (length old.items) c.args.len) (sym c.in_ok-resize.ensures.len ∙ new.ok.0) (other-reach _ _);
+      stays = tt;
       refusal = tt;
     }
 
@@ -31,5 +35,7 @@ returns-in_err-resize c =
     rw p.1 (record {
       front = ([], c.in_err-resize.ensures.items ∙ sym (append-nil old.items));
       room = tt;
+      most = tt;
+      stays = ap length c.in_err-resize.ensures.items;
       refusal = (p.2, below);
     })

@@ -1,11 +1,11 @@
 use Rattle.std.proofs.lemmas.Result.{err_from_is_err_and}
-use Rattle.std.proofs.Common.{◌∙◌, Err, subst, length}
+use Rattle.std.proofs.Common.{◌∙◌, Err, inl, refl, subst, length}
 use Rattle.capnp_model.specs.Bytes.{AreBytes}
 use Rattle.capnp_stream.specs.declared.flat.NoAllocSegmentTableInfo.{NoAllocSegmentTableInfo}
 use Rattle.capnp_stream.proofs.lemmas.FrameLemmas.{TakesMessage-of_kept}
 use Rattle.capnp_stream.proofs.BufferLemmas.{described-spells, described-writable}
-use Rattle.capnp_stream.proofs.ReadLemmas.{tries-failed, tries-none, tries-refused, longer-behind, at-end}
-use Rattle.capnp_stream.proofs.RefusalLemmas.{same-reach, device-wants-none, counts-behind}
+use Rattle.capnp_stream.proofs.ReadLemmas.{tries-failed, tries-none, tries-refused, vain-behind, longer-behind, at-end}
+use Rattle.capnp_stream.proofs.RefusalLemmas.{same-reach, own-reach, device-wants-none, counts-behind}
 use Rattle.capnp_stream.proofs.kept.MessageBuffer.read_pieces.Goals as goal
 
 pub returns-in_err-is_at_end : goal.returns-in_err-is_at_end
@@ -17,6 +17,7 @@ returns-in_err-is_at_end g c =
       message = tries-failed g.F.MessageForm.reader g.met.F.MessageForm.fronts g.F.MessageForm.faults c.args.limit _ _ _ _ _ failed.refusal failed.kept failed.count;
       longer = λ want. absurd (device-wants-none kind failed.refusal want);
       grown = same-reach _;
+      most = inl (own-reach _ _);
       room = tt;
     })
 
@@ -27,6 +28,7 @@ returns-then-branch g c =
       message = tries-none g.F.MessageForm.reader g.F.MessageForm.faults c.args.limit _ _ _ _ (at-end _ _ look.at c.if-branch.true) look.kept look.count;
       longer = tt;
       grown = same-reach _;
+      most = refl;
       room = tt;
     }
 
@@ -41,6 +43,7 @@ returns-in_err-info g c =
       message = tries-refused g.F.MessageForm.reader g.met.F.MessageForm.fronts g.F.MessageForm.faults c.args.limit _ _ _ _ _ e _ look.at c.if-branch.false look.kept r.refused r.kind r.part r.wanted count;
       longer = longer-behind g.F.MessageForm.reader c.args.limit _ _ look.kept {A = NoAllocSegmentTableInfo} (length c.args.self.now.bytes.items) (Err e) r.longer;
       grown = r.grown.0;
+      most = vain-behind g.F.MessageForm.reader c.args.limit _ _ look.kept _ _ r.vain;
       room = tt;
     })
 
@@ -68,5 +71,6 @@ returns g c =
       };
       longer = tt;
       grown = r.grown.0;
+      most = r.most;
       room = r.grown.1;
     }

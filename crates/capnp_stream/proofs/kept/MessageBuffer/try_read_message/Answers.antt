@@ -7,9 +7,9 @@ use Rattle.capnp_stream.specs.Frames.{TakesMessage}
 use Rattle.capnp_stream.specs.Flat.{table_bytes, message_bytes, frame_segments}
 use Rattle.capnp_stream.specs.Buffers.{found_segments}
 use Rattle.capnp_stream.specs.Reading.{source_seen}
-use Rattle.capnp_stream.specs.Kept.{TriesTableIn}
+use Rattle.capnp_stream.specs.Kept.{GrowsForTable, GrowsTo, TriesTableIn}
 use Rattle.capnp_stream.specs.declared.flat.NoAllocSegmentTableInfo.{NoAllocSegmentTableInfo}
-use Rattle.capnp_stream.proofs.BufferLemmas.{described-room}
+use Rattle.capnp_stream.proofs.BufferLemmas.{described-room, described-size}
 use Rattle.capnp_stream.proofs.kept.MessageBuffer.try_read_message.Goals as goal
 
 pub returns : goal.returns
@@ -26,8 +26,13 @@ returns g c =
     let found : s ≡ frame_segments info.segments_count bytes = c.from_segment_table_info.ensures ∙ ap (frame_segments info.segments_count) same in
     let Taken : List (List ℕ) → Type 0 = λ l. TakesMessage g.F.MessageForm.reader c.args.limit (g.R.Read.remaining c.args.source.now) (g.R.Read.remaining c.read_next.new.source) (words_in l) in
     let Kept : List (List ℕ) → Type 0 = λ l. CanSpell c.args.limit (words_in l) in
-    let Fits : List (List ℕ) → Type 0 = λ l. message_bytes (map length (words_in l)) ≤ length bytes in (
-      (refl, (λ _. tt), (c.in_ok-info.ensures.grown, (subst Room c.in-Some.is c.in_ok-info.ensures.room, subst Fits (sym found) (described-room info bytes read.joined)))),
+    let Fits : List (List ℕ) → Type 0 = λ l. message_bytes (map length (words_in l)) ≤ length bytes in
+    let had = length c.args.self.now.bytes.items in
+    let For : Option NoAllocSegmentTableInfo → Type 0 = λ o. GrowsForTable g.F.MessageForm.reader c.args.limit (g.R.Read.remaining c.args.source.now) had (length bytes) (Ok o) in
+    let most : For (Some info) = subst For c.in-Some.is c.in_ok-info.ensures.most in
+    let To : ℕ → Type 0 = λ n. GrowsTo n had (length bytes) in
+    let Grows : List (List ℕ) → Type 0 = λ l. GrowsTo (message_bytes (map length (words_in l))) had (length bytes) in (
+      (refl, (λ _. tt), (c.in_ok-info.ensures.grown, ((subst Room c.in-Some.is c.in_ok-info.ensures.room, subst Fits (sym found) (described-room info bytes read.joined)), subst Grows (sym found) (subst To (sym (described-size info bytes read.joined)) most)))),
       record {
         message = record {
           message = subst Taken (sym found) read.message;
