@@ -27,3 +27,8 @@ grown g words = record g { next = words_after g.strategy g.next words }
 abbrev pub GrowsBy : Growth → Growth → ℕ → Segment → Type 0
 GrowsBy old new minimum (Lent slice) = new ≡ old
 GrowsBy old new minimum (Owned bytes) = (length bytes.items ≡ 8 * words_handed old minimum) × (new ≡ grown old (words_handed old minimum))
+
+-- Where a segment of the heap is given back, segments begin again with the words of the first; a lent slice counts for none.
+abbrev pub RestartsBy : Growth → Growth → Segment → Type 0
+RestartsBy old new (Lent slice) = new ≡ old
+RestartsBy old new (Owned bytes) = new ≡ record old { next = old.first }

@@ -70,6 +70,8 @@ impl Allocator for HeapAllocator {
 
     ghost place = { λ _. [] };
 
+    ghost refuses = { λ _ _ kind. kind ≡ OutOfMemory };
+
     fn allocate_segment(&mut self, minimum: u32) -> Result<Vec<u8>>
         ensures zeros { IfOk result (λ v. AllZero v.items) }
         ensures room { IfOk result (λ v. 8 * minimum ≤ length v.items) }

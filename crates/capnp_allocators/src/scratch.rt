@@ -3,7 +3,7 @@ ghost use Rattle.std.specs.Prelude.{◌≡◌, ◌≢◌, ◌+◌, ◌*◌, ◌^
 ghost use Rattle.std.specs.Result.{IsOkAnd};
 ghost use Rattle.capnp_units.specs.declared.kinds.ErrorKind.TheVariants.{OutOfMemory, SizeOverflow};
 ghost use Rattle.capnp_copy.specs.Memory.{AllZero, ZeroFrom};
-ghost use Rattle.capnp_allocators.specs.Growth.{GrowsBy, suggested_growth};
+ghost use Rattle.capnp_allocators.specs.Growth.{GrowsBy, RestartsBy, suggested_growth};
 ghost use Rattle.capnp_allocators.specs.Segments.{bytes_of, loans_of_segment};
 
 use crate::growth::AllocationStrategy;
@@ -120,13 +120,15 @@ impl Drop for ScratchSpaceHeapAllocator<'_> {
 }
 
 impl<'a> Allocator for ScratchSpaceHeapAllocator<'a> {
-    ghost use Rattle.capnp_allocators.specs.Scratch.{scratch_loans, scratch_opened};
+    ghost use Rattle.capnp_allocators.specs.Scratch.{scratch_loans, scratch_opened, scratch_refuses};
 
     type Segment = Segment<'a>;
 
     ghost loans = { scratch_loans };
 
     ghost place = { λ _. [] };
+
+    ghost refuses = { scratch_refuses };
 
     fn allocate_segment(&mut self, minimum: u32) -> Result<Segment<'a>>
         ensures zeros { IfOk result (λ s. AllZero (bytes_of s)) }
@@ -137,10 +139,12 @@ impl<'a> Allocator for ScratchSpaceHeapAllocator<'a> {
         ensures opened { scratch_opened self.new ≡ scratch_opened self.old }
         ensures refusal { IfErr result (λ e. e.kind ≡ OutOfMemory) }
         ensures other { IfErr result (λ e. e.kind ≢ SizeOverflow) }
+        ensures cause { IfErr result (λ e. scratch_refuses self.old minimum e.kind) }
         ensures lent { self.old.taken ≡ false → self.old.used ≡ 0
             → 8 * minimum ≤ length self.old.region.now
             → IsOkAnd result (λ s. loans_of_segment s ≡ self.old.region.ghost_name ∷ []) }
         ensures growth { IfOk result (GrowsBy self.old.heap.growth self.new.heap.growth minimum) }
+        ensures same { OnErr result (self.new.heap.growth ≡ self.old.heap.growth) }
     {
         let whole = &mut *self;
         if !whole.taken && whole.used == 0 && 8 * minimum as usize <= whole.region.len() {
@@ -157,6 +161,7 @@ impl<'a> Allocator for ScratchSpaceHeapAllocator<'a> {
         ensures moved { scratch_loans self.new
             ≡ loans_of_segment segment.entry ++ scratch_loans self.old }
         ensures opened { scratch_opened self.new ≡ scratch_opened self.old }
+        ensures growth { RestartsBy self.old.heap.growth self.new.heap.growth segment.entry }
     {
         match segment {
             Segment::Lent(slice) => {
@@ -186,6 +191,7 @@ impl<'a> OpensSegment for ScratchSpaceHeapAllocator<'a> {
         ensures once { OnSome result (scratch_opened self.new ≡ []) }
         ensures none { IfNone result (scratch_opened self.old ≡ []) }
         ensures kept { IfNone result (scratch_loans self.new ≡ scratch_loans self.old) }
+        ensures growth { self.new.heap.growth ≡ self.old.heap.growth }
     {
         let whole = &mut *self;
         if whole.taken || whole.used == 0 {

@@ -37,11 +37,15 @@ impl<'a> SingleSegmentAllocator<'a> {
 }
 
 impl<'a> Allocator for SingleSegmentAllocator<'a> {
+    ghost use Rattle.capnp_allocators.specs.Single.{single_refuses};
+
     type Segment = Segment<'a>;
 
     ghost loans = { λ s. loans_of s.taken s.region.ghost_name };
 
     ghost place = { λ _. [] };
+
+    ghost refuses = { single_refuses };
 
     fn allocate_segment(&mut self, minimum: u32) -> Result<Segment<'a>>
         ensures zeros { IfOk result (λ s. AllZero (bytes_of s)) }
@@ -52,6 +56,7 @@ impl<'a> Allocator for SingleSegmentAllocator<'a> {
             ≡ loans_of self.old.taken self.old.region.ghost_name) }
         ensures refusal { IfErr result (λ e. e.kind ≡ BufferNotLargeEnough) }
         ensures other { IfErr result (λ e. e.kind ≢ SizeOverflow) }
+        ensures cause { IfErr result (λ e. single_refuses self.old minimum e.kind) }
         ensures lent { IfOk result (λ s. loans_of_segment s ≡ self.old.region.ghost_name ∷ []) }
         ensures there { IsOk result
             ↔ ((self.old.taken ≡ false) × (8 * minimum ≤ length self.old.region.now)) }

@@ -1,5 +1,6 @@
 //! Segments of a MiB.
-ghost use Rattle.std.specs.Prelude.{[]};
+ghost use Rattle.std.specs.Prelude.{◌≡◌, []};
+ghost use Rattle.capnp_units.specs.declared.kinds.ErrorKind.TheVariants.{OutOfMemory};
 
 use capnp_copy::allocator::Allocator;
 use capnp_units::errors::Result;
@@ -20,6 +21,8 @@ impl Allocator for Large {
     ghost loans = { λ _. [] };
 
     ghost place = { λ _. [] };
+
+    ghost refuses = { λ _ _ kind. kind ≡ OutOfMemory };
 
     fn allocate_segment(&mut self, minimum: u32) -> Result<Vec<u8>> {
         let mut bytes = Vec::new(self.alloc);

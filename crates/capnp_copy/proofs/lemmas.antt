@@ -2,6 +2,7 @@ pub mod FieldLaws
 pub mod Ends
 pub mod ZeroedWords
 pub mod RoomLaws
+pub mod Refusals
 pub mod Making
 pub mod BlobNumbers
 pub mod ElementLaws

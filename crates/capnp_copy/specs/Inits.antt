@@ -40,8 +40,10 @@ HasNoRoom old slot n = NoRoom (words_in old.segments) old.room slot.segment n
 abbrev pub Keeps : ArenaState → ArenaState → Type 0
 Keeps old new = Grows (words_in old.segments) (words_in new.segments)
 
+-- In each of these `told` says of an error why it came.
+
 -- An object of so many zero words stands in place of the value, where the answer says, and its pointer's word is told with offset 0; or there is no room, and all stands as it was.
-pub record InitsZeros (old new : ArenaState) (slot : code.Place) (words pointer : ℕ) (r : Result code.Place Error) : Type 0 where
+pub record InitsZeros (old new : ArenaState) (slot : code.Place) (words pointer : ℕ) (r : Result code.Place Error) (told : Error → Type 0) : Type 0 where
   pub value : IfOk r (λ o. BecomesZeros (words_in old.segments) (words_in new.segments) (place_view slot) words pointer)
   pub object : IfOk r (λ o. LeadsToZeros (words_in new.segments) (place_view slot) (place_view o) words pointer)
   pub there : IfOk r (λ o. HasWords new.segments o words)
@@ -53,9 +55,10 @@ pub record InitsZeros (old new : ArenaState) (slot : code.Place) (words pointer 
   pub kind : IfErr r (λ e. (0 < words) × ((e.kind ≡ SizeOverflow) ↔ PassesLimit old.segments (words + 1)))
   pub books : new.books ≡ old.books
   pub grows : OnOk r (Keeps old new)
+  pub cause : IfErr r told
 
 -- A struct of zeros and nulls stands in place of the value, where the answer says; or there is no room, and all stands as it was.
-pub record InitsStruct (old new : ArenaState) (slot : code.Place) (wanted : StructSize) (r : Result StructPlace Error) : Type 0 where
+pub record InitsStruct (old new : ArenaState) (slot : code.Place) (wanted : StructSize) (r : Result StructPlace Error) (told : Error → Type 0) : Type 0 where
   pub value : IfOk r (λ o. BecomesAt old new slot (structure wanted.data_words 0 (resized wanted.pointers none)))
   pub object : IfOk r (λ o. LeadsTo (words_in new.segments) (place_view slot) (struct_at o))
   pub size : IfOk r (λ o. (o.data_words ≡ wanted.data_words) × (o.pointers ≡ wanted.pointers))
@@ -68,9 +71,10 @@ pub record InitsStruct (old new : ArenaState) (slot : code.Place) (wanted : Stru
   pub kind : IfErr r (λ e. (e.kind ≡ SizeOverflow) ↔ PassesLimit old.segments (wanted.data_words + wanted.pointers + 1))
   pub books : new.books ≡ old.books
   pub grows : OnOk r (Keeps old new)
+  pub cause : IfErr r told
 
 -- A list of so many zeros, or nulls, of a size stands in place of the value, where the answer says; or there is no room, or too many are wanted, and all stands as it was.
-pub record InitsList (old new : ArenaState) (slot : code.Place) (size : ElementSize) (count : ℕ) (r : Result ListPlace Error) : Type 0 where
+pub record InitsList (old new : ArenaState) (slot : code.Place) (size : ElementSize) (count : ℕ) (r : Result ListPlace Error) (told : Error → Type 0) : Type 0 where
   pub value : IfOk r (λ o. BecomesAt old new slot (new_tree (zeros_of (size_number size) count)))
   pub object : IfOk r (λ o. LeadsTo (words_in new.segments) (place_view slot) (list_at o))
   pub list : IfOk r (λ o. (o.size ≡ size) × (o.claimed ≡ count) × (o.count ≡ count))
@@ -83,9 +87,10 @@ pub record InitsList (old new : ArenaState) (slot : code.Place) (size : ElementS
   pub kind : IfErr r (λ e. (e.kind ≡ SizeOverflow) ↔ ((2 ^ 29 ≤ count) ⊎ PassesLimit old.segments (words_of_list (size_number size) count + 1)))
   pub books : new.books ≡ old.books
   pub grows : OnOk r (Keeps old new)
+  pub cause : IfErr r told
 
 -- A list of so many structs of zeros and nulls stands in place of the value, where the answer says; or there is no room, or too much is wanted, and all stands as it was.
-pub record InitsStructList (old new : ArenaState) (slot : code.Place) (count : ℕ) (size : StructSize) (r : Result ListPlace Error) : Type 0 where
+pub record InitsStructList (old new : ArenaState) (slot : code.Place) (count : ℕ) (size : StructSize) (r : Result ListPlace Error) (told : Error → Type 0) : Type 0 where
   pub value : IfOk r (λ o. BecomesAt old new slot (struct_list size.data_words size.pointers (zero_elements count size.pointers)))
   pub object : IfOk r (λ o. LeadsTo (words_in new.segments) (place_view slot) (list_at o))
   pub list : IfOk r (λ o. (size_number o.size ≡ 7) × (o.claimed ≡ count * (size.data_words + size.pointers)) × (o.count ≡ count) × (o.data_words ≡ size.data_words) × (o.pointers ≡ size.pointers))
@@ -98,9 +103,10 @@ pub record InitsStructList (old new : ArenaState) (slot : code.Place) (count : �
   pub kind : IfErr r (λ e. (e.kind ≡ SizeOverflow) ↔ ((2 ^ 29 ≤ count) ⊎ (2 ^ 29 ≤ count * (size.data_words + size.pointers)) ⊎ PassesLimit old.segments (count * (size.data_words + size.pointers) + 2)))
   pub books : new.books ≡ old.books
   pub grows : OnOk r (Keeps old new)
+  pub cause : IfErr r told
 
 -- A list of so many bytes stands in place of the value, these and zeros behind them; or there is no room, or they are too many, and all stands as it was.
-pub record PutsBytes {X : Type 0} (old new : ArenaState) (slot : code.Place) (count : ℕ) (bytes : List ℕ) (r : Result X Error) : Type 0 where
+pub record PutsBytes {X : Type 0} (old new : ArenaState) (slot : code.Place) (count : ℕ) (bytes : List ℕ) (r : Result X Error) (told : Error → Type 0) : Type 0 where
   pub value : IfOk r (λ o. BecomesAt old new slot (plain_list 2 count (number_of 8 bytes)))
   pub taken : OnOk r (TakesWhereRoom old new slot (words_for (8 * count)))
   pub bound : OnOk r (TakesWithPad old new (words_for (8 * count)))
@@ -109,3 +115,4 @@ pub record PutsBytes {X : Type 0} (old new : ArenaState) (slot : code.Place) (co
   pub kind : IfErr r (λ e. (e.kind ≡ SizeOverflow) ↔ ((2 ^ 29 ≤ count) ⊎ PassesLimit old.segments (words_for (8 * count) + 1)))
   pub books : new.books ≡ old.books
   pub grows : OnOk r (Keeps old new)
+  pub cause : IfErr r told

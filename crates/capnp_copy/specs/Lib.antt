@@ -1,6 +1,7 @@
 pub mod Memory
 pub mod Allocations
 pub mod Holding
+pub mod Refusals
 pub mod States
 pub use Rattle.capnp_wire.specs.Places
 pub mod Structs

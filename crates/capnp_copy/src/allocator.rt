@@ -1,6 +1,7 @@
 //! Where the segments of a message that is built come from.
 ghost use Rattle.std.specs.Prelude.{◌≡◌, ◌≢◌, ◌+◌, ◌*◌, ◌≤◌, ◌++◌, ◌∷◌, [], ℕ, List, length, replicate, IfOk, IfErr, OnErr};
 ghost use Rattle.capnp_copy.specs.Memory.{AllZero, ZeroFrom, overwritten};
+ghost use Rattle.capnp_units.specs.declared.kinds.ErrorKind.{ErrorKind};
 ghost use Rattle.capnp_units.specs.declared.kinds.ErrorKind.TheVariants.{SizeOverflow};
 
 use capnp_units::errors::Result;
@@ -42,11 +43,15 @@ pub trait Allocator {
     /// The names of what it borrows and never hands out.
     ghost place: { Self → List ℕ };
 
-    /// A segment of at least so many words, all zero. A refusal is of any kind but `SizeOverflow`, and leaves the allocator what it holds.
+    /// In this state, asked for a segment of so many words, it may be refused with this kind.
+    ghost refuses: { Self → ℕ → ErrorKind → Type 0 };
+
+    /// A segment of at least so many words, all zero. A refusal is as the allocator says, of any kind but `SizeOverflow`, and leaves the allocator what it holds.
     fn allocate_segment(&mut self, minimum: u32) -> Result<Self::Segment>
         ensures zeros { IfOk result (λ s. AllZero (Self.Segment.bytes s)) }
         ensures room { IfOk result (λ s. 8 * minimum ≤ length (Self.Segment.bytes s)) }
         ensures kind { IfErr result (λ e. e.kind ≢ SizeOverflow) }
+        ensures cause { IfErr result (λ e. refuses self.old minimum e.kind) }
         ensures moved { IfOk result (λ s. loans self.old ≡ Self.Segment.loans s ++ loans self.new) }
         ensures kept { OnErr result (loans self.new ≡ loans self.old) }
         ensures place { place self.new ≡ place self.old };
@@ -65,6 +70,8 @@ impl<L: Allocator> Allocator for &mut L {
     ghost loans = { λ s. L.loans s.now };
 
     ghost place = { λ s. s.ghost_name ∷ L.place s.now };
+
+    ghost refuses = { λ s n kind. L.refuses s.now n kind };
 
     fn allocate_segment(&mut self, minimum: u32) -> Result<L::Segment> {
         (**self).allocate_segment(minimum)

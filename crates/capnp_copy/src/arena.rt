@@ -4,6 +4,7 @@ ghost use Rattle.std.specs.Option.{is_some};
 ghost use Rattle.capnp_model.specs.Bytes.{words_in_bytes};
 ghost use Rattle.capnp_model.specs.Segments.{words_at};
 ghost use Rattle.capnp_units.specs.Segments.{words_in};
+ghost use Rattle.capnp_units.specs.declared.kinds.ErrorKind.{ErrorKind};
 ghost use Rattle.capnp_units.specs.declared.kinds.ErrorKind.TheVariants.{SizeOverflow};
 ghost use Rattle.capnp_wire.specs.Places.{place_view};
 ghost use Rattle.capnp_footprints.specs.Writes.{with_words};
@@ -22,6 +23,9 @@ pub trait BuilderArena: ReaderArena {
     /// The words of each segment that are free, behind those that were allocated.
     ghost room: { Self → List ℕ };
 
+    /// In this state, where the last segment has no room for so many words, a new one may be refused with this kind.
+    ghost refuses: { Self → ℕ → ErrorKind → Type 0 };
+
     /// Allocates zero words at the end of a segment, and answers their position; none just where the segment isn't there, has fewer free ones, or the message's words would pass 2^29 - 1.
     fn allocate(&mut self, segment: SegmentId, words: u32) -> Option<u32>
         ensures some { IfSome result (λ at.
@@ -34,6 +38,8 @@ pub trait BuilderArena: ReaderArena {
             (HasRoom (words_in (Self.segments self.old)) (room self.old) segment words → ⊥) }
         ensures none { IfNone result (Self.segments self.new ≡ Self.segments self.old) }
         ensures kept { IfNone result (room self.new ≡ room self.old) }
+        ensures unasked { IfNone result
+            ((n : ℕ) (kind : ErrorKind) → refuses self.new n kind → refuses self.old n kind) }
         ensures books { books self.new ≡ books self.old };
 
     /// Allocates zero words in any segment, which is a new one only where the last has no room. It is refused with `SizeOverflow` just where the message's words would pass 2^29 - 1, else as the allocator refuses; then nothing is allocated.
@@ -48,6 +54,8 @@ pub trait BuilderArena: ReaderArena {
         ensures refused { OnErr result (Self.segments self.new ≡ Self.segments self.old) }
         ensures kind { IfErr result (λ e.
             (e.kind ≡ SizeOverflow) ↔ PassesLimit (Self.segments self.old) words) }
+        ensures cause { IfErr result (λ e.
+            PassesLimit (Self.segments self.old) words ⊎ refuses self.old words e.kind) }
         ensures books { books self.new ≡ books self.old };
 
     /// Writes a word in place of the one at a place.

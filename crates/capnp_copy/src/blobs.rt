@@ -7,6 +7,7 @@ ghost use Rattle.capnp_units.specs.Segments.{words_in};
 ghost use Rattle.capnp_wire.specs.Places.{place_view};
 ghost use Rattle.capnp_copy.specs.Blobs.{with_bytes, whole_of};
 ghost use Rattle.capnp_copy.specs.Inits.{PutsBytes};
+ghost use Rattle.capnp_copy.specs.Refusals.{IsSizeOrRefusal};
 ghost use Rattle.capnp_copy.specs.States.{state_in};
 
 use crate::allocator::write_in;
@@ -57,7 +58,8 @@ fn set_bytes<A: BuilderArena>(arena: &mut A, slot: Place, bytes: &[u8], count: u
     requires near { slot.position < 2 ^ 61 }
     requires all { (length bytes.now ≤ count) × (count ≤ length bytes.now + 1) }
     ensures { let at = state_in A.segments A.room A.books in
-        PutsBytes (at arena.old) (at arena.new) slot count bytes.now result }
+        PutsBytes (at arena.old) (at arena.new) slot count bytes.now result
+        (IsSizeOrRefusal A.refuses) }
 {
     let list = init_list(arena, slot, ElementSize::Byte, count)?;
     let words = (count as usize + 7) / 8;
@@ -73,7 +75,8 @@ pub fn set_data<A: BuilderArena>(arena: &mut A, slot: Place, bytes: &[u8]) -> Re
         ≡ true }
     requires near { slot.position < 2 ^ 61 }
     ensures { let at = state_in A.segments A.room A.books in
-        PutsBytes (at arena.old) (at arena.new) slot (length bytes.now) bytes.now result }
+        PutsBytes (at arena.old) (at arena.new) slot (length bytes.now) bytes.now result
+        (IsSizeOrRefusal A.refuses) }
 {
     if bytes.len() > MOST_WORDS as usize {
         return Err(Error::from(ErrorKind::SizeOverflow));
@@ -89,7 +92,8 @@ pub fn set_text<A: BuilderArena>(arena: &mut A, slot: Place, text: &[u8]) -> Res
         ≡ true }
     requires near { slot.position < 2 ^ 61 }
     ensures { let at = state_in A.segments A.room A.books in
-        PutsBytes (at arena.old) (at arena.new) slot (length text.now + 1) text.now result }
+        PutsBytes (at arena.old) (at arena.new) slot (length text.now + 1) text.now result
+        (IsSizeOrRefusal A.refuses) }
 {
     if text.len() >= MOST_WORDS as usize {
         return Err(Error::from(ErrorKind::SizeOverflow));

@@ -7,6 +7,7 @@ ghost use Rattle.capnp_units.specs.Sizes.{size_number};
 ghost use Rattle.capnp_wire.specs.Places.{place_view};
 ghost use Rattle.capnp_copy.specs.Inits.{InitsZeros, InitsStruct, InitsList};
 ghost use Rattle.capnp_copy.specs.Lists.{words_of_list};
+ghost use Rattle.capnp_copy.specs.Refusals.{IsSizeOrRefusal};
 ghost use Rattle.capnp_copy.specs.States.{state_in};
 
 use crate::arena::BuilderArena;
@@ -46,7 +47,8 @@ fn init_zeros<A: BuilderArena>(
     requires few { words ≤ 2 ^ 29 }
     requires offset { pointer < 2 ^ 64 - 2 ^ 32 + 4 }
     ensures { let at = state_in A.segments A.room A.books in
-        InitsZeros (at arena.old) (at arena.new) slot words pointer result }
+        InitsZeros (at arena.old) (at arena.new) slot words pointer result
+        (IsSizeOrRefusal A.refuses) }
 {
     let room = allocate_near(arena, slot, words)?;
     clear(arena, slot);
@@ -66,7 +68,8 @@ pub fn init_struct<A: BuilderArena>(
         ≡ true }
     requires near { slot.position < 2 ^ 61 }
     ensures { let at = state_in A.segments A.room A.books in
-        InitsStruct (at arena.old) (at arena.new) slot size result }
+        InitsStruct (at arena.old) (at arena.new) slot size result
+        (IsSizeOrRefusal A.refuses) }
 {
     let start = init_zeros(arena, slot, size.total(), struct_word(size))?;
     Ok(StructPlace {
@@ -104,7 +107,8 @@ pub fn init_list<A: BuilderArena>(
     requires near { slot.position < 2 ^ 61 }
     requires plain { size_number size < 7 }
     ensures { let at = state_in A.segments A.room A.books in
-        InitsList (at arena.old) (at arena.new) slot size count result }
+        InitsList (at arena.old) (at arena.new) slot size count result
+        (IsSizeOrRefusal A.refuses) }
 {
     if count > MOST_WORDS {
         return Err(Error::from(ErrorKind::SizeOverflow));

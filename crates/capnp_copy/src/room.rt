@@ -1,5 +1,5 @@
 //! Room for new objects near the pointers that will name them.
-ghost use Rattle.std.specs.Prelude.{◌≡◌, ◌+◌, ◌-◌, ◌*◌, ◌<◌, ◌≤◌, ◌^◌, ◌↔◌, ◌∷◌, [], ℕ, true, IfOk, IfErr, OnErr};
+ghost use Rattle.std.specs.Prelude.{◌≡◌, ◌⊎◌, ◌+◌, ◌-◌, ◌*◌, ◌<◌, ◌≤◌, ◌^◌, ◌↔◌, ◌∷◌, [], ℕ, true, IfOk, IfErr, OnErr};
 ghost use Rattle.std.specs.Option.{is_some};
 ghost use Rattle.capnp_model.specs.Segments.{word_at, words_at};
 ghost use Rattle.capnp_model.specs.Encoding.{struct_pointer, list_pointer};
@@ -61,7 +61,7 @@ pub fn list_word(size: ElementSize, count: u32) -> u64
 
 /// Allocates words for an object that the pointer at a place will name: in the pointer's segment where that has room for them, else behind a pad of one word in any segment, which may be a new one. An object without words takes none. Nothing is written.
 ///
-/// It is refused with `SizeOverflow` just where the message's words would pass 2^29 - 1, the pad counted, else as the allocator refuses, which is asked only where neither the pointer's segment has room for the words nor the last for these and a pad; then nothing is allocated.
+/// It is refused with `SizeOverflow` just where the message's words would pass 2^29 - 1, the pad counted, else as the allocator refuses the words and a pad, which is asked only where neither the pointer's segment has room for the words nor the last for these and a pad; then nothing is allocated.
 pub fn allocate_near<A: BuilderArena>(arena: &mut A, slot: Place, words: u32) -> Result<Room>
     requires there { is_some (word_at (words_in (A.segments arena.old)) (place_view slot)) ≡ true }
     requires few { words ≤ 2 ^ 29 }
@@ -71,6 +71,9 @@ pub fn allocate_near<A: BuilderArena>(arena: &mut A, slot: Place, words: u32) ->
     ensures refused { OnErr result (A.segments arena.new ≡ A.segments arena.old) }
     ensures kind { IfErr result (λ e.
         (0 < words) × ((e.kind ≡ SizeOverflow) ↔ PassesLimit (A.segments arena.old) (words + 1))) }
+    ensures cause { IfErr result (λ e.
+        PassesLimit (A.segments arena.old) (words + 1)
+        ⊎ A.refuses arena.old (words + 1) e.kind) }
     ensures full { OnErr result
         (NoRoom (words_in (A.segments arena.old)) (A.room arena.old) slot.segment words) }
     ensures books { A.books arena.new ≡ A.books arena.old }

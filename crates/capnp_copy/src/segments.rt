@@ -1,5 +1,5 @@
 //! An arena that takes its segments from an allocator.
-ghost use Rattle.std.specs.Prelude.{◌≡◌, ◌≢◌, ◌⊎◌, ◌+◌, ◌-◌, ◌*◌, ◌/◌, ◌<◌, ◌≤◌, ◌^◌, ◌++◌, ◌∷◌, [], ℕ, List, length, map, take, get_or, pos, OnSome, IfSome, IfNone, IfOk, IfErr, OnOk, OnErr};
+ghost use Rattle.std.specs.Prelude.{◌≡◌, ◌≢◌, ◌⊎◌, ◌+◌, ◌-◌, ◌*◌, ◌/◌, ◌<◌, ◌≤◌, ◌^◌, ◌++◌, ◌∷◌, [], ℕ, List, length, map, take, get_or, pos, vec_capacity, OnSome, IfSome, IfNone, IfOk, IfErr, OnOk, OnErr};
 ghost use Rattle.std.specs.List.{flat_map};
 ghost use Rattle.capnp_footprints.specs.Writes.{with_zeros, segment_end};
 ghost use Rattle.capnp_copy.specs.Allocations.{total_of, words_used};
@@ -34,6 +34,8 @@ pub struct BuilderArenaImpl<A: Allocator> {
 }
 
 impl<A: Allocator> BuilderArenaImpl<A> {
+    ghost use Rattle.capnp_copy.specs.Refusals.{arena_refuses};
+
     /// An arena without segments. Memory for the list of its segments comes from `alloc`, their bytes come from the allocator.
     pub fn new(alloc: Global, allocator: A) -> Self
         ensures allocator { result.allocator ≡ allocator }
@@ -60,8 +62,11 @@ impl<A: Allocator> BuilderArenaImpl<A> {
         ensures words { OnOk result (UsesMore self.old.segments.items self.new.segments.items
             (length self.old.segments.items) used) }
         ensures len { OnOk result (length self.old.segments.items < 2 ^ 32 - 1) }
+        ensures room { OnOk result (minimum ≤ used
+            + get_or (free_words self.new.segments.items) (length self.old.segments.items) 0) }
         ensures refused { OnErr result (self.new.segments.items ≡ self.old.segments.items) }
         ensures kind { IfErr result (λ e. e.kind ≢ SizeOverflow) }
+        ensures cause { IfErr result (λ e. arena_refuses self.old minimum e.kind) }
         ensures place { A.place self.new.allocator ≡ A.place self.old.allocator }
         ensures loans { held_loans self.new.segments.items ++ A.loans self.new.allocator
             ≡ held_loans self.old.segments.items ++ A.loans self.old.allocator }
@@ -89,12 +94,17 @@ impl<A: Allocator> BuilderArenaImpl<A> {
 }
 
 impl<A: Allocator> BuilderArenaImpl<A> {
-    /// Takes a segment of at least so many words from the allocator, of which none is used yet. It is refused with `OutOfMemory` where the list of segments can't grow, else as the allocator refuses; then the arena is as it was.
+    ghost use Rattle.capnp_copy.specs.Refusals.{arena_refuses};
+
+    /// Takes a segment of at least so many words from the allocator, of which none is used yet. It is refused with `OutOfMemory` where the list of segments can't grow, else as the allocator refuses so many words; then the arena is as it was.
     pub fn allocate_segment(&mut self, minimum: u32) -> Result<()>
         ensures words { OnOk result (UsesMore self.old.segments.items self.new.segments.items
             (length self.old.segments.items) 0) }
+        ensures room { OnOk result (minimum
+            ≤ get_or (free_words self.new.segments.items) (length self.old.segments.items) 0) }
         ensures refused { OnErr result (self.new.segments.items ≡ self.old.segments.items) }
         ensures kind { IfErr result (λ e. e.kind ≢ SizeOverflow) }
+        ensures cause { IfErr result (λ e. arena_refuses self.old minimum e.kind) }
         ensures place { A.place self.new.allocator ≡ A.place self.old.allocator }
         ensures loans { held_loans self.new.segments.items ++ A.loans self.new.allocator
             ≡ held_loans self.old.segments.items ++ A.loans self.old.allocator }
@@ -145,6 +155,8 @@ impl<A: Allocator> BuilderArenaImpl<A> {
             (words ≤ get_or (free_words self.old.segments.items) segment 0) }
         ensures full { IfNone result (IsFull self.old.segments.items segment words) }
         ensures none { IfNone result (self.new.segments.items ≡ self.old.segments.items) }
+        ensures capacity { vec_capacity self.new.segments ≡ vec_capacity self.old.segments }
+        ensures allocator { self.new.allocator ≡ self.old.allocator }
         ensures place { A.place self.new.allocator ≡ A.place self.old.allocator }
         ensures loans { held_loans self.new.segments.items ++ A.loans self.new.allocator
             ≡ held_loans self.old.segments.items ++ A.loans self.old.allocator }
@@ -163,6 +175,8 @@ impl<A: Allocator> BuilderArenaImpl<A> {
         ensures full { let all = self.old.segments.items in IfNone result
             ((length all ≡ 0) ⊎ (get_or (free_words all) (length all - 1) 0 < words)) }
         ensures none { IfNone result (self.new.segments.items ≡ self.old.segments.items) }
+        ensures capacity { vec_capacity self.new.segments ≡ vec_capacity self.old.segments }
+        ensures allocator { self.new.allocator ≡ self.old.allocator }
         ensures place { A.place self.new.allocator ≡ A.place self.old.allocator }
         ensures loans { held_loans self.new.segments.items ++ A.loans self.new.allocator
             ≡ held_loans self.old.segments.items ++ A.loans self.old.allocator }
@@ -184,6 +198,7 @@ impl<A: Allocator> BuilderArenaImpl<A> {
             (length self.old.segments.items) words) }
         ensures refused { OnErr result (self.new.segments.items ≡ self.old.segments.items) }
         ensures kind { IfErr result (λ e. e.kind ≢ SizeOverflow) }
+        ensures cause { IfErr result (λ e. arena_refuses self.old words e.kind) }
         ensures place { A.place self.new.allocator ≡ A.place self.old.allocator }
         ensures loans { held_loans self.new.segments.items ++ A.loans self.new.allocator
             ≡ held_loans self.old.segments.items ++ A.loans self.old.allocator }
@@ -245,12 +260,16 @@ impl<A: Allocator> ReaderArena for BuilderArenaImpl<A> {
 }
 
 impl<A: Allocator> BuilderArena for BuilderArenaImpl<A> {
+    ghost use Rattle.capnp_copy.specs.Refusals.{arena_refuses};
+
     ghost books = { λ a. A.place a.allocator
         ∷ (flat_map (λ h. A.Segment.loans h.segment) a.segments.items ++ A.loans a.allocator)
         ∷ [] };
 
     ghost room = { λ a. map (λ h. length (A.Segment.bytes h.segment) / 8 - h.used)
         a.segments.items };
+
+    ghost refuses = { λ a n kind. arena_refuses a n kind };
 
     fn allocate(&mut self, segment: SegmentId, words: u32) -> Option<u32> {
         if words > MOST_WORDS - self.words {

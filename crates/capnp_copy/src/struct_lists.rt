@@ -7,6 +7,7 @@ ghost use Rattle.capnp_units.specs.Segments.{words_in};
 ghost use Rattle.capnp_units.specs.declared.kinds.ErrorKind.TheVariants.{SizeOverflow};
 ghost use Rattle.capnp_wire.specs.Places.{place_view};
 ghost use Rattle.capnp_copy.specs.Inits.{InitsStructList};
+ghost use Rattle.capnp_copy.specs.Refusals.{IsSizeOrRefusal};
 ghost use Rattle.capnp_copy.specs.States.{state_in};
 
 use crate::arena::BuilderArena;
@@ -56,7 +57,8 @@ pub fn init_struct_list<A: BuilderArena>(
         ≡ true }
     requires near { slot.position < 2 ^ 61 }
     ensures { let at = state_in A.segments A.room A.books in
-        InitsStructList (at arena.old) (at arena.new) slot count size result }
+        InitsStructList (at arena.old) (at arena.new) slot count size result
+        (IsSizeOrRefusal A.refuses) }
 {
     let words = words_of_structs(count, size)?;
     let room = allocate_near(arena, slot, 1 + words)?;

@@ -1,5 +1,6 @@
 //! Segments that copies are made in.
-ghost use Rattle.std.specs.Prelude.{[]};
+ghost use Rattle.std.specs.Prelude.{◌≡◌, []};
+ghost use Rattle.capnp_units.specs.declared.kinds.ErrorKind.TheVariants.{OutOfMemory};
 
 use capnp_copy::allocator::Allocator;
 use capnp_units::errors::Result;
@@ -18,6 +19,8 @@ impl Allocator for Slabs {
     ghost loans = { λ _. [] };
 
     ghost place = { λ _. [] };
+
+    ghost refuses = { λ _ _ kind. kind ≡ OutOfMemory };
 
     fn allocate_segment(&mut self, minimum: u32) -> Result<Vec<u8>> {
         let mut bytes = Vec::new(self.alloc);

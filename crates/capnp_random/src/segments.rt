@@ -1,5 +1,6 @@
 //! Segments that are small, and now and then none.
-ghost use Rattle.std.specs.Prelude.{[]};
+ghost use Rattle.std.specs.Prelude.{◌≡◌, []};
+ghost use Rattle.capnp_units.specs.declared.kinds.ErrorKind.TheVariants.{OutOfMemory};
 
 use crate::random::Random;
 use capnp_copy::allocator::Allocator;
@@ -34,6 +35,8 @@ impl Allocator for Small {
     ghost loans = { λ _. [] };
 
     ghost place = { λ _. [] };
+
+    ghost refuses = { λ _ _ kind. kind ≡ OutOfMemory };
 
     fn allocate_segment(&mut self, minimum: u32) -> Result<Vec<u8>> {
         if self.begun && self.random.below(6) == 0 {

@@ -1,5 +1,6 @@
 //! Calls that an allocator refuses, and lists that are as long as may be.
-ghost use Rattle.std.specs.Prelude.{[]};
+ghost use Rattle.std.specs.Prelude.{◌≡◌, []};
+ghost use Rattle.capnp_units.specs.declared.kinds.ErrorKind.TheVariants.{OutOfMemory};
 
 use crate::builders::build_tests::ROOT;
 use crate::builders::calls::{Call, make_call, sized};
@@ -33,6 +34,8 @@ impl Allocator for Rationed {
     ghost loans = { λ _. [] };
 
     ghost place = { λ _. [] };
+
+    ghost refuses = { λ _ _ kind. kind ≡ OutOfMemory };
 
     fn allocate_segment(&mut self, minimum: u32) -> Result<Vec<u8>> {
         self.asked = minimum;

@@ -1,5 +1,6 @@
 //! Segments that an arena takes on demand, written and read back.
 ghost use Rattle.std.specs.Prelude.{◌≡◌, []};
+ghost use Rattle.capnp_units.specs.declared.kinds.ErrorKind.TheVariants.{OutOfMemory};
 
 use capnp_builders::struct_builder::StructBuilder;
 use capnp_copy::allocator::Allocator;
@@ -28,6 +29,8 @@ impl Allocator for Exact {
     ghost loans = { λ _. [] };
 
     ghost place = { λ _. [] };
+
+    ghost refuses = { λ _ _ kind. kind ≡ OutOfMemory };
 
     fn allocate_segment(&mut self, minimum: u32) -> Result<Vec<u8>> {
         if self.left == 0 {

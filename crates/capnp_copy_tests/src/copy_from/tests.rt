@@ -1,5 +1,6 @@
 //! Values that are copied, as they lie afterwards.
 ghost use Rattle.std.specs.Prelude.{◌≡◌, ◌≤◌, [], length};
+ghost use Rattle.capnp_units.specs.declared.kinds.ErrorKind.TheVariants.{OutOfMemory};
 
 use crate::copy_from::list_tests::set_part;
 use capnp_copy::allocator::Allocator;
@@ -39,6 +40,8 @@ impl Allocator for Slabs {
     ghost loans = { λ _. [] };
 
     ghost place = { λ _. [] };
+
+    ghost refuses = { λ _ _ kind. kind ≡ OutOfMemory };
 
     fn allocate_segment(&mut self, minimum: u32) -> Answer<Vec<u8>> {
         if self.left == 0 {

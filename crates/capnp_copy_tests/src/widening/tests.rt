@@ -1,5 +1,6 @@
 //! Words of messages that are widened, as the encoding has them.
 ghost use Rattle.std.specs.Prelude.{◌≡◌, ◌≤◌, [], length};
+ghost use Rattle.capnp_units.specs.declared.kinds.ErrorKind.TheVariants.{OutOfMemory};
 
 use capnp_copy::allocator::Allocator;
 use capnp_copy::arena::BuilderArena;
@@ -36,6 +37,8 @@ impl Allocator for Exact {
     ghost loans = { λ _. [] };
 
     ghost place = { λ _. [] };
+
+    ghost refuses = { λ _ _ kind. kind ≡ OutOfMemory };
 
     fn allocate_segment(&mut self, minimum: u32) -> Result<Vec<u8>> {
         if self.left == 0 {

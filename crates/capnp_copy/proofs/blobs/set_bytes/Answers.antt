@@ -57,4 +57,5 @@ returns g c =
       kind = tt;
       books = c.write_bytes.ensures.books ∙ e.books;
       grows = grows_then s m u e.grows (sizes_grow m u same);
+      cause = tt;
     }

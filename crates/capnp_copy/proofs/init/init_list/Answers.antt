@@ -43,6 +43,7 @@ returns g c =
       kind = tt;
       books = e.books;
       grows = e.grows;
+      cause = tt;
     }
 
 pub returns-in_err-start : goal.returns-in_err-start
@@ -69,4 +70,5 @@ returns-in_err-start g c =
       kind = (λ is. inr (over (e.kind.1.0 is)), elim [ inl l ↦ absurd (omega (arith, l, c.words_of.ensures.small)) | inr l ↦ e.kind.1.1 (under l) ]);
       books = e.books;
       grows = tt;
+      cause = e.cause;
     })

@@ -1,4 +1,4 @@
-use Rattle.std.proofs.Common.{◌≡◌, ◌+◌, ◌<◌, ◌^◌, ℕ, ap, true, ◌∙◌, sym, subst, arith, length, map}
+use Rattle.std.proofs.Common.{◌≡◌, ◌≤◌, ◌+◌, ◌<◌, ◌^◌, ℕ, ap, true, ◌∙◌, sym, subst, arith, length, map}
 use Rattle.std.specs.Option.{is_some}
 use Rattle.capnp_model.specs.Segments.{Segments, Place, words_at}
 use Rattle.capnp_units.specs.Segments.{words_in}
@@ -10,6 +10,9 @@ use Rattle.capnp_footprints.proofs.lemmas.Spans.{grows_then}
 use Rattle.capnp_copy.proofs.lemmas.RoomLaws.{word_there, sizes_grow, still_some, still_linked, room_addressed, room_grows, room_pad, pad_stays, room_words, room_near}
 use Rattle.capnp_copy.proofs.lemmas.Making.{made, leads}
 use Rattle.capnp_copy.proofs.lemmas.Taken.{room_takes, room_bounds, linked_sizes, takes_so, bounds_so}
+use Rattle.std.proofs.lemmas.Result.{err_from_is_err_and}
+use Rattle.capnp_copy.specs.Allocations.{total_words}
+use Rattle.capnp_copy.proofs.lemmas.Refusals.{size_or_refusal}
 use Rattle.capnp_copy.proofs.init.init_zeros.Goals as goal
 
 pub allocate_near-requires-clause-there : goal.allocate_near-requires-clause-there
@@ -75,4 +78,25 @@ returns g c =
       kind = tt;
       books = c.link.ensures.books ∙ (c.clear.ensures.books ∙ c.in_ok-room.ensures.books);
       grows = grows_then s m v (room_grows s m p n room made_room) (sizes_grow m v same);
+      cause = tt;
     }
+
+pub returns-in_err-room : goal.returns-in_err-room
+returns-in_err-room g c =
+    let p = err_from_is_err_and c.from_residual.result c.from_residual.ensures.1 in
+    let s = words_in (g.A.ReaderArena.segments c.args.arena.now) in
+    let e = c.in_err-room.ensures in
+    rw (p.1, p.2) (record {
+      value = tt;
+      object = tt;
+      there = tt;
+      near = tt;
+      taken = tt;
+      bound = tt;
+      full = e.full;
+      refused = e.refused;
+      kind = e.kind;
+      books = e.books;
+      grows = tt;
+      cause = size_or_refusal g.A.BuilderArena.refuses (2 ^ 29 ≤ total_words s + (c.args.words + 1)) c.args.arena.now (c.args.words + 1) c.in_err-room.field-0.0 e.kind.1 e.cause;
+    })

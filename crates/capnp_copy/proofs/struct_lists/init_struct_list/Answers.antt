@@ -18,6 +18,7 @@ use Rattle.capnp_copy.proofs.MakingStructs.{structs_made, structs_lead}
 use Rattle.capnp_copy.specs.Allocations.{total_words, TakesJust, TakesAtMost, NoRoom}
 use Rattle.capnp_copy.proofs.lemmas.ZeroedWords.{written_sizes}
 use Rattle.capnp_copy.proofs.lemmas.Taken.{room_takes, room_bounds, linked_sizes, takes_so, bounds_so}
+use Rattle.capnp_copy.proofs.lemmas.Refusals.{size_or_refusal}
 use Rattle.capnp_copy.proofs.struct_lists.init_struct_list.Goals as goal
 
 pub allocate_near-requires-clause-there : goal.allocate_near-requires-clause-there
@@ -105,6 +106,7 @@ returns g c =
       kind = tt;
       books = c.link.ensures.books ∙ (c.write_word.ensures.books ∙ (c.clear.ensures.books ∙ c.in_ok-room.ensures.books));
       grows = grows_then s m x (room_grows s m p (1 + n) room made_room) (sizes_grow m x same);
+      cause = tt;
     }
 
 pub returns-in_err-room : goal.returns-in_err-room
@@ -132,4 +134,5 @@ returns-in_err-room g c =
       kind = (λ is. inr (inr (over (e.kind.1.0 is))), elim [ inl l ↦ absurd (omega (arith, l, few.1)) | inr (inl l) ↦ absurd (omega (arith, l, few.0, same)) | inr (inr l) ↦ e.kind.1.1 (under l) ]);
       books = e.books;
       grows = tt;
+      cause = size_or_refusal g.A.BuilderArena.refuses (2 ^ 29 ≤ total_words s + (1 + n + 1)) c.args.arena.now (1 + n + 1) c.in_err-room.field-0.0 e.kind.1 e.cause;
     })

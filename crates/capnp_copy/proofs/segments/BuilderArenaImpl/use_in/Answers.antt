@@ -59,6 +59,8 @@ returns-in_err-at g c =
       room = never_some o _ e;
       full = if_none o _ e (full_before a.segments.items zs c.args.segment c.args.words a.words same a.sum c.requires c.in_err-at.ensures.full);
       none = if_none o _ e (unchanged a.segments.len a.segments.items zs c.grow_in.new.all same whole kept c.in_err-at.ensures.none);
+      capacity = refl;
+      allocator = refl;
       place = refl;
       loans = ap (λ (names : List ℕ). names ++ g.A.Allocator.loans a.allocator) (kept_loans a.segments.len a.segments.items zs c.grow_in.new.all same whole kept c.grow_in.ensures.loans);
     }
@@ -89,6 +91,8 @@ returns g c =
       room = room_before a.segments.items zs c.args.segment c.args.words same c.in_ok-at.ensures.room;
       full = tt;
       none = tt;
+      capacity = refl;
+      allocator = refl;
       place = refl;
       loans = ap (λ (names : List ℕ). names ++ g.A.Allocator.loans a.allocator) (kept_loans a.segments.len a.segments.items zs c.grow_in.new.all same whole kept c.grow_in.ensures.loans);
     }

@@ -2,6 +2,7 @@ use Rattle.std.proofs.Common.{ℕ, ◌-◌, ◌*◌, ◌/◌, length, map, take,
 use Rattle.capnp_units.specs.Segments.{whole_words}
 use Rattle.std.proofs.lemmas.List.{length-map}
 use Rattle.capnp_copy.proofs.HeldWords.{both_some, if_none, on_both, no_room, total_is, used_length, allocates_of}
+use Rattle.capnp_copy.proofs.lemmas.Refusals.{refuses_before}
 use Rattle.capnp_copy.proofs.segments.BuilderArenaImplBuilderArena.allocate.Goals as goal
 
 pub returns-clause-some : goal.returns-clause-some
@@ -33,3 +34,7 @@ returns-then-words-self-clause-full g c =
     let a = c.args.self.now in
     let t = total_is (λ h. take (8 * h.used) (g.A.Segment.SegmentBytes.bytes h.segment)) (λ h. h.used) (λ h. used_length h.used (g.A.Segment.SegmentBytes.bytes h.segment) h.inside) a.segments.items a.words a.sum in
     λ h. omega (arith, t, c.if-words-self.true, h.2)
+
+pub returns-clause-unasked : goal.returns-clause-unasked
+returns-clause-unasked g c =
+    if_none c.use_in.result c.use_in.ensures.none (λ same n kind r. refuses_before c.use_in.new.self c.args.self.now n kind c.use_in.ensures.allocator c.use_in.ensures.capacity same r)

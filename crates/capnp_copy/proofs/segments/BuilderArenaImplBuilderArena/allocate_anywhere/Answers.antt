@@ -4,6 +4,7 @@ use Rattle.capnp_units.specs.Segments.{whole_words}
 use Rattle.capnp_footprints.specs.Writes.{with_zeros, segment_end}
 use Rattle.capnp_copy.specs.Allocations.{words_used}
 use Rattle.capnp_copy.proofs.HeldWords.{both_ok, all_ok, all_err, no_last_room, if_err, end_past, used_length, total_is, allocates_of}
+use Rattle.capnp_copy.proofs.lemmas.Refusals.{refuses_before}
 use Rattle.capnp_copy.proofs.segments.BuilderArenaImplBuilderArena.allocate_anywhere.Goals as goal
 
 pub returns-then-words-self-clause-kind : goal.returns-then-words-self-clause-kind
@@ -63,3 +64,13 @@ returns-in-None-clause-full g c =
     let free = map (λ h. length (g.A.Segment.SegmentBytes.bytes h.segment) / 8 - h.used) a.segments.items in
     let same = ap (λ (i : ℕ). get_or free (i - 1) 0) n in
     all_err c.use_in_new.result (λ h. no_last_room (length a.segments.items) (get_or free (length a.segments.items - 1) 0) c.args.words c.in-None.ensures.full (omega (arith, h.0, n, m)) (omega (arith, h.1, same)))
+
+pub returns-then-words-self-clause-cause : goal.returns-then-words-self-clause-cause
+returns-then-words-self-clause-cause g c =
+    let a = c.args.self.now in
+    let t = total_is (λ h. take (8 * h.used) (g.A.Segment.SegmentBytes.bytes h.segment)) (λ h. h.used) (λ h. used_length h.used (g.A.Segment.SegmentBytes.bytes h.segment) h.inside) a.segments.items a.words a.sum in
+    inl (omega (arith, t, c.if-words-self.true))
+
+pub returns-in-None-clause-cause : goal.returns-in-None-clause-cause
+returns-in-None-clause-cause g c =
+    if_err c.use_in_new.result c.use_in_new.ensures.cause (λ e r. inr (refuses_before c.use_in_last.new.self c.args.self.now c.args.words e.kind c.use_in_last.ensures.allocator c.use_in_last.ensures.capacity c.in-None.ensures.none r))
