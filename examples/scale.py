@@ -1,0 +1,171 @@
+"""Measures how the program's cost and memory grow, and where its limits are.
+
+usage: scale.py
+
+Instructions are counted by valgrind, of what a run takes beyond one without messages. Memory is the most that
+was resident, told by the kernel while the program waits for more input.
+"""
+import json
+import os
+import re
+import struct
+import subprocess
+import tempfile
+
+from relay_program import relay_program
+
+SCHEMA = [
+    {
+        "id": 1,
+        "name": "Root",
+        "data": 1,
+        "pointers": 1,
+        "fields": [
+            {"name": "a", "type": "UInt32", "offset": 0},
+            {"name": "any", "type": "AnyPointer", "offset": 0},
+        ],
+    }
+]
+SET_A = {"path": ["a"], "verb": "set", "value": {"number": 7}}
+ROOT = struct.pack("<IHHQ", 0, 1, 1, 1)
+PIPES = {name: subprocess.PIPE for name in ("stdin", "stdout", "stderr")}
+
+
+def frame(*segments):
+    """The frame of a message."""
+    lengths = [len(it) // 8 for it in segments]
+    table = struct.pack(f"<I{len(lengths)}I", len(lengths) - 1, *lengths)
+    return table + bytes(-len(table) % 8) + b"".join(segments)
+
+
+def with_data(words):
+    """A message of so many words, nearly all of them one piece of data."""
+    count = 8 * (words - 3)
+    return frame(ROOT + struct.pack("<II", 1, count << 3 | 2) + b"\xab" * count)
+
+
+def with_structs(words):
+    """A message of some so many words, in a list of structs, each with a text."""
+    count = (words - 4) // 3
+    tag = struct.pack("<IHH", count << 2, 1, 1)
+    head = ROOT + struct.pack("<II", 1, 2 * count << 3 | 7) + tag
+    texts = 2 * count
+    elements = b"".join(
+        struct.pack("<QII", it + 1, (texts - 2 * it - 2 + it) << 2 | 1, 8 << 3 | 2) for it in range(count)
+    )
+    return frame(head + elements + b"a text.\0" * count)
+
+
+def with_segments(count):
+    """A message of so many segments: a chain of far pointers, each segment with one struct."""
+    segments = []
+    for it in range(count):
+        last = it + 1 == count
+        follow = struct.pack("<Q", 0) if last else struct.pack("<II", 2, it + 1)
+        segments.append(struct.pack("<IHHQ", 0, 1, 1, it + 1) + follow)
+    return frame(*segments)
+
+
+def nested(levels):
+    """A message of so many levels of pointers, each to a struct of one."""
+    inner = [struct.pack("<IHH", 0, 0, 1)] * (levels - 1)
+    return frame(b"".join(inner) + struct.pack("<IHHQ", 0, 1, 0, 1))
+
+
+class Runs:
+    """Runs of the program in a folder of their own."""
+
+    def __init__(self, folder):
+        self.folder, self.program = folder, relay_program()
+        self.write("schema.json", json.dumps(SCHEMA).encode())
+
+    def write(self, name, text):
+        """Writes a file of the run."""
+        with open(os.path.join(self.folder, name), "wb") as file:
+            file.write(text)
+
+    def words(self, calls, limits):
+        """The program's words, with these calls and limits in its file."""
+        self.write("calls.json", json.dumps({"calls": calls, **limits}).encode())
+        return [self.program, "schema.json", "calls.json", "1", "framed"]
+
+    def counted(self, given, calls, **limits):
+        """The instructions of a run."""
+        words = ["valgrind", "--tool=callgrind", "--callgrind-out-file=/dev/null", *self.words(calls, limits)]
+        log = subprocess.run(words, input=given, cwd=self.folder, capture_output=True, check=True).stderr
+        return int(re.search(rb"Collected : (\d+)", log)[1])
+
+    def beyond(self, given, calls=(SET_A,), **limits):
+        """The instructions of a run beyond those of one without messages."""
+        return self.counted(given, calls, **limits) - self.counted(b"", calls, **limits)
+
+    def peak(self, given, calls=(SET_A,), **limits):
+        """The most kilobytes that were resident when a message was answered."""
+        child = subprocess.Popen(self.words(calls, limits), cwd=self.folder, **PIPES)
+        child.stdin.write(given)
+        child.stdin.flush()
+        if given:
+            head = child.stdout.read(8)
+            child.stdout.read(8 * int.from_bytes(head[4:8], "little"))
+            child.stderr.readline()
+        with open(f"/proc/{child.pid}/status", encoding="ascii") as file:
+            (line,) = (it for it in file if it.startswith("VmHWM:"))
+        child.communicate()
+        return int(line.split()[1])
+
+    def answer(self, given, **limits):
+        """The last line of the log, or the signal that ended the run."""
+        it = subprocess.run(self.words([], limits), input=given, cwd=self.folder, capture_output=True, check=False)
+        return f"signal {-it.returncode}" if it.returncode < 0 else it.stderr.decode().splitlines()[-1]
+
+
+def costs(runs):
+    """Prints how the cost grows."""
+    small = with_structs(12)
+    for count in (1000, 2000, 4000):
+        print(f"{count} messages of 96 bytes: {runs.beyond(small * count) / count:.0f} instructions each")
+    for make in (with_data, with_structs):
+        for words in (1000, 10_000, 100_000, 1_000_000):
+            given = make(words)
+            print(f"{make.__name__}, {words} words: {runs.beyond(given) / len(given):.2f} instructions a byte")
+    for count in (1, 10, 100):
+        cost = runs.beyond(small * 1000, [SET_A] * count) / 1000
+        print(f"{count} calls: {cost:.0f} instructions a message of 96 bytes")
+    for count in (1, 10, 100, 511):
+        cost = runs.beyond(with_segments(count) * 100, nesting=1000) / 100
+        print(f"{count} segments: {cost / count:.0f} instructions a segment of three words")
+
+
+def memory(runs):
+    """Prints what a process holds."""
+    print(f"no message yet: {runs.peak(b'')} kB")
+    for words in (12, 1000, 10_000, 100_000, 1_000_000, 8_388_608):
+        given = with_data(words)
+        print(f"{words} words: {runs.peak(given)} kB, {len(given) // 1000} of them the message's")
+
+
+def limits(runs):
+    """Prints on which side of each limit what is answered."""
+    for count in (511, 512):
+        print(f"{count} segments: {runs.answer(with_segments(count), nesting=1000)}")
+    for words in (1000, 1001):
+        print(f"{words} words where 1000 are allowed: {runs.answer(with_data(words), words=1000)}")
+    for words in (2**29 - 2, 2**29 - 1):
+        print(f"a limit of {words} words: {runs.answer(with_data(12), words=words)}")
+    for levels in (64, 65):
+        print(f"{levels} levels where 64 are allowed: {runs.answer(nested(levels))}")
+    for levels in (1000, 10_000, 30_000, 100_000, 1_000_000):
+        print(f"{levels} levels where so many are allowed: {runs.answer(nested(levels), nesting=levels)}")
+
+
+def main():
+    """Prints all."""
+    with tempfile.TemporaryDirectory() as folder:
+        runs = Runs(folder)
+        for part in (memory, limits, costs):
+            print(f"== {part.__doc__.split('Prints ')[1]}")
+            part(runs)
+
+
+if __name__ == "__main__":
+    main()
