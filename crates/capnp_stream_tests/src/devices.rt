@@ -18,6 +18,7 @@ enum Turn {
 use Turn::{Fails, Moves};
 
 const INTERRUPTED: Turn = Fails(io::ErrorKind::Interrupted);
+
 const BROKEN: Turn = Fails(io::ErrorKind::Other);
 
 /// The turns of a device that are left; behind them it moves all that it is asked for.
@@ -206,7 +207,11 @@ fn the_most_segments_are_read(rt: HostRuntime) -> std::result::Result<(), Fail> 
     bytes.resize(2048, 0)?;
     let message = read_message(alloc, &mut bytes.as_slice(), Some(0))?;
     assert!(rt; message.len() == 511);
-    assert!(rt; message.get_segment(510).is_some_and(|segment| segment.is_empty()));
+    assert!(rt;
+        message
+            .get_segment(510)
+            .is_some_and(|segment| segment.is_empty())
+    );
     assert!(rt; message.get_segment(511).is_none());
     Ok(())
 }
