@@ -70,6 +70,11 @@ class Broker:
                     yield int(it[b"key"].split(b"-")[0]) - 1, it.get(b"frame"), it.get(b"line")
                 first = b"(" + entries[-1][0]
 
+    def processor_time(self):
+        """The seconds of processor time that the server took."""
+        used = self.calls.info("cpu")
+        return used["used_cpu_user"] + used["used_cpu_sys"]
+
     def seconds(self):
         """The time between the first answer and the last, by the broker's clock."""
         ends = self.calls.xrange(ANSWERS, count=1), self.calls.xrevrange(ANSWERS, count=1)

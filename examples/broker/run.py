@@ -7,6 +7,7 @@ at four free processors are less than three times as fast as one.
 """
 import itertools
 import os
+import resource
 import signal
 import subprocess
 import sys
@@ -23,9 +24,11 @@ EACH, LIMIT = 1.0, 300
 
 
 class Outcome(NamedTuple):
-    """What a run came to."""
+    """What a run came to; the microseconds of processor time are those for a message."""
 
     rate: float
+    of_workers: float
+    of_broker: float
     killed: int
     dead: int
     lost: int
@@ -98,7 +101,13 @@ def wait_until(is_so, meanwhile=lambda: None):
         time.sleep(0.02)
 
 
-def counted(broker, count, seconds, kills):
+def processor_time(broker):
+    """The seconds of processor time that workers that ended took, with their relays, and the broker."""
+    ended = resource.getrusage(resource.RUSAGE_CHILDREN)
+    return ended.ru_utime + ended.ru_stime, broker.processor_time()
+
+
+def counted(broker, count, times, kills):
     """The run's outcome, each answer compared with the one that its message should get."""
     seen, wrong, dead = [0] * count, 0, 0
     for number, frame, line in broker.outcomes():
@@ -106,7 +115,9 @@ def counted(broker, count, seconds, kills):
         seen[number] += 1
         dead += frame is None
         wrong += frame != wanted or (end is not None and not line.endswith(end))
-    return Outcome(count / seconds, kills, dead, seen.count(0), sum(it - 1 for it in seen if it), wrong)
+    doubled = sum(it - 1 for it in seen if it)
+    rate, (of_workers, of_broker) = count / broker.seconds(), (it * 1e6 / count for it in times)
+    return Outcome(rate, of_workers, of_broker, kills, dead, seen.count(0), doubled, wrong)
 
 
 def run(broker, count, size, kills):
@@ -115,18 +126,21 @@ def run(broker, count, size, kills):
     workers = Workers(broker.port, size)
     try:
         wait_until(lambda: broker.workers() == size)
+        before = processor_time(broker)
         broker.share_out()
         wait_until(broker.is_done, workers.kill_when_due if kills else lambda: None)
     finally:
         workers.stop()
-    return counted(broker, count, broker.seconds(), workers.kills)
+    times = [end - start for start, end in zip(before, processor_time(broker))]
+    return counted(broker, count, times, workers.kills)
 
 
 def main(count=100_000):
     """Prints the table, and returns the status."""
     free, rates, failed = idle_processors(), {}, False
     print(f"{count} messages, {os.cpu_count()} processors, {free:.1f} of them free")
-    print("workers  messages/s  times one  killed  dead letters  lost  doubled  wrong")
+    print("                                processor us/message")
+    print("workers  messages/s  times one  workers and relays  broker  killed  dead letters  lost  doubled  wrong")
     with tempfile.TemporaryDirectory() as folder:
         broker = Broker(folder)
         try:
@@ -135,7 +149,7 @@ def main(count=100_000):
                 rates.setdefault((size, kills), it.rate)
                 times = it.rate / rates[1, False]
                 print(
-                    f"{size:7}  {it.rate:10.0f}  {times:9.2f}  {it.killed:6}"
+                    f"{size:7}  {it.rate:10.0f}  {times:9.2f}  {it.of_workers:18.0f}  {it.of_broker:6.0f}  {it.killed:6}"
                     f"  {it.dead:12}  {it.lost:4}  {it.doubled:7}  {it.wrong:5}",
                     flush=True,
                 )

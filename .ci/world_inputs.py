@@ -1,0 +1,184 @@
+"""Input that trickles, that is cut, that is as large as allowed, and of many messages."""
+import json
+import os
+import struct
+import subprocess
+import tempfile
+import threading
+import time
+
+from world_runs import LIMIT, Failure, Ran, answers, message_ends, of_first, ran, room
+
+MANY = 100_000
+DEFAULT_WORDS = 8_388_608
+MOST_WORDS = 2**29 - 2
+# Kilobytes by which the peak may grow from a thousand messages to all, or by a higher limit.
+LEVEL = 128
+SCHEMA = [
+    {
+        "id": 1,
+        "name": "P",
+        "data": 1,
+        "pointers": 1,
+        "fields": [
+            {"name": "a", "type": "UInt16", "offset": 0},
+            {"name": "d", "type": "Data", "offset": 0},
+        ],
+    }
+]
+SET_A = {"path": ["a"], "verb": "set", "value": {"number": 7}}
+WORDS = ["schema.json", "calls.json", "1", "framed"]
+
+
+def trickle(program, run):
+    """One run whose input comes byte by byte: each read gets one byte."""
+    out, into = os.pipe2(os.O_DIRECT)
+    with room(run) as folder:
+        how = {"stdin": out, "stdout": subprocess.PIPE, "stderr": subprocess.PIPE}
+        child = subprocess.Popen([program, *run.words], cwd=folder, **how)
+        os.close(out)
+        giver = threading.Thread(target=give, args=(into, run.given))
+        giver.start()
+        written, log = child.communicate(timeout=LIMIT)
+        giver.join()
+    if Ran(child.returncode, written, log) != run.wanted:
+        raise Failure(f"{run.given.hex()} byte by byte: {written.hex()}, {log}")
+    return {"runs byte by byte": 1, "bytes that came alone": len(run.given)}
+
+
+def give(into, data):
+    """Writes bytes one by one, as packets of their own, until the reader is gone."""
+    try:
+        for byte in data:
+            os.write(into, bytes([byte]))
+    except BrokenPipeError:
+        pass
+    os.close(into)
+
+
+def cuts(program, run):
+    """One run's input, cut behind each of its bytes."""
+    form, frames, inside = run.forms()[0], answers(run), 0
+    with room(run) as folder:
+        for end in range(len(run.given)):
+            given = run.given[:end]
+            ends, kind = message_ends(given, form)
+            out, log = of_first(run, frames, len(ends))
+            if kind:
+                log += f"fault: framing {kind}\n".encode()
+            inside += kind is not None
+            got, wanted = ran(program, run, folder, given), Ran(int(kind is not None), out, log)
+            if got != wanted:
+                raise Failure(f"{run.words} on {given.hex()}: {got}, and not {wanted}")
+    return {"inputs cut": len(run.given), "of these within a message": inside}
+
+
+def write_files(folder, calls):
+    """The schema, and a calls file."""
+    for name, value in (("schema.json", SCHEMA), ("calls.json", calls)):
+        with open(os.path.join(folder, name), "w", encoding="ascii") as file:
+            json.dump(value, file)
+
+
+def with_data(words):
+    """A canonical frame of so many words, all but three of them data, all ones."""
+    count = 8 * (words - 3)
+    head = struct.pack("<II", 0, words) + struct.pack("<IHH", 0, 1, 1) + struct.pack("<Q", 1)
+    return head + struct.pack("<II", 1, count << 3 | 2) + b"\xff" * count
+
+
+def large(program, _run):
+    """A message of as many words as the limit allows, and one of a word more."""
+    for words, status, log in (
+        (DEFAULT_WORDS, 0, b"message 1 written; done\n"),
+        (DEFAULT_WORDS + 1, 1, b"fault: framing MessageTooLarge\n"),
+    ):
+        frame = with_data(words)
+        wanted = frame[:16] + struct.pack("<Q", 7) + frame[24:] if status == 0 else b""
+        with tempfile.TemporaryDirectory() as folder:
+            write_files(folder, {"calls": [SET_A]})
+            with open(os.path.join(folder, "given"), "wb") as file:
+                file.write(frame)
+            with open(os.path.join(folder, "given"), "rb") as file:
+                how = {"stdin": file, "cwd": folder, "capture_output": True, "timeout": LIMIT}
+                it = subprocess.run([program, *WORDS], check=False, **how)
+        if (it.returncode, it.stdout, it.stderr) != (status, wanted, log):
+            raise Failure(f"{words} words: status {it.returncode}, {len(it.stdout)} bytes, {it.stderr[-200:]}")
+    return {"bytes of the largest message": 8 + 8 * DEFAULT_WORDS}
+
+
+class Peak:
+    """A run over pipes that is asked for its peak of memory once it answered."""
+
+    def __init__(self, program, limits):
+        self.folder = tempfile.TemporaryDirectory()
+        write_files(self.folder.name, {"calls": [SET_A], **limits})
+        pipes = {name: subprocess.PIPE for name in ("stdin", "stdout", "stderr")}
+        self.begun = time.monotonic()
+        self.child = subprocess.Popen([program, *WORDS], cwd=self.folder.name, **pipes)
+
+    def answers(self, given, wanted, lines):
+        """Gives bytes, and looks whether as many come as are wanted, and the lines."""
+        giver = threading.Thread(target=lambda: (self.child.stdin.write(given), self.child.stdin.flush()))
+        log = []
+        reader = threading.Thread(target=lambda: log.append(self.child.stderr.read(len(lines))))
+        for it in (giver, reader):
+            it.start()
+        out = self.child.stdout.read(len(wanted))
+        for it in (giver, reader):
+            it.join()
+        if (out, log) != (wanted, [lines]):
+            raise Failure(f"{len(out)} bytes and {len(log[0])} of log aren't those that are wanted")
+
+    def kilobytes(self):
+        """The most memory that was resident."""
+        with open(f"/proc/{self.child.pid}/status", encoding="ascii") as file:
+            (line,) = (it for it in file if it.startswith("VmHWM:"))
+        return int(line.split()[1])
+
+    def end(self):
+        """Ends the input; the program has to end as it should."""
+        rest = self.child.communicate(timeout=LIMIT)
+        self.folder.cleanup()
+        if self.child.returncode != 0 or rest != (b"", b""):
+            raise Failure(f"the end of input: status {self.child.returncode}, {rest}")
+
+
+def numbered(first, end):
+    """The bytes of the messages from one number to before another, their answers, and the lines."""
+    texts = [f"message {it}".encode().ljust(16, b"\0") for it in range(first, end)]
+    head = bytes.fromhex("0000000005000000" + "0000000001000100")
+    pointer = struct.pack("<II", 1, 16 << 3 | 2)
+    given = b"".join(head + struct.pack("<Q", 9) + pointer + it for it in texts)
+    wanted = b"".join(head + struct.pack("<Q", 7) + pointer + it for it in texts)
+    lines = b"".join(b"message %d written; done\n" % it for it in range(first, end))
+    return given, wanted, lines
+
+
+def many(program, _run):
+    """Many messages, with memory that stays level."""
+    run = Peak(program, {})
+    run.answers(*numbered(1, 1001))
+    first = run.kilobytes()
+    run.answers(*numbered(1001, MANY + 1))
+    last = run.kilobytes()
+    run.end()
+    if last > first + LEVEL:
+        raise Failure(f"{last} kB resident behind {MANY} messages, {first} behind a thousand")
+    return {"messages in one run": MANY, "peak kB resident behind a thousand": first, "behind all": last}
+
+
+def limits(program, _run):
+    """The highest limit of words, with a small message, as quick and as small as a low limit."""
+    peaks = {}
+    for words in (1000, MOST_WORDS):
+        run = Peak(program, {"words": words})
+        run.answers(*numbered(1, 2))
+        seconds, peaks[words] = time.monotonic() - run.begun, run.kilobytes()
+        run.end()
+        if seconds > 5:
+            raise Failure(f"{seconds} seconds to the first answer, with a limit of {words} words")
+    low, high = peaks.values()
+    if high > low + LEVEL:
+        raise Failure(f"{high} kB resident with a limit of {MOST_WORDS} words, {low} with one of 1000")
+    return {"words of the highest limit": MOST_WORDS, "peak kB with it": high, "with a limit of 1000": low}
