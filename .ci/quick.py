@@ -99,6 +99,20 @@ def faults_of_links():
                 yield f"{page}: there is no {target}"
 
 
+def faults_of_named_tests():
+    """Lines of docs/TESTS.md that name a case or a wrong body which is not there."""
+    for line in text_of("docs/TESTS.md").splitlines():
+        cells = [it.strip() for it in line.strip("| \n").split(" | ")]
+        names = re.findall(r"`([^`]+)`", cells[-2] if len(cells) == 2 else cells[-1])
+        if len(cells) == 3 and "/data/" in cells[1]:
+            path = f"crates/{cells[1].strip('`')}"
+            text = text_of(path) if os.path.isfile(path) else ""
+            yield from (f"docs/TESTS.md: {path} has no line {it}" for it in names if it not in text)
+        elif len(cells) == 2 and os.path.isdir(f"crates/{cells[1].strip('`')}/must-fail"):
+            edits = os.listdir(f"crates/{cells[1].strip('`')}/must-fail")
+            yield from (f"docs/TESTS.md: {cells[1]} has no edit {it}" for it in names if f"{it}.edit" not in edits)
+
+
 def faults_of_lengths(crates):
     """Files of code that are too long."""
     for crate in crates:
@@ -126,7 +140,7 @@ def faults_of_layout(crate, room):
 
 def main():
     crates = listed_crates()
-    found = [*faults_of_crates(crates), *faults_of_edits(crates), *faults_of_links(), *faults_of_lengths(crates)]
+    found = [*faults_of_crates(crates), *faults_of_edits(crates), *faults_of_links(), *faults_of_named_tests(), *faults_of_lengths(crates)]
     with tempfile.TemporaryDirectory() as room:
         shutil.copy("crates.txt", room)
         with concurrent.futures.ThreadPoolExecutor(os.cpu_count()) as pool:
