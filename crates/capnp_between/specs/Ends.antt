@@ -6,8 +6,8 @@ use Rattle.capnp_model.specs.Answers.{Answer}
 use Rattle.capnp_queries.specs.declared.structs.StructSchema.{StructSchema}
 use Rattle.capnp_calls.specs.declared.call.Call.{Call}
 use Rattle.capnp_calls.specs.CallViews.{call_view}
-use Rattle.capnp_answers.specs.Answers.{IsTooLarge}
-use Rattle.capnp_answers.specs.declared.bounds.Bounds.{Bounds}
+use Rattle.capnp_relay.specs.Answers.{IsTooLarge}
+use Rattle.capnp_relay.specs.Answers.{Bounds}
 use Rattle.capnp_compatible.specs.Ways.{IsFirstRefused}
 use Rattle.capnp_loop.specs.declared.ends.Counts.{Counts}
 use Rattle.capnp_loop.specs.declared.ends.RelayFault.{RelayFault}

@@ -1,2 +1,3 @@
 pub mod Newer
 pub mod Ends
+pub mod Relay

@@ -2,3 +2,5 @@
 #![tactic(auto)]
 
 pub mod between;
+
+pub use capnp_relay::{ends, options, pauses, relay};

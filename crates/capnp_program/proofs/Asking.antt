@@ -10,9 +10,9 @@ use Rattle.capnp_queries.specs.Structs.{nodes_around, id_of}
 use Rattle.capnp_calls.specs.declared.call.Call.{Call}
 use Rattle.capnp_calls.specs.CallViews.{call_view}
 use Rattle.capnp_files.specs.CallsFiles.{CallsText}
-use Rattle.capnp_relay.specs.declared.options.Form.{Form}
-use Rattle.capnp_relay.specs.declared.options.RelayOptions.{RelayOptions}
-use Rattle.capnp_relay.specs.Options.{IsOf}
+use Rattle.capnp_between.specs.Relay.{Form}
+use Rattle.capnp_between.specs.Relay.{RelayOptions}
+use Rattle.capnp_between.specs.Relay.{IsOf}
 use Rattle.capnp_program.specs.declared.arguments.Arguments.{Arguments}
 use Rattle.capnp_program.specs.declared.version.Version.{Version}
 use Rattle.capnp_program.specs.declared.settings.Settings.{Settings}

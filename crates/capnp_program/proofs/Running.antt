@@ -8,7 +8,7 @@ use Rattle.capnp_loop.specs.declared.ends.Counts.{Counts}
 use Rattle.capnp_loop.specs.declared.ends.Fault.{Fault}
 use Rattle.capnp_loop.specs.declared.ends.Fault.TheVariants as faults
 use Rattle.capnp_loop.specs.declared.ends.RelayFault.{RelayFault}
-use Rattle.capnp_relay.specs.Relaying.{relay_work}
+use Rattle.capnp_between.specs.Relay.{relay_work}
 use Rattle.std.specs.Prelude.{⊤}
 use Rattle.capnp_loop.specs.Pauses.{RelaysPausing}
 use Rattle.capnp_loop.specs.Streams.{Streams}

@@ -3,8 +3,8 @@ use Rattle.std.specs.Prelude.{ℕ, ◌+◌, ◌-◌, ◌*◌, ◌^◌, Bool, tru
 use Rattle.std.specs.Str.{bytes_eq, all_ascii_digits}
 use Rattle.capnp_model.specs.Chains.{◌>>=◌, ◌provided◌}
 use Rattle.capnp_files.specs.Json.{find_named}
-use Rattle.capnp_relay.specs.declared.options.Form.{Form}
-use Rattle.capnp_relay.specs.declared.options.Form.TheVariants.{Framed, Packed}
+use Rattle.capnp_between.specs.Relay.{Form}
+use Rattle.capnp_between.specs.Relay.{Framed, Packed}
 use Rattle.capnp_program.specs.declared.arguments.Arguments.{Arguments}
 
 -- The number that decimal digits spell, by the weight of each.

@@ -14,7 +14,7 @@ use Rattle.capnp_calls.specs.CallViews.{call_view}
 use Rattle.capnp_compatible.specs.Ways.{IsFirstRefused}
 use Rattle.capnp_files.specs.SchemaFiles.{schema_in}
 use Rattle.capnp_files.specs.CallsFiles.{CallsText, calls_in}
-use Rattle.capnp_relay.specs.declared.options.RelayOptions.{RelayOptions}
+use Rattle.capnp_between.specs.Relay.{RelayOptions}
 use Rattle.capnp_loop.specs.declared.ends.Fault.TheVariants.{Memory}
 use Rattle.capnp_program.specs.declared.arguments.Arguments.{Arguments}
 use Rattle.capnp_program.specs.declared.stop.Stop.{Stop}

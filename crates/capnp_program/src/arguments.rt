@@ -2,7 +2,7 @@
 ghost use Rattle.std.specs.Prelude.{◌≡◌, map, string_bytes};
 ghost use Rattle.capnp_program.specs.Arguments.{decimal_in, forms_named, arguments_in, is_help};
 
-use capnp_relay::options::Form;
+use capnp_between::options::Form;
 
 /// What the words of a run say, but for the names of its files.
 #[derive(Clone, Copy, Debug, PartialEq, Eq)]

@@ -3,7 +3,7 @@ ghost use Rattle.std.specs.Prelude.{◌≡◌, ◌++◌, IfOk, OnOk};
 ghost use Rattle.capnp_program.specs.Lines.{fault_words, stop_words, line_of};
 
 use crate::stop::Stop;
-use capnp_relay::ends::Fault;
+use capnp_between::ends::Fault;
 use std::alloc::{AllocError, Global};
 
 /// Appends what the line says of a fault of the relay.

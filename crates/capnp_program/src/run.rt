@@ -12,11 +12,11 @@ use crate::sinks::Flush;
 use crate::sources::{FlushBeforeWait, Windowed};
 use crate::stop::Stop;
 use capnp_between::between::{BetweenFault, relay_between_pausing};
+use capnp_between::ends::{Counts, Fault, RelayFault};
+use capnp_between::options::Form;
+use capnp_between::relay::relay_pausing;
 use capnp_io::traits::{Read, Write};
 use capnp_packing::form::Packed;
-use capnp_relay::ends::{Counts, Fault, RelayFault};
-use capnp_relay::options::Form;
-use capnp_relay::relay::relay_pausing;
 use capnp_stream::forms::Framed;
 use std::alloc::Global;
 

@@ -11,11 +11,11 @@ ghost use Rattle.capnp_program.specs.Versions.{nodes_at, HasRoot};
 use crate::arguments::Arguments;
 use crate::stop::Stop;
 use crate::version::Version;
+use capnp_between::ends::Fault;
+use capnp_between::options::{Form, ReaderOptions, RelayOptions};
 use capnp_calls::{Call, CallFault, CallValue, Step, Verb};
 use capnp_files::calls_file::{CallsFile, calls_file};
 use capnp_files::fault::FileFault;
-use capnp_relay::ends::Fault;
-use capnp_relay::options::{Form, ReaderOptions, RelayOptions};
 use std::alloc::Global;
 
 /// What a run is asked.

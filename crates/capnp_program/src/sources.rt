@@ -8,8 +8,8 @@ ghost use Rattle.capnp_loop.specs.Pauses.{SinkRests, FailsInPause};
 
 use crate::ahead::{BoundedForm, holds_next};
 use crate::sinks::Flush;
-use capnp_relay::ends::Fault;
-use capnp_relay::pauses::Pause;
+use capnp_between::ends::Fault;
+use capnp_between::pauses::Pause;
 use capnp_stream::traits::{BufRead, Read, Write};
 use std::marker::PhantomData;
 

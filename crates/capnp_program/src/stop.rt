@@ -3,7 +3,7 @@ ghost use Rattle.std.specs.Prelude.{◌≡◌};
 ghost use Rattle.capnp_loop.specs.declared.ends.Fault.{Fault};
 ghost use Rattle.capnp_program.specs.declared.stop.Stop.{Stop};
 
-use capnp_relay::ends::Fault;
+use capnp_between::ends::Fault;
 use std::alloc::{AllocError, AllocFailed};
 
 /// Why the program ends with status 1.

@@ -6,6 +6,7 @@ ghost use Rattle.capnp_program.specs.Faults.{IsRefusalOf};
 ghost use Rattle.capnp_program.specs.Asked.{nodes_in, version_in};
 
 use crate::stop::Stop;
+use capnp_between::ends::Fault;
 use capnp_files::fault::FileFault;
 use capnp_files::schema_file::schema_file;
 use capnp_queries::laws::struct_is_node;
@@ -14,7 +15,6 @@ use capnp_records::fault::SchemaFault;
 use capnp_records::laws::struct_is_named;
 use capnp_records::raw::RawBrandedStructSchema;
 use capnp_records::set::SchemaSet;
-use capnp_relay::ends::Fault;
 use std::alloc::Global;
 
 /// The nodes of a schema file, and the struct that is the root of messages.

@@ -4,7 +4,7 @@ use Rattle.std.proofs.lemmas.Result.{err_from_is_err_and}
 use mir.Val.{SFits}
 use Rattle.std.specs.Option.{option_copied}
 use Rattle.capnp_files.specs.CallViews.{file_of}
-use Rattle.capnp_relay.specs.Options.{IsOf}
+use Rattle.capnp_between.specs.Relay.{IsOf}
 use Rattle.capnp_program.specs.Arguments.{arguments_in}
 use Rattle.capnp_program.specs.Asked.{request}
 use Rattle.capnp_program.specs.Versions.{nodes_at}

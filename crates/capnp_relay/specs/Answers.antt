@@ -1,0 +1,4 @@
+-- What an answer may cost and be, passed on to the relay between versions.
+pub use Rattle.capnp_answers.specs.Bounds.{limits_view}
+pub use Rattle.capnp_answers.specs.declared.bounds.Bounds.{Bounds}
+pub use Rattle.capnp_answers.specs.Answers.{IsTooLarge}
