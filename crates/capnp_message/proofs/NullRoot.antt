@@ -3,7 +3,7 @@ use Rattle.std.proofs.Common.{◌≡◌, ℕ, zero, suc, ◌+◌, ◌≤◌, Boo
 use Rattle.capnp_model.specs.Segments.{Place, root}
 use Rattle.capnp_model.specs.Trees.{null}
 use Rattle.capnp_model.specs.Traversal.{tree_at}
-use Rattle.capnp_model.specs.Coverage.{span, holds, times_held}
+use Rattle.capnp_model.specs.Coverage.{span, holds}
 use Rattle.capnp_footprints.specs.Footprints.{Owns, behind, footprint}
 
 at_most_once : (b : Bool) → (if b then 1 else 0) + 0 ≤ 1

@@ -1,6 +1,7 @@
 -- What a canonical copy may cost, by a walk that measured it.
-use Rattle.std.proofs.Common.{◌≡◌, ◌⊎◌, ℕ, zero, suc, ◌+◌, ◌-◌, ◌^◌, ◌<◌, ◌≤◌, min, List, [], ◌∷◌, ◌++◌, length, Option, Some, None, Result, Ok, Err, refl, ap, sym, ◌∙◌, inl, inr, arith}
-use Rattle.std.specs.Bool.{⊤}
+use Rattle.std.proofs.Common.{◌≡◌, ◌⊎◌, Bool, true, false, ltb, append-nil, subst, ℕ, zero, suc, ◌+◌, ◌-◌, ◌^◌, ◌<◌, ◌≤◌, min, List, [], ◌∷◌, ◌++◌, Option, Some, None, Result, Ok, Err, refl, sym, ◌∙◌, inl, inr, arith}
+use Rattle.std.specs.Bool.{⊤, OnTrue, OnFalse}
+use Rattle.std.proofs.lemmas.Bool.{ltb-true, ltb-false}
 use Rattle.std.specs.Option.{ok_or}
 use Rattle.capnp_model.specs.Kinds.{Kind, OutOfBounds}
 use Rattle.capnp_model.specs.Segments.{Segments, Place, root, after, words_at}
@@ -14,10 +15,10 @@ use Rattle.capnp_units.specs.declared.errors.Error.{Error}
 use Rattle.capnp_units.specs.declared.kinds.ErrorKind.{ErrorKind}
 use Rattle.capnp_units.specs.declared.limiter.ReadLimiter.{ReadLimiter}
 use Rattle.capnp_units.specs.declared.sizes.MessageSize.{MessageSize}
-use Rattle.capnp_units.specs.Limits.{limit_of, left_of, granted_of, less, IsPassed}
-use Rattle.capnp_object.specs.Walks.{CannotPass, SizeGives}
+use Rattle.capnp_units.specs.Limits.{limit_of, left_of, granted_of, less, Allows, IsPassed}
+use Rattle.capnp_object.specs.Walks.{CannotPass, Stopped, SizeGives}
 use Rattle.capnp_canonical.specs.Copies.{unless_capability, copy_visits}
-use Rattle.capnp_message.specs.Canonical.{most_cost, Suffices}
+use Rattle.capnp_message.specs.Canonical.{most_cost, IsAsked, Suffices, TellsWhole}
 
 -- ---- a copy visits what a walk does, up to its first fault
 
@@ -178,3 +179,93 @@ measured n s limit l m (Err k) e z h before rest cost is paid room =
     stops : (cost ≤ h.paid) ⊎ GoesOn h.paid cost h.last → most_cost limit < cost
     stops (inl few) = within_most limit cost (enough (granted_of m) h.paid cost 0 (counted (granted_of l) (granted_of m) h.paid z h.spends.granted) few room)
     stops (inr more) = goes_past h.last limit l k.kind h.paid cost e z h.why more
+
+-- ---- whether all is within the most
+
+-- the same visits without a fault cost the same
+same_cost : (xs ys : List Visit) (cost paid : ℕ) → Cut xs ys → visits_cost xs ≡ Some cost → visits_cost ys ≡ Some paid → cost ≡ paid
+same_cost [] [] cost paid c e f = some_is _ _ (sym e ∙ f)
+same_cost [] (y ∷ ys) cost paid c e f = absurd c
+same_cost (Err k ∷ xs) ys cost paid c e f = absurd cc
+same_cost (Ok x ∷ xs) [] cost paid c e f = absurd c
+same_cost (Ok x ∷ xs) (Err k ∷ ys) cost paid c e f = absurd c
+same_cost (Ok x ∷ xs) (Ok y ∷ ys) cost paid c e f =
+    let p = bind_some (visits_cost xs) _ cost e in
+    let q = bind_some (visits_cost ys) _ paid f in
+    let one : x + p.0 ≡ cost = some_is _ _ p.2 in
+    let other : y + q.0 ≡ paid = some_is _ _ q.2 in
+    let like : x ≡ y = c.0 in
+    let rest = same_cost xs ys p.0 q.0 c.1 p.1 q.1 in
+    omega (arith, one, other, like, rest)
+
+more_goes : (v : Visit) (b paid cost all whole : ℕ) → GoesOn paid cost v → b + paid ≡ all → b + cost ≡ whole → GoesOn all whole v
+more_goes (Ok w) b paid cost all whole more s t = omega (arith, more, s, t)
+more_goes (Err k) b paid cost all whole more s t = absurd more
+
+-- where visits without a fault stop at none, they go past each
+all_goes : (xs ys first behind : List Visit) (last : Visit) (cost paid : ℕ) → Cut xs ys → visits_cost xs ≡ Some cost → ys ≡ first ++ last ∷ behind → visits_cost first ≡ Some paid → GoesOn paid cost last
+all_goes [] [] [] behind last cost paid c e h p = absurd cc
+all_goes [] [] (y ∷ first) behind last cost paid c e h p = absurd cc
+all_goes [] (y ∷ ys) first behind last cost paid c e h p = absurd c
+all_goes (Err k ∷ xs) ys first behind last cost paid c e h p = absurd cc
+all_goes (Ok x ∷ xs) [] first behind last cost paid c e h p = absurd c
+all_goes (Ok x ∷ xs) (Err k ∷ ys) first behind last cost paid c e h p = absurd c
+all_goes (Ok x ∷ xs) (Ok y ∷ ys) [] behind (Err k) cost paid c e h p = absurd cc
+all_goes (Ok x ∷ xs) (Ok y ∷ ys) [] behind (Ok w) cost paid c e h p =
+    let a = bind_some (visits_cost xs) _ cost e in
+    let sum : x + a.0 ≡ cost = some_is _ _ a.2 in
+    let none : 0 ≡ paid = some_is _ _ p in
+    let like : x ≡ y = c.0 in
+    let last : y ≡ w = cc in
+    omega (arith, sum, none, like, last)
+all_goes (Ok x ∷ xs) (Ok y ∷ ys) (Err k ∷ first) behind last cost paid c e h p = absurd cc
+all_goes (Ok x ∷ xs) (Ok y ∷ ys) (Ok d ∷ first) behind last cost paid c e h p =
+    let a = bind_some (visits_cost xs) _ cost e in
+    let b = bind_some (visits_cost first) _ paid p in
+    let sum : x + a.0 ≡ cost = some_is _ _ a.2 in
+    let all : d + b.0 ≡ paid = some_is _ _ b.2 in
+    let like : x ≡ y = c.0 in
+    let there : y ≡ d = cc in
+    let front : x + b.0 ≡ paid = omega (arith, all, like, there) in
+    let whole : ys ≡ first ++ last ∷ behind = cc in
+    more_goes last x b.0 a.0 paid cost (all_goes xs ys first behind last a.0 b.0 c.1 a.1 whole b.1) front sum
+
+told_of : (b : Bool) (most cost : ℕ) → (b ≡ true → cost ≤ most) → (b ≡ false → most < cost) → OnTrue b (cost ≤ most) × OnFalse b (most < cost)
+told_of true most cost f g = (f refl, tt)
+told_of false most cost f g = (tt, g refl)
+
+allows_most : (o limit : Option ℕ) (g x : ℕ) → o ≡ limit → g ≡ 0 → Allows (less o g) x → x < 2 ^ 29 - 1 → x ≤ most_cost limit
+allows_most None None g x e z h few = omega (arith, few)
+allows_most None (Some w) g x e z h few = absurd cc
+allows_most (Some a) None g x e z h few = absurd cc
+allows_most (Some a) (Some w) g x e z h few = let is : a ≡ w = cc in omega (arith, is, z, h, few)
+
+module _ (n : ℕ) (s : Segments) (limit : Option ℕ) (l m : ReadLimiter) (of : limit_of l ≡ limit) (none : granted_of l ≡ 0) where
+  room_most : (g paid : ℕ) → min g (2 ^ 64 - 1) ≡ min (0 + paid) (2 ^ 64 - 1) → min g (2 ^ 29 - 2) + 1 ≤ paid + 1
+  room_most g paid e = omega (arith, e)
+
+  -- a walk that was made
+  pub whole_told : (size : MessageSize) → SizeGives object_words capability_count (tree_at n s root) (visits n s root) l (Ok size) m → (b : Bool) → b ≡ ltb (granted_of m) (2 ^ 29 - 1) → TellsWhole (copy_visits n s root) (most_cost limit) b
+  whole_told size h b is cost costs =
+      let w = h.3 in
+      let same = same_cost (copy_visits n s root) (visits n s root) cost w.cost (cut_visits n s root) costs w.cost_is in
+      let count = counted (granted_of l) (granted_of m) w.cost none w.spends.granted in
+      told_of b (most_cost limit) cost
+      (λ yes. allows_most (limit_of l) limit (granted_of l) cost of none (subst (Allows (left_of l)) (sym same) w.spends.allowed) (few_of (granted_of m) w.cost cost same count (ltb-true (granted_of m) (2 ^ 29 - 1) (sym is ∙ yes))))
+      (λ no. within_most limit cost (many_of (granted_of m) w.cost cost same count (ltb-false (granted_of m) (2 ^ 29 - 1) (sym is ∙ no))))
+    where
+      few_of : (g paid cost : ℕ) → cost ≡ paid → min g (2 ^ 64 - 1) ≡ min (0 + paid) (2 ^ 64 - 1) → g < 2 ^ 29 - 1 → cost < 2 ^ 29 - 1
+      few_of g paid cost same e few = omega (arith, same, e, few)
+
+      many_of : (g paid cost : ℕ) → cost ≡ paid → min g (2 ^ 64 - 1) ≡ min (0 + paid) (2 ^ 64 - 1) → 2 ^ 29 - 1 ≤ g → 2 ^ 29 - 2 < cost
+      many_of g paid cost same e many = omega (arith, same, e, many)
+
+  pub whole_asked : (size : MessageSize) → SizeGives object_words capability_count (tree_at n s root) (visits n s root) l (Ok size) m → IsAsked (visits n s root) (min (granted_of m) (2 ^ 29 - 2) + 1)
+  whole_asked size h = let w = h.3 in (visits n s root, [], w.cost, sym (append-nil (visits n s root)), w.cost_is, room_most (granted_of m) w.cost (counted (granted_of l) (granted_of m) w.cost none w.spends.granted))
+
+  -- a walk that was stopped
+  pub stopped_told : (e : Error) → Stopped (visits n s root) l e m → TellsWhole (copy_visits n s root) (most_cost limit) false
+  stopped_told e h cost costs = (tt, goes_past h.last limit l e.kind h.paid cost of none h.why (all_goes (copy_visits n s root) (visits n s root) h.before h.behind h.last cost h.paid (cut_visits n s root) costs h.path_is h.cost_is))
+
+  pub stopped_asked : (e : Error) → Stopped (visits n s root) l e m → IsAsked (visits n s root) (min (granted_of m) (2 ^ 29 - 2) + 1)
+  stopped_asked e h = (h.before, h.last ∷ h.behind, h.paid, h.path_is, h.cost_is, room_most (granted_of m) h.paid (counted (granted_of l) (granted_of m) h.paid none h.spends.granted))

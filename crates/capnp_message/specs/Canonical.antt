@@ -1,6 +1,7 @@
 -- Canonical messages. (Encoding, "Canonicalization")
-use Rattle.std.specs.Prelude.{◌≡◌, ◌≢◌, ⊤, ℕ, ◌+◌, ◌-◌, ◌^◌, ◌<◌, min, ◌⊎◌, Bool, false, List, [], ◌∷◌, ◌++◌, length, Option, Some, None, Result, Ok, Err, Vec}
+use Rattle.std.specs.Prelude.{◌≡◌, ◌≢◌, ⊤, ℕ, ◌+◌, ◌-◌, ◌^◌, ◌<◌, ◌≤◌, min, ◌⊎◌, Bool, false, List, [], ◌∷◌, ◌++◌, length, Option, Some, None, Result, Ok, Err, Vec}
 use Rattle.std.specs.declared.alloc.Global.{Global}
+use Rattle.std.specs.Bool.{OnTrue, OnFalse}
 use Rattle.std.specs.Option.{is_some}
 use Rattle.capnp_model.specs.Segments.{Segments, root, words_at}
 use Rattle.capnp_model.specs.Encoding.{canonical_words}
@@ -58,6 +59,18 @@ pub record IsTooLong (path : List Visit) (most : ℕ) (old : ReadLimiter) (e : E
 -- Where the first visits cost more than so much room has behind the root, they cost more than so many words.
 abbrev pub Suffices : List Visit → ℕ → ℕ → Type 0
 Suffices path most room = (before rest : List Visit) (cost : ℕ) → path ≡ before ++ rest → visits_cost before ≡ Some cost → room < 1 + cost → most < cost
+
+-- Room is for no more than the first visits cost, and a word.
+abbrev pub IsAsked : List Visit → ℕ → Type 0
+IsAsked path room = (before rest : List Visit) × (cost : ℕ) × (path ≡ before ++ rest) × (visits_cost before ≡ Some cost) × (room ≤ cost + 1)
+
+-- It is told whether all visits, where none is a fault, cost no more than so many words.
+abbrev pub TellsWhole : List Visit → ℕ → Bool → Type 0
+TellsWhole path most told = (cost : ℕ) → visits_cost path ≡ Some cost → OnTrue told (cost ≤ most) × OnFalse told (most < cost)
+
+-- Following a message within so many levels costs no more than the options and a message allow.
+abbrev pub CostsWithin : Option ℕ → Option ℕ → Segments → Type 0
+CostsWithin levels limit s = (n cost : ℕ) × (levels ≡ Some n) × (visits_cost (copy_visits n s root) ≡ Some cost) × (cost ≤ most_cost limit)
 
 -- No memory was had, and nothing was followed.
 abbrev pub IsWithoutMemory : ReadLimiter → Error → ReadLimiter → Type 0

@@ -1,10 +1,11 @@
 //! Canonical messages.
 ghost use Rattle.capnp_model.specs.Answers.{levels};
 ghost use Rattle.capnp_units.specs.Segments.{words_in};
-ghost use Rattle.std.specs.Prelude.{◌≡◌, ◌^◌, ◌<◌};
+ghost use Rattle.std.specs.Prelude.{◌≡◌, ◌+◌, ◌-◌, ◌^◌, ◌<◌, min, OnOk};
 ghost use Rattle.capnp_model.specs.Segments.{root};
+ghost use Rattle.capnp_model.specs.Visits.{visits};
 ghost use Rattle.capnp_canonical.specs.Copies.{copy_visits};
-ghost use Rattle.capnp_message.specs.Canonical.{TellsCanonical, GivesCanonical, Suffices, most_cost};
+ghost use Rattle.capnp_message.specs.Canonical.{TellsCanonical, GivesCanonical, CostsWithin, IsAsked, Suffices, TellsWhole, most_cost};
 
 use crate::options::ReaderOptions;
 use crate::reader::Reader;
@@ -24,15 +25,47 @@ use std::alloc::Global;
 /// The most words of a message.
 const MOST_WORDS: u64 = 0x1fff_ffff;
 
+/// Room for the canonical words of a value.
+#[derive(Clone, Copy)]
+struct Room {
+    words: usize,
+    /// Whether all that is followed costs no more words than the options and a message allow.
+    is_whole: bool,
+}
+
+/// A word more than the cost, and at most those of a message.
+fn room_for(cost: u64) -> usize
+    ensures { result ≡ min cost (2 ^ 29 - 2) + 1 }
+{
+    cost.min(MOST_WORDS - 1) as usize + 1
+}
+
 /// One word more than those that following the root costs, as far as the options' words go, and at most those of a message.
-fn room_of<A: ReaderArena>(arena: &A, options: ReaderOptions, levels: u32) -> usize
+fn room_of<A: ReaderArena>(arena: &A, options: ReaderOptions, levels: u32) -> Room
     ensures room { Suffices (copy_visits levels (words_in (A.segments arena.now)) root)
-        (most_cost options.traversal_limit_in_words) result }
-    ensures few { result < 2 ^ 29 }
+        (most_cost options.traversal_limit_in_words) result.words }
+    ensures few { result.words < 2 ^ 29 }
+    ensures asked { IsAsked (visits levels (words_in (A.segments arena.now)) root) result.words }
+    ensures whole { TellsWhole (copy_visits levels (words_in (A.segments arena.now)) root)
+        (most_cost options.traversal_limit_in_words) result.is_whole }
 {
     let mut limiter = options.read_limiter();
-    let _measured = size_at(arena, &mut limiter, ROOT, levels);
-    limiter.granted().min(MOST_WORDS - 1) as usize + 1
+    match size_at(arena, &mut limiter, ROOT, levels) {
+        Ok(_) => {
+            let cost = limiter.granted();
+            Room {
+                words: room_for(cost),
+                is_whole: cost < MOST_WORDS,
+            }
+        }
+        Err(_) => {
+            let cost = limiter.granted();
+            Room {
+                words: room_for(cost),
+                is_whole: false,
+            }
+        }
+    }
 }
 
 impl<S: ReaderSegments> Reader<S> {
@@ -60,16 +93,22 @@ impl<S: ReaderSegments> Reader<S> {
     ///
     /// Pointers are followed, and objects paid for, in the order of reading. It is refused at the first fault, where a capability is one (`CapabilityInCanonical`), or with `ReadLimitExceeded` at the first object that costs more words than are left; under a negative nesting limit with `NestingLimitExceeded`, at no cost. `BufferNotLargeEnough`: what is followed costs more words than the options' limit, or than the 2^29 - 2 that a message has behind its root. `OutOfMemory`: there is none for the words; then nothing was followed. It takes memory for a word more than what is followed costs. (Encoding, "Canonicalization")
     pub fn canonicalize(&self, alloc: Global, limiter: &mut ReadLimiter) -> Result<Vec<Word>>
-        ensures { GivesCanonical (levels self.now.options.nesting_limit)
+        ensures given { GivesCanonical (levels self.now.options.nesting_limit)
             self.now.options.traversal_limit_in_words
             (words_in (S.segments self.now.segments)) limiter.old result limiter.new }
+        ensures within { OnOk result (CostsWithin (levels self.now.options.nesting_limit)
+            self.now.options.traversal_limit_in_words
+            (words_in (S.segments self.now.segments))) }
     {
         let Some(levels) = self.levels() else {
             return Err(Error::from(ErrorKind::NestingLimitExceeded));
         };
         let room = room_of(self, self.options, levels);
-        let mut words = vec![in alloc; [0u8; 8]; room]?;
+        let mut words = vec![in alloc; [0u8; 8]; room.words]?;
         let count = write_canonical(self, limiter, ROOT, levels, words.as_mut_slice())?;
+        if !room.is_whole {
+            return Err(Error::from(ErrorKind::BufferNotLargeEnough));
+        }
         words.truncate(count);
         Ok(words)
     }

@@ -1,6 +1,7 @@
 //! Readers that show no bytes, as sources of messages.
 ghost use Rattle.std.specs.Prelude.{◌≡◌, ◌≤◌, [], length, IfErr, OnOk};
-ghost use Rattle.std.specs.Io.KnownBytes.{Keeps, IsAtEnd, prepend_known};
+ghost use Rattle.std.specs.Io.{ReadsAtMost};
+ghost use Rattle.std.specs.Io.KnownBytes.{Keeps, IsAtEnd, ReadConsumes, prepend_known};
 ghost use Rattle.capnp_units.specs.declared.kinds.ErrorKind.{ErrorKind};
 ghost use Rattle.capnp_io.specs.Counting.{Counts};
 
@@ -10,7 +11,7 @@ use capnp_units::kinds::ErrorKind;
 
 /// A source over a reader, which reads what it is asked for and no byte more, but for one where it is to tell whether there is one.
 ///
-/// A refusal of the reader, by any kind, is one by `Device`.
+/// A refusal of the reader, by any kind, is one by `Device`, and nothing else is refused.
 #[derive(Drop)]
 pub struct Unbuffered<R> {
     inner: R,
@@ -21,7 +22,7 @@ pub struct Unbuffered<R> {
 }
 
 impl<R: Read> Unbuffered<R> {
-    ghost use Rattle.capnp_message.specs.Unbuffered.{bytes_left, front_bytes};
+    ghost use Rattle.capnp_message.specs.Unbuffered.{bytes_left, front_bytes, HandsOn};
 
     /// The source of this reader.
     pub fn new(inner: R) -> Unbuffered<R>
@@ -52,6 +53,8 @@ impl<R: Read> Unbuffered<R> {
             (length (front_bytes self.new) ≡ 0 → IsAtEnd (R.remaining self.new.inner)) }
         ensures refusal { IfErr result (λ e. e.kind ≡ ErrorKind.Device) }
         ensures count { Counts result self.old.failures self.new.failures }
+        ensures below { HandsOn R.refuses result (R.failures self.old.inner)
+            (R.failures self.new.inner) }
     {
         if self.held > 0 {
             return Ok(());
@@ -70,7 +73,7 @@ impl<R: Read> Unbuffered<R> {
 }
 
 impl<R: Read> Read for Unbuffered<R> {
-    ghost use Rattle.capnp_message.specs.Unbuffered.{bytes_left};
+    ghost use Rattle.capnp_message.specs.Unbuffered.{bytes_left, HandsOn};
 
     ghost remaining = { bytes_left R.remaining };
 
@@ -78,7 +81,15 @@ impl<R: Read> Read for Unbuffered<R> {
 
     ghost refuses = { λ k. k ≡ ErrorKind.Device };
 
-    fn read(&mut self, buf: &mut [u8]) -> Result<usize> {
+    fn read(&mut self, buf: &mut [u8]) -> Result<usize>
+        ensures bound { ReadsAtMost result buf.new }
+        ensures bytes { ReadConsumes (bytes_left R.remaining self.old)
+            (bytes_left R.remaining self.new) result buf.new }
+        ensures refusal { IfErr result (λ e. e.kind ≡ ErrorKind.Device) }
+        ensures count { Counts result self.old.failures self.new.failures }
+        ensures below { HandsOn R.refuses result (R.failures self.old.inner)
+            (R.failures self.new.inner) }
+    {
         if self.held > 0 {
             if buf.is_empty() {
                 return Ok(0);

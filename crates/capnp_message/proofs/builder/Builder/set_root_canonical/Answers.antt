@@ -1,4 +1,4 @@
-use Rattle.std.proofs.Common.{◌≡◌, ℕ, Option, ap, sym, ◌∙◌, arith}
+use Rattle.std.proofs.Common.{ℕ, Option, ap, sym, ◌∙◌, arith}
 use Rattle.std.specs.Prelude.{unwrap_or}
 use Rattle.capnp_model.specs.Answers.{levels}
 use Rattle.capnp_model.specs.Segments.{root}
@@ -16,7 +16,7 @@ returns-then-len-eq0-clause-copy g c =
     let set = c.set_words in
     let items = c.args.self.now.memory.arena.segments.items in
     let none = ap (used_words (λ h. h.used) (λ h. g.A.Segment.SegmentBytes.bytes h.segment)) (no_items items c.len.result c.if-len-eq0.true c.len.ensures) in
-    set_first (levels o.nesting_limit) o.traversal_limit_in_words (words_in (g.S.ReaderSegments.segments c.args.source.now.segments)) _ _ c.args.limiter.now c.canonicalize.new.limiter c.in_ok-words.words c.deref.result.now set.result none c.in_ok-words.ensures c.deref.ensures.value set.ensures.words set.ensures.refused set.ensures.kind
+    set_first (levels o.nesting_limit) o.traversal_limit_in_words (words_in (g.S.ReaderSegments.segments c.args.source.now.segments)) _ _ c.args.limiter.now c.canonicalize.new.limiter c.in_ok-words.words c.deref.result.now set.result none c.in_ok-words.ensures.given c.deref.ensures.value set.ensures.words set.ensures.refused set.ensures.kind
 
 pub returns-clause-copy : goal.returns-clause-copy
 returns-clause-copy g c =
@@ -27,4 +27,4 @@ returns-clause-copy g c =
     let level = ap (λ (l : Option ℕ). unwrap_or l 0) (sym c.levels.ensures) ∙ sym c.unwrap_or-levels.ensures in
     let read = c.values_that_are_read.ensures in
     let trims = c.trimmed_values.ensures in
-    set_again (levels o.nesting_limit) o.traversal_limit_in_words c.unwrap_or-levels.result s _ _ c.args.limiter.now c.canonicalize.new.limiter c.in_ok-words.words c.deref-2.result.now c.replace_root.result some level c.in_ok-words.ensures c.deref-2.ensures.value c.replace_root.ensures.copy (λ n v t l. c.words_mean_their_value.ensures.means (trim v) n (trims.fits v (read.fits n s root v t)) (omega (arith, trims.depth v, read.deep n s root v t)) (omega (arith, l))) (λ n s v t. (cost_at n s root, c.values_on_walks.ensures.cost n s root v t))
+    set_again (levels o.nesting_limit) o.traversal_limit_in_words c.unwrap_or-levels.result s _ _ c.args.limiter.now c.canonicalize.new.limiter c.in_ok-words.words c.deref-2.result.now c.replace_root.result some level c.in_ok-words.ensures.given c.deref-2.ensures.value c.replace_root.ensures.copy (λ n v t l. c.words_mean_their_value.ensures.means (trim v) n (trims.fits v (read.fits n s root v t)) (omega (arith, trims.depth v, read.deep n s root v t)) (omega (arith, l))) (λ n s v t. (cost_at n s root, c.values_on_walks.ensures.cost n s root v t))

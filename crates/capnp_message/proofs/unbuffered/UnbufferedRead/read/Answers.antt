@@ -1,4 +1,4 @@
-use Rattle.std.proofs.Common.{◌≡◌, ℕ, arith}
+use Rattle.std.proofs.Common.{arith}
 use Rattle.capnp_message.proofs.Held.{byte_read}
 use Rattle.capnp_message.proofs.unbuffered.UnbufferedRead.read.Goals as goal
 
