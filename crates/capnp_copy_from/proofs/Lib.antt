@@ -10,6 +10,7 @@ mod Rows
 mod Made
 mod Elements
 mod Placed
+mod Told
 mod Listed
 mod TakenContent
 mod Counting

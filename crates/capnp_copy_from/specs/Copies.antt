@@ -195,3 +195,8 @@ CopiesOverStruct levels from q section d k s u r old result new =
 abbrev pub CopiesOverElements : ℕ → Segments → Place → List ℕ → ℕ → ℕ → ℕ → Segments → Segments → Place → ReadLimiter → Result ⊤ Error → ReadLimiter → Type 0
 CopiesOverElements levels from q words d k count s u r old result new =
     CopyGives from (each_element (tree_at levels from) q words d k count) (from_elements (visits levels from) q d k count) (FillsElements levels s u r d k count) (LeavesElements levels s u r d k count) s u old result new
+
+-- Why a copy is refused: the walk over what is read was stopped by that very error, or the error is as `told` says.
+abbrev pub IsStoppedOr : List Visit → ReadLimiter → ReadLimiter → (Error → Type 0) → Result ⊤ Error → Type 0
+IsStoppedOr path old new told (Ok _) = Unit {0}
+IsStoppedOr path old new told (Err e) = Stopped path old e new ⊎ told e

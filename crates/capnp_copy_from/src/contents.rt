@@ -1,11 +1,14 @@
 //! Structs that take over the content of others.
-ghost use Rattle.std.specs.Prelude.{◌≡◌, ◌+◌, ◌*◌, ◌^◌, ◌<◌, ◌≤◌, true, length, map};
+ghost use Rattle.std.specs.Prelude.{min, ◌≡◌, ◌+◌, ◌*◌, ◌^◌, ◌<◌, ◌≤◌, true, length, map};
 ghost use Rattle.std.specs.Option.{is_some};
 ghost use Rattle.capnp_model.specs.Sections.{number_of};
 ghost use Rattle.capnp_model.specs.Segments.{words_at};
+ghost use Rattle.capnp_model.specs.Coverage.{from_each};
+ghost use Rattle.capnp_model.specs.Visits.{visits};
 ghost use Rattle.capnp_units.specs.Segments.{words_in};
 ghost use Rattle.capnp_object.specs.Places.{place_view};
-ghost use Rattle.capnp_copy_from.specs.Copies.{struct_source};
+ghost use Rattle.capnp_copy.specs.Refusals.{IsSizeOrRefusal};
+ghost use Rattle.capnp_copy_from.specs.Copies.{IsStoppedOr, struct_source};
 ghost use Rattle.capnp_copy_from.specs.Contents.{CopiesContent, ClearsRest, SetsSection};
 
 use crate::copy::fill_row;
@@ -79,6 +82,9 @@ pub fn copy_content_from<A: BuilderArena, B: ReaderArena>(
         (struct_source section.now first pointers)
         (words_in (A.segments arena.old)) (words_in (A.segments arena.new)) object limiter.old
         result limiter.new }
+    ensures cause { IsStoppedOr (from_each (visits levels (words_in (B.segments source.now)))
+        (place_view first) (min pointers object.pointers)) limiter.old limiter.new
+        (IsSizeOrRefusal A.refuses) result }
     ensures books { A.books arena.new ≡ A.books arena.old }
 {
     let bytes = section.len().min(8 * object.data_words as usize);

@@ -3,13 +3,14 @@ ghost use Rattle.std.specs.Prelude.{◌≡◌, ℕ, ◌+◌, ◌*◌, ◌^◌, �
 ghost use Rattle.std.specs.Option.{is_some};
 ghost use Rattle.capnp_model.specs.Segments.{after, words_at};
 ghost use Rattle.capnp_model.specs.Traversal.{tree_at, each};
-ghost use Rattle.capnp_model.specs.Coverage.{from_each};
+ghost use Rattle.capnp_model.specs.Coverage.{from_each, from_elements};
 ghost use Rattle.capnp_model.specs.Visits.{visits};
 ghost use Rattle.capnp_units.specs.Segments.{words_in};
 ghost use Rattle.capnp_object.specs.Places.{place_view};
 ghost use Rattle.capnp_object.specs.Objects.{AreThere, IsInside};
-ghost use Rattle.capnp_object.specs.Inside.{tree_in, section_at, words_there};
-ghost use Rattle.capnp_copy_from.specs.Copies.{BecomesCopy, CopyGives, CopiesValue, CopiesObject, FollowsFew, FillsRow, LeavesRow, HasZeros, FillsObject, CopiesOverStruct, CopiesOverElements};
+ghost use Rattle.capnp_object.specs.Inside.{tree_in, met_in, section_at, words_there};
+ghost use Rattle.capnp_copy.specs.Refusals.{IsSizeOrRefusal};
+ghost use Rattle.capnp_copy_from.specs.Copies.{BecomesCopy, CopyGives, IsStoppedOr, CopiesValue, CopiesObject, FollowsFew, FillsRow, LeavesRow, HasZeros, FillsObject, CopiesOverStruct, CopiesOverElements};
 ghost use Rattle.capnp_copy_from.specs.Objects.{copied_words, most_counted, is_leaf, leaf_value};
 
 use crate::objects::{copy_at, pointer_word, room_for, tag_word};
@@ -45,6 +46,8 @@ pub fn copy_from<A: BuilderArena, B: ReaderArena>(
         (words_in (A.segments arena.old)) (words_in (A.segments arena.new)) (place_view slot)
         limiter.old result limiter.new }
     ensures few { FollowsFew limiter.old limiter.new }
+    ensures cause { IsStoppedOr (visits levels (words_in (B.segments source.now))
+        (place_view place)) limiter.old limiter.new (IsSizeOrRefusal A.refuses) result }
     ensures books { A.books arena.new ≡ A.books arena.old }
 {
     let object = follow_within(source, limiter, place, levels)?;
@@ -93,6 +96,8 @@ pub fn copy_object<A: BuilderArena, B: ReaderArena>(
     ensures copy { CopiesObject levels (words_in (B.segments source.now)) object
         (words_in (A.segments arena.old))
         (words_in (A.segments arena.new)) (place_view slot) limiter.old result limiter.new }
+    ensures cause { IsStoppedOr (met_in (visits levels (words_in (B.segments source.now))) object)
+        limiter.old limiter.new (IsSizeOrRefusal A.refuses) result }
     ensures books { A.books arena.new ≡ A.books arena.old }
 {
     if let Object::Null | Object::Capability { .. } = object {
@@ -132,6 +137,8 @@ fn fill<A: BuilderArena, B: ReaderArena>(
         FillsObject levels from object (tree_in from (tree_at levels from) object)
         (words_in (A.segments arena.old)) (words_in (A.segments arena.new)) (place_view start)
         limiter.old result limiter.new }
+    ensures cause { IsStoppedOr (met_in (visits levels (words_in (B.segments source.now))) object)
+        limiter.old limiter.new (IsSizeOrRefusal A.refuses) result }
     ensures books { A.books arena.new ≡ A.books arena.old }
 {
     match object {
@@ -192,6 +199,8 @@ pub(crate) fn fill_row<A: BuilderArena, B: ReaderArena>(
         CopyGives from (each (tree_at levels from) p count)
         (from_each (visits levels from) p count) (FillsRow levels s u r data_words count)
         (LeavesRow levels from p s u r data_words count) s u limiter.old result limiter.new }
+    ensures cause { IsStoppedOr (from_each (visits levels (words_in (B.segments source.now)))
+        (place_view first) count) limiter.old limiter.new (IsSizeOrRefusal A.refuses) result }
     ensures books { A.books arena.new ≡ A.books arena.old }
 {
     for i in 0..count {
@@ -229,6 +238,9 @@ fn fill_struct<A: BuilderArena, B: ReaderArena>(
         CopiesOverStruct levels b (after p data_words) (section_at b p data_words) data_words
         pointers (words_in (A.segments arena.old)) (words_in (A.segments arena.new))
         (place_view start) limiter.old result limiter.new }
+    ensures cause { IsStoppedOr (from_each (visits levels (words_in (B.segments source.now)))
+        (after (place_view from) data_words) pointers) limiter.old limiter.new
+        (IsSizeOrRefusal A.refuses) result }
     ensures books { A.books arena.new ≡ A.books arena.old }
 {
     copy_words(arena, start, source, from, data_words as usize);
@@ -271,6 +283,9 @@ fn fill_elements<A: BuilderArena, B: ReaderArena>(
         CopiesOverElements levels b p (words_there b p words) data_words pointers count
         (words_in (A.segments arena.old)) (words_in (A.segments arena.new)) (place_view start)
         limiter.old result limiter.new }
+    ensures cause { IsStoppedOr (from_elements (visits levels (words_in (B.segments source.now)))
+        (place_view from) data_words pointers count) limiter.old limiter.new
+        (IsSizeOrRefusal A.refuses) result }
     ensures books { A.books arena.new ≡ A.books arena.old }
 {
     if pointers == 0 {

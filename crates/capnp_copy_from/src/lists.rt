@@ -6,12 +6,16 @@ ghost use Rattle.capnp_model.specs.Segments.{words_at};
 ghost use Rattle.capnp_model.specs.Pointers.{a_list};
 ghost use Rattle.capnp_model.specs.Trees.{plain_list};
 ghost use Rattle.capnp_model.specs.Traversal.{tree_at};
+ghost use Rattle.capnp_model.specs.Coverage.{from_each, from_elements};
+ghost use Rattle.capnp_model.specs.Visits.{visits};
 ghost use Rattle.capnp_units.specs.Segments.{words_in};
 ghost use Rattle.capnp_units.specs.Sizes.{size_number, data_bits};
 ghost use Rattle.capnp_object.specs.Places.{place_view};
+ghost use Rattle.capnp_object.specs.Inside.{met_in};
 ghost use Rattle.capnp_wire.specs.Elements.{step_bits, step_words};
+ghost use Rattle.capnp_copy.specs.Refusals.{IsSizeOrRefusal};
 ghost use Rattle.capnp_copy.specs.States.{KeepsSizes};
-ghost use Rattle.capnp_copy_from.specs.Copies.{Fills, HasZeros, FillsObject, CopiesOverStruct, CopiesOverElements};
+ghost use Rattle.capnp_copy_from.specs.Copies.{IsStoppedOr, Fills, HasZeros, FillsObject, CopiesOverStruct, CopiesOverElements};
 ghost use Rattle.capnp_copy_from.specs.Objects.{copied_words, most_counted};
 ghost use Rattle.capnp_copy_from.specs.Lists.{CopiesList, listed_object, listed_tree, listed_bits, listed_words};
 
@@ -102,6 +106,9 @@ fn fill_element<A: BuilderArena, B: ReaderArena>(
     ensures copy { CopiesOverStruct levels (words_in (B.segments source.now)) (place_view first)
         (number_of 8 section.now) data_words pointers (words_in (A.segments arena.old))
         (words_in (A.segments arena.new)) (place_view start) limiter.old result limiter.new }
+    ensures cause { IsStoppedOr (from_each (visits levels (words_in (B.segments source.now)))
+        (place_view first) pointers) limiter.old limiter.new
+        (IsSizeOrRefusal A.refuses) result }
     ensures books { A.books arena.new ≡ A.books arena.old }
 {
     arena.write_words(start, section);
@@ -132,6 +139,9 @@ fn fill_structs<A: BuilderArena, B: ReaderArena>(
         (words_of n (number_of 8 bytes.now)) list.data_words list.pointers list.count
         (words_in (A.segments arena.old)) (words_in (A.segments arena.new)) (place_view start)
         limiter.old result limiter.new }
+    ensures cause { IsStoppedOr (from_elements (visits levels (words_in (B.segments source.now)))
+        (place_view list.start) list.data_words list.pointers list.count) limiter.old limiter.new
+        (IsSizeOrRefusal A.refuses) result }
     ensures books { A.books arena.new ≡ A.books arena.old }
 {
     if list.pointers == 0 {
@@ -188,6 +198,8 @@ fn fill_list<A: BuilderArena, B: ReaderArena>(
         FillsObject levels from (listed_object list)
         (listed_tree (tree_at levels from) list bytes.now) (words_in (A.segments arena.old))
         (words_in (A.segments arena.new)) (place_view start) limiter.old result limiter.new }
+    ensures cause { IsStoppedOr (met_in (visits levels (words_in (B.segments source.now)))
+        (listed_object list)) limiter.old limiter.new (IsSizeOrRefusal A.refuses) result }
     ensures books { A.books arena.new ≡ A.books arena.old }
 {
     match list.size {
@@ -232,6 +244,8 @@ pub fn set_list<A: BuilderArena, B: ReaderArena>(
     ensures copy { CopiesList levels (words_in (B.segments source.now)) list bytes.now
         (words_in (A.segments arena.old))
         (words_in (A.segments arena.new)) (place_view slot) limiter.old result limiter.new }
+    ensures cause { IsStoppedOr (met_in (visits levels (words_in (B.segments source.now)))
+        (listed_object list)) limiter.old limiter.new (IsSizeOrRefusal A.refuses) result }
     ensures books { A.books arena.new ≡ A.books arena.old }
 {
     let object = object_of(list);

@@ -1,5 +1,5 @@
 //! What the copy of an object takes, and the pointer to it.
-ghost use Rattle.std.specs.Prelude.{◌≡◌, ◌↔◌, ◌+◌, ◌-◌, ◌*◌, ◌^◌, ◌<◌, ◌≤◌, true, IfOk, IfErr, OnErr};
+ghost use Rattle.std.specs.Prelude.{◌≡◌, ◌⊎◌, ◌↔◌, ◌+◌, ◌-◌, ◌*◌, ◌^◌, ◌<◌, ◌≤◌, true, IfOk, IfErr, OnErr};
 ghost use Rattle.std.specs.Option.{is_some};
 ghost use Rattle.capnp_model.specs.Segments.{word_at};
 ghost use Rattle.capnp_model.specs.Encoding.{struct_pointer};
@@ -8,8 +8,9 @@ ghost use Rattle.capnp_units.specs.Sizes.{size_number};
 ghost use Rattle.capnp_units.specs.declared.kinds.ErrorKind.TheVariants.{SizeOverflow};
 ghost use Rattle.capnp_object.specs.Places.{place_view};
 ghost use Rattle.capnp_object.specs.Named.{named_view};
-ghost use Rattle.capnp_copy.specs.Allocations.{total_words};
-ghost use Rattle.capnp_copy.specs.Rooms.{RoomFor};
+ghost use Rattle.capnp_copy.specs.Allocations.{total_words, NoRoom};
+ghost use Rattle.capnp_copy.specs.Refusals.{IsSizeOrRefusal};
+ghost use Rattle.capnp_copy.specs.Rooms.{RoomFor, IsNearWhereRoom};
 ghost use Rattle.capnp_copy_from.specs.Objects.{copied_words, most_counted, copied_at, copied_pointer, IsTooLarge, IsSpelled};
 
 use capnp_copy::arena::BuilderArena;
@@ -65,7 +66,7 @@ fn words_of_copy(object: Object) -> Result<u32>
     Ok(words as u32)
 }
 
-/// Room for the copy of an object that the pointer at a place will name, as `allocate_near` gives it. It is refused with `SizeOverflow` just where a count or the message's words, a pad counted, would pass 2^29 - 1, else as the allocator refuses; then nothing is allocated.
+/// Room for the copy of an object that the pointer at a place will name, as `allocate_near` gives it. It is refused with `SizeOverflow` just where a count or the message's words, a pad counted, would pass 2^29 - 1, else as the allocator refuses, which is asked only where there is no room; then nothing is allocated.
 pub(crate) fn room_for<A: BuilderArena>(arena: &mut A, slot: Place, object: Object) -> Result<Room>
     requires { is_some (word_at (words_in (A.segments arena.old)) (place_view slot)) ≡ true }
     ensures ok { IfOk result
@@ -77,6 +78,13 @@ pub(crate) fn room_for<A: BuilderArena>(arena: &mut A, slot: Place, object: Obje
     ensures kind { IfErr result (λ e.
         (e.kind ≡ SizeOverflow)
         ↔ IsTooLarge object (total_words (words_in (A.segments arena.old)))) }
+    ensures near { IfOk result
+        (IsNearWhereRoom (words_in (A.segments arena.old)) (A.room arena.old) slot.segment
+        (copied_words object)) }
+    ensures full { OnErr result ((2 ^ 29 ≤ most_counted object)
+        ⊎ NoRoom (words_in (A.segments arena.old)) (A.room arena.old) slot.segment
+        (copied_words object)) }
+    ensures cause { IfErr result (λ e. IsSizeOrRefusal A.refuses e) }
     ensures books { A.books arena.new ≡ A.books arena.old }
 {
     let words = words_of_copy(object)?;

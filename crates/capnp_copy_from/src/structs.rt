@@ -2,9 +2,12 @@
 ghost use Rattle.std.specs.Prelude.{◌≡◌, ◌+◌, ◌-◌, ◌*◌, ◌^◌, ◌<◌, ◌≤◌, true, length};
 ghost use Rattle.std.specs.Option.{is_some};
 ghost use Rattle.capnp_model.specs.Segments.{words_at};
+ghost use Rattle.capnp_model.specs.Coverage.{from_each};
+ghost use Rattle.capnp_model.specs.Visits.{visits};
 ghost use Rattle.capnp_units.specs.Segments.{words_in};
 ghost use Rattle.capnp_object.specs.Places.{place_view};
-ghost use Rattle.capnp_copy_from.specs.Copies.{CopiesStruct, struct_source};
+ghost use Rattle.capnp_copy.specs.Refusals.{IsSizeOrRefusal};
+ghost use Rattle.capnp_copy_from.specs.Copies.{CopiesStruct, IsStoppedOr, struct_source};
 
 use crate::copy::fill_row;
 use crate::objects::{copy_at, pointer_word, room_for};
@@ -39,6 +42,9 @@ pub fn set_struct<A: BuilderArena, B: ReaderArena>(
         (struct_source section.now first pointers)
         (words_in (A.segments arena.old)) (words_in (A.segments arena.new)) (place_view slot)
         limiter.old result limiter.new }
+    ensures cause { IsStoppedOr (from_each (visits levels (words_in (B.segments source.now)))
+        (place_view first) pointers) limiter.old limiter.new
+        (IsSizeOrRefusal A.refuses) result }
     ensures books { A.books arena.new ≡ A.books arena.old }
 {
     let data_words = ((section.len() + 7) / 8) as u16;

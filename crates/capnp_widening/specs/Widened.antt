@@ -80,6 +80,16 @@ abbrev pub StructLacks : Segments → List ℕ → ℕ → Result Found Kind →
 StructLacks s free i (Err kind) d k = Unit {0}
 StructLacks s free i (Ok f) d k = ObjectLacks s free i f.object d k
 
+-- A struct is found, or null, so that one of any sizes can be given.
+abbrev pub IsObjectOfStruct : Object → Type 0
+IsObjectOfStruct object.Null = Unit {0}
+IsObjectOfStruct (object.Struct p w m) = Unit {0}
+IsObjectOfStruct _ = ⊥
+
+abbrev pub IsStructOrNull : Result Found Kind → Type 0
+IsStructOrNull (Err kind) = ⊥
+IsStructOrNull (Ok f) = IsObjectOfStruct f.object
+
 -- So many words more are refused: with `SizeOverflow` just where the message's words would pass 2^29 - 1.
 abbrev pub GrowthRefused : Segments → ℕ → Error → Type 0
 GrowthRefused s n e = (e.kind ≡ SizeOverflow) ↔ (2 ^ 29 ≤ total_words s + n)
@@ -99,8 +109,8 @@ abbrev pub StructRefused : Segments → Result Found Kind → ℕ → ℕ → Er
 StructRefused s (Err kind) d k e = kind ≡ kind_of e.kind
 StructRefused s (Ok f) d k e = ObjectRefused s f.object d k e
 
--- A struct of these sizes stands in place of a narrower one, where the answer says; or there is no room, and all stands as it was.
-pub record WidensStruct (old new : ArenaState) (slot : code.Place) (was : StructPlace) (wanted : StructSize) (r : Result StructPlace Error) : Type 0 where
+-- A struct of these sizes stands in place of a narrower one, where the answer says; or there is no room, and all stands as it was; `told` says of an error why it came.
+pub record WidensStruct (old new : ArenaState) (slot : code.Place) (was : StructPlace) (wanted : StructSize) (r : Result StructPlace Error) (told : Error → Type 0) : Type 0 where
   pub value : IfOk r (λ o. Widens (words_in old.segments) (words_in new.segments) (place_view slot) wanted.data_words wanted.pointers)
   pub object : IfOk r (λ o. LeadsTo (words_in new.segments) (place_view slot) (struct_at o))
   pub size : IfOk r (λ o. (o.data_words ≡ wanted.data_words) × (o.pointers ≡ wanted.pointers))
@@ -112,9 +122,10 @@ pub record WidensStruct (old new : ArenaState) (slot : code.Place) (was : Struct
   pub refused : OnErr r (new.segments ≡ old.segments)
   pub kind : IfErr r (GrowthRefused (words_in old.segments) (wanted.data_words + wanted.pointers + 1 + 2 * was.pointers))
   pub books : new.books ≡ old.books
+  pub cause : IfErr r told
 
--- A struct of at least these sizes stands where the answer says, in place of null or of a narrower one; one that is wide enough stays. Or it is refused, and all stands as it was.
-pub record GetsStruct (old new : ArenaState) (slot : code.Place) (wanted : StructSize) (r : Result StructPlace Error) : Type 0 where
+-- A struct of at least these sizes stands where the answer says, in place of null or of a narrower one; one that is wide enough stays. Or it is refused, and all stands as it was; where a struct or null is found, `told` says why.
+pub record GetsStruct (old new : ArenaState) (slot : code.Place) (wanted : StructSize) (r : Result StructPlace Error) (told : Error → Type 0) : Type 0 where
   pub value : IfOk r (λ o. Widens (words_in old.segments) (words_in new.segments) (place_view slot) wanted.data_words wanted.pointers)
   pub object : IfOk r (λ o. LeadsTo (words_in new.segments) (place_view slot) (struct_at o))
   pub size : IfOk r (λ o. (wanted.data_words ≤ o.data_words) × (wanted.pointers ≤ o.pointers))
@@ -126,3 +137,4 @@ pub record GetsStruct (old new : ArenaState) (slot : code.Place) (wanted : Struc
   pub refused : OnErr r (new.segments ≡ old.segments)
   pub kind : IfErr r (StructRefused (words_in old.segments) (object_at (words_in old.segments) (place_view slot)) wanted.data_words wanted.pointers)
   pub books : new.books ≡ old.books
+  pub cause : IsStructOrNull (object_at (words_in old.segments) (place_view slot)) → IfErr r told

@@ -1,5 +1,5 @@
 -- Lists that are got as lists of structs, and widened. (Encoding, "Lists")
-use Rattle.std.specs.Prelude.{◌≡◌, ◌⊎◌, ℕ, suc, max, ◌+◌, ◌*◌, ◌^◌, ◌≤◌, List, Some, Result, Ok, Err, IfOk, IfErr, OnOk, OnErr}
+use Rattle.std.specs.Prelude.{◌≡◌, ◌⊎◌, ℕ, suc, max, ◌+◌, ◌*◌, ◌^◌, ◌≤◌, List, Some, Result, Ok, Err, IsOk, IfOk, IfErr, OnOk, OnErr}
 use Rattle.capnp_model.specs.Chains.{◌and_then◌}
 use Rattle.capnp_model.specs.Kinds.{Kind}
 use Rattle.capnp_model.specs.Segments.{Segments, Place, word_at}
@@ -74,8 +74,8 @@ abbrev pub ListRefused : Segments → Place → Result ListPlace Kind → ℕ �
 ListRefused s p (Err kind) d k e = kind ≡ kind_of e.kind
 ListRefused s p (Ok o) d k e = (word_at s p ≡ Some 0 → ⊥) × (IsWideList o d k → ⊥) × GrowthRefused s (words_wanted o (max d (least_words o)) (max k (least_pointers o))) e
 
--- A list of structs of these sizes stands in place of a narrower list, where the answer says; or there is no room, and all stands as it was.
-pub record WidensToList (old new : ArenaState) (slot : code.Place) (was : ListPlace) (wanted : StructSize) (r : Result ListPlace Error) : Type 0 where
+-- A list of structs of these sizes stands in place of a narrower list, where the answer says; or there is no room, and all stands as it was; `told` says of an error why it came.
+pub record WidensToList (old new : ArenaState) (slot : code.Place) (was : ListPlace) (wanted : StructSize) (r : Result ListPlace Error) (told : Error → Type 0) : Type 0 where
   pub value : IfOk r (λ o. WidensList (words_in old.segments) (words_in new.segments) (place_view slot) wanted.data_words wanted.pointers)
   pub object : IfOk r (λ o. LeadsTo (words_in new.segments) (place_view slot) (list_at o))
   pub list : IfOk r (λ o. (o.size ≡ InlineComposite) × (o.count ≡ was.count) × (o.data_words ≡ wanted.data_words) × (o.pointers ≡ wanted.pointers))
@@ -87,9 +87,10 @@ pub record WidensToList (old new : ArenaState) (slot : code.Place) (was : ListPl
   pub refused : OnErr r (new.segments ≡ old.segments)
   pub kind : IfErr r (GrowthRefused (words_in old.segments) (words_wanted was wanted.data_words wanted.pointers))
   pub books : new.books ≡ old.books
+  pub cause : IfErr r told
 
--- The list stands where the answer says as one of structs of at least these sizes; one that is wide enough, and null, stays. Or it is refused, and all stands as it was.
-pub record GetsStructList (old new : ArenaState) (slot : code.Place) (wanted : StructSize) (r : Result ListPlace Error) : Type 0 where
+-- The list stands where the answer says as one of structs of at least these sizes; one that is wide enough, and null, stays. Or it is refused, and all stands as it was; where a list of structs can be had, `told` says why.
+pub record GetsStructList (old new : ArenaState) (slot : code.Place) (wanted : StructSize) (r : Result ListPlace Error) (told : Error → Type 0) : Type 0 where
   pub value : IfOk r (λ o. WidensList (words_in old.segments) (words_in new.segments) (place_view slot) wanted.data_words wanted.pointers)
   pub list : IfOk r (StructsGot (words_in old.segments) (words_in new.segments) slot wanted.data_words wanted.pointers)
   pub taken : OnOk r (ListTakes (words_in old.segments) old.room (words_in new.segments) slot wanted.data_words wanted.pointers)
@@ -99,3 +100,4 @@ pub record GetsStructList (old new : ArenaState) (slot : code.Place) (wanted : S
   pub refused : OnErr r (new.segments ≡ old.segments)
   pub kind : IfErr r (ListRefused (words_in old.segments) (place_view slot) (list_there (words_in old.segments) slot) wanted.data_words wanted.pointers)
   pub books : new.books ≡ old.books
+  pub cause : IsOk (list_there (words_in old.segments) slot) → IfErr r told

@@ -4,6 +4,7 @@ ghost use Rattle.std.specs.Option.{is_some};
 ghost use Rattle.capnp_model.specs.Segments.{word_at};
 ghost use Rattle.capnp_units.specs.Segments.{words_in};
 ghost use Rattle.capnp_wire.specs.Places.{place_view};
+ghost use Rattle.capnp_copy.specs.Refusals.{IsSizeOrRefusal};
 ghost use Rattle.capnp_copy.specs.States.{state_in};
 ghost use Rattle.capnp_widening.specs.Widened.{MakesWiderRoom, TakesNearObject, LacksWiderRoom, RefusesWords};
 
@@ -32,6 +33,7 @@ pub fn allocate_wider<A: BuilderArena>(
         (TakesNearObject (at arena.old) (at arena.new) slot segment words) }
     ensures refused { OnErr result (A.segments arena.new ≡ A.segments arena.old) }
     ensures kind { IfErr result (RefusesWords (A.segments arena.old) (1 + (words + pads))) }
+    ensures cause { IfErr result (λ e. IsSizeOrRefusal A.refuses e) }
     ensures full { let at = state_in A.segments A.room A.books in OnErr result
         (LacksWiderRoom (at arena.old) slot segment words pads) }
     ensures books { A.books arena.new ≡ A.books arena.old }

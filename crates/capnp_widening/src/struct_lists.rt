@@ -6,6 +6,7 @@ ghost use Rattle.capnp_units.specs.Segments.{words_in};
 ghost use Rattle.capnp_units.specs.declared.kinds.ErrorKind.TheVariants.{SizeOverflow};
 ghost use Rattle.capnp_wire.specs.Places.{place_view};
 ghost use Rattle.capnp_copy.specs.Lists.{list_at};
+ghost use Rattle.capnp_copy.specs.Refusals.{IsSizeOrRefusal};
 ghost use Rattle.capnp_copy.specs.States.{state_in};
 ghost use Rattle.capnp_copy.specs.Values.{LeadsTo};
 ghost use Rattle.capnp_widening.specs.MovedElements.{least_words, least_pointers};
@@ -85,7 +86,8 @@ fn widen_list<A: BuilderArena>(
     requires wider { (least_words old ≤ size.data_words) × (least_pointers old ≤ size.pointers) }
     requires short { (size.data_words + size.pointers ≡ 0) → (old.count < 2 ^ 29) }
     ensures { let at = state_in A.segments A.room A.books in
-        WidensToList (at arena.old) (at arena.new) slot old size result }
+        WidensToList (at arena.old) (at arena.new) slot old size result
+        (IsSizeOrRefusal A.refuses) }
 {
     let (words, pad_words) = words_of_wider(old, size)?;
     let (room, pads) = allocate_wider(arena, slot, old.start.segment, 1 + words, pad_words)?;
@@ -121,7 +123,8 @@ pub fn get_struct_list<A: BuilderArena>(
         ≡ true }
     requires near { slot.position < 2 ^ 61 }
     ensures { let at = state_in A.segments A.room A.books in
-        GetsStructList (at arena.old) (at arena.new) slot size result }
+        GetsStructList (at arena.old) (at arena.new) slot size result
+        (IsSizeOrRefusal A.refuses) }
 {
     let old = get_list(arena, slot, ElementSize::InlineComposite)?;
     if word_at(arena, slot) == Some(0) || is_wide(old, size) {

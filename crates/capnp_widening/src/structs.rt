@@ -4,6 +4,7 @@ ghost use Rattle.std.specs.Option.{is_some};
 ghost use Rattle.capnp_model.specs.Segments.{after, words_at};
 ghost use Rattle.capnp_units.specs.Segments.{words_in};
 ghost use Rattle.capnp_wire.specs.Places.{place_view};
+ghost use Rattle.capnp_copy.specs.Refusals.{IsSizeOrRefusal};
 ghost use Rattle.capnp_copy.specs.States.{state_in};
 ghost use Rattle.capnp_copy.specs.Structs.{struct_at};
 ghost use Rattle.capnp_copy.specs.Values.{LeadsTo};
@@ -41,7 +42,8 @@ fn widen_struct<A: BuilderArena>(
     requires wider { (old.data_words ≤ size.data_words) × (old.pointers ≤ size.pointers)
         × (0 < size.data_words + size.pointers) }
     ensures { let at = state_in A.segments A.room A.books in
-        WidensStruct (at arena.old) (at arena.new) slot old size result }
+        WidensStruct (at arena.old) (at arena.new) slot old size result
+        (IsSizeOrRefusal A.refuses) }
 {
     let pad_words = 2 * old.pointers as u32;
     let (room, pads) = allocate_wider(arena, slot, old.start.segment, size.total(), pad_words)?;
@@ -82,7 +84,8 @@ pub fn get_struct<A: BuilderArena>(
         ≡ true }
     requires near { slot.position < 2 ^ 61 }
     ensures { let at = state_in A.segments A.room A.books in
-        GetsStruct (at arena.old) (at arena.new) slot size result }
+        GetsStruct (at arena.old) (at arena.new) slot size result
+        (IsSizeOrRefusal A.refuses) }
 {
     let found = object_at(arena, slot)?;
     match found.object {

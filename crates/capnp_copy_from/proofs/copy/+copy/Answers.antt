@@ -1,5 +1,5 @@
 -- What each step makes, keeps and pays.
-use Rattle.std.proofs.Common.{◌≡◌, ℕ, ◌+◌, ◌-◌, ◌*◌, ◌%◌, ◌^◌, ◌<◌, ◌≤◌, true, [], ◌∷◌, replicate, Some, Ok, refl, ap, sym, ◌∙◌, subst, arith, rules}
+use Rattle.std.proofs.Common.{◌≡◌, ℕ, ◌+◌, ◌-◌, ◌*◌, ◌%◌, ◌^◌, ◌<◌, ◌≤◌, true, [], ◌∷◌, replicate, Some, Ok, refl, ap, sym, ◌∙◌, subst, inl, inr, arith, rules}
 use Rattle.std.specs.Option.{is_some}
 use Rattle.std.proofs.lemmas.Result.{err_from_is_err_and}
 use Rattle.capnp_model.specs.Sections.{section_of, words_for}
@@ -36,6 +36,9 @@ use Rattle.capnp_copy_from.proofs.Made.{struct_copied, struct_fills, pointers_fi
 use Rattle.capnp_copy.specs.Allocations.{total_words}
 use Rattle.capnp_copy_from.proofs.Taking.{total_alike, written_total, takes_none}
 use Rattle.capnp_copy_from.proofs.Placed.{stopped_gives, copied_object, refused_object, no_room, object_refused, with_visit, new_fits, leaf_is, no_leaf, leaf_filled, FillGives}
+use Rattle.capnp_copy.specs.Refusals.{IsSizeOrRefusal}
+use Rattle.capnp_copy_from.specs.Copies.{IsStoppedOr}
+use Rattle.capnp_copy_from.proofs.Told.{told_err, deep_told, row_told, elements_told}
 use Rattle.capnp_copy_from.proofs.copy.+copy.Goals as goal
 
 pub copy_from-returns-in_err-object-clause-copy : goal.copy_from-returns-in_err-object-clause-copy
@@ -102,6 +105,7 @@ copy_object-returns-in_err-room g t c =
     record {
       copy = object_refused n from o (tree_in from (tree_at n from) o) (met_in (visits n from) o) s u (place_view c.args.slot) c.args.limiter.now c.args.limiter.now c.from_residual.result r.0 e r.1 r.2
           (no_room from s u o (met_in (visits n from) o) c.args.limiter.now e (ap words_in c.in_err-room.ensures.refused) c.in_err-room.ensures.kind);
+      cause = told_err (met_in (visits n from) o) c.args.limiter.now c.args.limiter.now (IsSizeOrRefusal g.A.BuilderArena.refuses) c.from_residual.result r.0 e r.1 r.2 (inr c.in_err-room.ensures.cause);
       books = c.in_err-room.ensures.books;
     }
 
@@ -161,6 +165,7 @@ copy_object-returns-in-Ok g t c =
     let now : z ≡ linked y p room (copied_pointer o) = c.link.ensures.words ∙ ap (linked y p room) c.pointer_word.ensures.word in
     record {
       copy = copied_object n s m u y z p o room (tree_in from (tree_at n from) o) (met_in (visits n from) o) c.args.limiter.now c.fill.new.limiter c.requires.there kind c.in_ok-room.ensures.ok (new_fits from o kind c.requires.inside c.in_ok-room.ensures.spelled) filled c.clear.ensures.clears c.clear.ensures.sizes now;
+      cause = tt;
       books = c.link.ensures.books ∙ c.clear.ensures.books ∙ c.in-Ok.ensures.books ∙ c.in_ok-room.ensures.books;
     }
 
@@ -180,6 +185,7 @@ copy_object-returns-in-Err g t c =
     let clears : ClearsObject u y (copied_at (begin_of p c.in_ok-room.room) o) = subst (λ (r : Place). ClearsObject u y (copied_at r o)) begins (subst (ClearsObject u y) c.copy_at.ensures c.clear_object.ensures.clears) in
     record {
       copy = refused_object n from s m u y p o c.in_ok-room.room (met_in (visits n from) o) c.args.limiter.now c.fill.new.limiter e c.requires.there c.in_ok-room.ensures.ok left clears c.clear_object.ensures.sizes;
+      cause = c.in-Err.ensures.cause;
       books = c.clear_object.ensures.books ∙ c.in-Err.ensures.books ∙ c.in_ok-room.ensures.books;
     }
 
@@ -420,3 +426,67 @@ fill_struct-returns-clause-copy g t c =
     let n = c.args.levels in
     struct_copied n b (after p c.args.data_words) b (each (tree_at n b) (after p c.args.data_words) c.args.pointers) (from_each (visits n b) (after p c.args.data_words) c.args.pointers) p s m u (place_view c.args.start) c.args.data_words c.args.pointers c.args.limiter.now c.fill_row.new.limiter c.fill_row.result
     (front_there b p (c.args.data_words + c.args.pointers) c.requires.inside.0 c.args.data_words (omega arith)) c.requires.there c.copy_words.ensures.words c.fill_row.ensures.copy
+
+-- ---- why copies are refused
+
+pub copy_from-returns-in_err-object-clause-cause : goal.copy_from-returns-in_err-object-clause-cause
+copy_from-returns-in_err-object-clause-cause g t c =
+    let from : Segments = words_in (g.B.ReaderArena.segments c.args.source.now) in
+    let p : Place = place_view c.args.place in
+    let n = c.args.levels in
+    let r = err_from_is_err_and c.from_residual.result c.from_residual.ensures.1 in
+    let e = c.in_err-object.field-0.0 in
+    told_err (visits n from p) c.args.limiter.now c.follow_within.new.limiter (IsSizeOrRefusal g.A.BuilderArena.refuses) c.from_residual.result r.0 e r.1 r.2
+    (inl (stopped_at n from p c.args.limiter.now c.follow_within.new.limiter e c.in_err-object.ensures))
+
+pub copy_from-returns-clause-cause : goal.copy_from-returns-clause-cause
+copy_from-returns-clause-cause g t c =
+    let from : Segments = words_in (g.B.ReaderArena.segments c.args.source.now) in
+    let some = c.if-levels-eq0.false in
+    deep_told c.args.levels (c.args.levels - 1) from (place_view c.args.place) c.in_ok-object.object c.args.limiter.now c.follow_within.new.limiter c.copy_object.new.limiter (IsSizeOrRefusal g.A.BuilderArena.refuses) c.copy_object.result (omega arith) c.in_ok-object.ensures.0 c.copy_object.ensures.cause
+
+pub fill-returns-in-Struct-clause-cause : goal.fill-returns-in-Struct-clause-cause
+fill-returns-in-Struct-clause-cause g t c =
+    let from : Segments = words_in (g.B.ReaderArena.segments c.args.source.now) in
+    subst (λ (o : Object). IsStoppedOr (met_in (visits c.args.levels from) o) c.args.limiter.now c.fill_struct.new.limiter (IsSizeOrRefusal g.A.BuilderArena.refuses) c.fill_struct.result) (sym c.in-Struct.is) c.fill_struct.ensures.cause
+
+pub fill-returns-in-PointerList-clause-cause : goal.fill-returns-in-PointerList-clause-cause
+fill-returns-in-PointerList-clause-cause g t c =
+    let from : Segments = words_in (g.B.ReaderArena.segments c.args.source.now) in
+    subst (λ (o : Object). IsStoppedOr (met_in (visits c.args.levels from) o) c.args.limiter.now c.fill_row.new.limiter (IsSizeOrRefusal g.A.BuilderArena.refuses) c.fill_row.result) (sym c.in-PointerList.is) c.fill_row.ensures.cause
+
+pub fill-returns-in-StructList-clause-cause : goal.fill-returns-in-StructList-clause-cause
+fill-returns-in-StructList-clause-cause g t c =
+    let from : Segments = words_in (g.B.ReaderArena.segments c.args.source.now) in
+    subst (λ (o : Object). IsStoppedOr (met_in (visits c.args.levels from) o) c.args.limiter.now c.fill_elements.new.limiter (IsSizeOrRefusal g.A.BuilderArena.refuses) c.fill_elements.result) (sym c.in-StructList.is) c.fill_elements.ensures.cause
+
+pub fill_elements-returns-in_err-fill_struct-clause-cause : goal.fill_elements-returns-in_err-fill_struct-clause-cause
+fill_elements-returns-in_err-fill_struct-clause-cause g t c =
+    let from : Segments = words_in (g.B.ReaderArena.segments c.args.source.now) in
+    let s : Segments = words_in (g.A.ReaderArena.segments c.args.arena.now) in
+    let u : Segments = words_in (g.A.ReaderArena.segments c.loop-i.arena) in
+    let p : Place = place_view c.args.from in
+    let n = c.args.levels in
+    let d = c.args.data_words in
+    let k = c.args.pointers in
+    let count = c.args.count in
+    let r = err_from_is_err_and c.from_residual.result c.from_residual.ensures.1 in
+    let e = c.in_err-fill_struct.field-0.0 in
+    told_err (from_elements (visits n from) p d k count) c.args.limiter.now c.fill_struct.new.limiter (IsSizeOrRefusal g.A.BuilderArena.refuses) c.from_residual.result r.0 e r.1 r.2
+    (elements_told n from p (words_there from p c.args.words) d k count s (place_view c.args.start) c.args.limiter.now c.loop-i.i u c.loop-i.limiter c.fill_struct.new.limiter (IsSizeOrRefusal g.A.BuilderArena.refuses) e c.loop-i-test.true c.loop-i.invariant.0 c.in_err-fill_struct.ensures.cause)
+
+pub fill_row-returns-in_err-copy_from-clause-cause : goal.fill_row-returns-in_err-copy_from-clause-cause
+fill_row-returns-in_err-copy_from-clause-cause g t c =
+    let from : Segments = words_in (g.B.ReaderArena.segments c.args.source.now) in
+    let s : Segments = words_in (g.A.ReaderArena.segments c.args.arena.now) in
+    let u : Segments = words_in (g.A.ReaderArena.segments c.loop-i.arena) in
+    let p : Place = place_view c.args.first in
+    let n = c.args.levels in
+    let count = c.args.count in
+    let r = err_from_is_err_and c.from_residual.result c.from_residual.ensures.1 in
+    let e = c.in_err-copy_from.field-0.0 in
+    told_err (from_each (visits n from) p count) c.args.limiter.now c.copy_from.new.limiter (IsSizeOrRefusal g.A.BuilderArena.refuses) c.from_residual.result r.0 e r.1 r.2
+    (row_told n from p count s (place_view c.args.start) c.args.data_words c.args.limiter.now c.loop-i.i u c.loop-i.limiter c.copy_from.new.limiter (IsSizeOrRefusal g.A.BuilderArena.refuses) e c.loop-i-test.true c.loop-i.invariant.0 c.in_err-copy_from.ensures.cause)
+
+pub fill_struct-returns-clause-cause : goal.fill_struct-returns-clause-cause
+fill_struct-returns-clause-cause g t c = c.fill_row.ensures.cause

@@ -44,3 +44,6 @@ returns-clause-copy g c =
     (subst (λ (v : Segments). Grows s v) (sym c.write_words.ensures.words) (splice_grows s r _)) (ap total_words c.write_words.ensures.words ∙ written_total s r _)
     (λ j own kids o. subst (λ (a : ℕ). ReplacesObject j s m (a_struct r c.args.data_words c.args.pointers) (structure c.args.data_words a kids)) number (words_copied j s m r c.args.data_words c.args.pointers own kids (words_in_bytes (length c.args.section.now / 8) c.args.section.now) count c.requires.there c.write_words.ensures.words o))
     c.fill_row.ensures.copy
+
+pub returns-clause-cause : goal.returns-clause-cause
+returns-clause-cause g c = c.fill_row.ensures.cause

@@ -26,6 +26,8 @@ use Rattle.capnp_copy_from.specs.Lists.{object_of_size, tree_of_size, listed_sec
 use Rattle.capnp_copy_from.specs.declared.lists.ListSource.{ListSource}
 use Rattle.capnp_copy_from.proofs.Listed.{plain_elements, plain_copied, front_elements, front_section_of, bits_of_structs}
 use Rattle.capnp_copy_from.proofs.Made.{pointers_fill, structs_fill}
+use Rattle.capnp_copy.specs.Refusals.{IsSizeOrRefusal}
+use Rattle.capnp_copy_from.specs.Copies.{IsStoppedOr}
 use Rattle.capnp_copy_from.proofs.lists.fill_list.Goals as goal
 
 -- what comes of a list with elements of a size
@@ -108,5 +110,16 @@ returns-in_default g c =
     record {
       copy = plain_copied n from x (listed_section x c.args.bytes.now) s u r c.args.limiter.now y
           (λ j. subst (λ (a : ℕ). Fills j s u r (words_for (data_bits (size_number x.size) * x.count)) (a_list r (size_number x.size) x.count) (plain_list (size_number x.size) x.count a)) section (c.write_elements.ensures.fills j)) c.write_elements.ensures.sizes;
+      cause = tt;
       books = c.write_elements.ensures.books;
     }
+
+pub returns-in-Pointer-clause-cause : goal.returns-in-Pointer-clause-cause
+returns-in-Pointer-clause-cause g c =
+    let from : Segments = words_in (g.B.ReaderArena.segments c.args.source.now) in
+    subst (λ (z : ElementSize). IsStoppedOr (met_in (visits c.args.levels from) (object_of_size z c.args.list)) c.args.limiter.now c.fill_row.new.limiter (IsSizeOrRefusal g.A.BuilderArena.refuses) c.fill_row.result) (sym c.in-Pointer.is) c.fill_row.ensures.cause
+
+pub returns-in-InlineComposite-clause-cause : goal.returns-in-InlineComposite-clause-cause
+returns-in-InlineComposite-clause-cause g c =
+    let from : Segments = words_in (g.B.ReaderArena.segments c.args.source.now) in
+    subst (λ (z : ElementSize). IsStoppedOr (met_in (visits c.args.levels from) (object_of_size z c.args.list)) c.args.limiter.now c.fill_structs.new.limiter (IsSizeOrRefusal g.A.BuilderArena.refuses) c.fill_structs.result) (sym c.in-InlineComposite.is) c.fill_structs.ensures.cause

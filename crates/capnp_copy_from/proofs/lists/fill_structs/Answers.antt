@@ -17,6 +17,8 @@ use Rattle.capnp_copy_from.proofs.Elements.{elements_begun, elements_next, eleme
 use Rattle.capnp_copy_from.proofs.Listed.{all_read}
 use Rattle.capnp_copy_from.proofs.Parts.{part_there}
 use Rattle.capnp_copy_from.proofs.Refusals.{refused_is}
+use Rattle.capnp_copy.specs.Refusals.{IsSizeOrRefusal}
+use Rattle.capnp_copy_from.proofs.Told.{told_err, elements_told}
 use Rattle.capnp_copy_from.proofs.lists.fill_structs.Goals as goal
 
 pub returns-then-list-eq0-clause-copy : goal.returns-then-list-eq0-clause-copy
@@ -104,3 +106,19 @@ returns-clause-copy g c =
     let past = c.loop-i-test.false in
     let last = c.loop-i.auto.i-end in
     elements_ended c.args.levels from (place_view c.args.list.start) (words_of (c.args.list.count * (c.args.list.data_words + c.args.list.pointers)) (number_of 8 c.args.bytes.now)) c.args.list.data_words c.args.list.pointers c.args.list.count s (place_view c.args.start) c.args.limiter.now c.loop-i.i u c.loop-i.limiter (omega arith) c.loop-i.invariant.0
+
+pub returns-in_err-fill_element-clause-cause : goal.returns-in_err-fill_element-clause-cause
+returns-in_err-fill_element-clause-cause g c =
+    let from : Segments = words_in (g.B.ReaderArena.segments c.args.source.now) in
+    let s : Segments = words_in (g.A.ReaderArena.segments c.args.arena.now) in
+    let u : Segments = words_in (g.A.ReaderArena.segments c.loop-i.arena) in
+    let p : Place = place_view c.args.list.start in
+    let n = c.args.levels in
+    let d = c.args.list.data_words in
+    let k = c.args.list.pointers in
+    let count = c.args.list.count in
+    let ws : List ℕ = words_of (c.args.list.count * (c.args.list.data_words + c.args.list.pointers)) (number_of 8 c.args.bytes.now) in
+    let r = err_from_is_err_and c.from_residual.result c.from_residual.ensures.1 in
+    let e = c.in_err-fill_element.field-0.0 in
+    told_err (from_elements (visits n from) p d k count) c.args.limiter.now c.fill_element.new.limiter (IsSizeOrRefusal g.A.BuilderArena.refuses) c.from_residual.result r.0 e r.1 r.2
+    (elements_told n from p ws d k count s (place_view c.args.start) c.args.limiter.now c.loop-i.i u c.loop-i.limiter c.fill_element.new.limiter (IsSizeOrRefusal g.A.BuilderArena.refuses) e c.loop-i-test.true c.loop-i.invariant.0 c.in_err-fill_element.ensures.cause)

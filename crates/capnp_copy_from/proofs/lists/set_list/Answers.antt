@@ -1,5 +1,5 @@
 -- The list is made of zero words, and linked or given up.
-use Rattle.std.proofs.Common.{◌≡◌, ℕ, ◌≤◌, false, replicate, Some, ap, sym, ◌∙◌, subst, arith}
+use Rattle.std.proofs.Common.{inr, ◌≡◌, ℕ, ◌≤◌, false, replicate, Some, ap, sym, ◌∙◌, subst, arith}
 use Rattle.std.proofs.lemmas.Result.{err_from_is_err_and}
 use Rattle.capnp_model.specs.Segments.{Segments, Place, words_at}
 use Rattle.capnp_model.specs.Trees.{Tree}
@@ -18,6 +18,8 @@ use Rattle.capnp_copy_from.specs.Lists.{listed_object, listed_tree}
 use Rattle.capnp_copy_from.specs.Objects.{copied_words, copied_at, copied_pointer, is_leaf, IsSpelled}
 use Rattle.capnp_copy_from.proofs.Allocated.{room_new}
 use Rattle.capnp_copy_from.proofs.Placed.{copied_object, refused_object, no_room, object_refused, new_of, listed_fits, listed_no_leaf}
+use Rattle.capnp_copy.specs.Refusals.{IsSizeOrRefusal}
+use Rattle.capnp_copy_from.proofs.Told.{told_err}
 use Rattle.capnp_copy_from.proofs.lists.set_list.Goals as goal
 
 pub returns-in_err-room-clause-copy : goal.returns-in_err-room-clause-copy
@@ -123,3 +125,12 @@ returns-in-Err-clause-copy g c =
     let clears : ClearsObject u y (copied_at (begin_of p c.in_ok-room.room) o) = subst (λ (r : Place). ClearsObject u y (copied_at r o)) begins (subst (ClearsObject u y) c.copy_at.ensures c.clear_object.ensures.clears) in
     subst (λ (x : Object). ObjectRefused from x (met_in (visits n from) x) s y c.args.limiter.now e c.fill_list.new.limiter) is
     (refused_object n from s m u y p o c.in_ok-room.room (met_in (visits n from) o) c.args.limiter.now c.fill_list.new.limiter e c.requires.there c.in_ok-room.ensures.ok left clears c.clear_object.ensures.sizes)
+
+pub returns-in_err-room-clause-cause : goal.returns-in_err-room-clause-cause
+returns-in_err-room-clause-cause g c =
+    let from : Segments = words_in (g.B.ReaderArena.segments c.args.source.now) in
+    let r = err_from_is_err_and c.from_residual.result c.from_residual.ensures.1 in
+    told_err (met_in (visits c.args.levels from) (listed_object c.args.list)) c.args.limiter.now c.args.limiter.now (IsSizeOrRefusal g.A.BuilderArena.refuses) c.from_residual.result r.0 c.in_err-room.field-0.0 r.1 r.2 (inr c.in_err-room.ensures.cause)
+
+pub returns-in-Err-clause-cause : goal.returns-in-Err-clause-cause
+returns-in-Err-clause-cause g c = c.in-Err.ensures.cause

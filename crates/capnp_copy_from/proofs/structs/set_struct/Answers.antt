@@ -1,5 +1,5 @@
 -- The struct is made of zero words, and linked or given up.
-use Rattle.std.proofs.Common.{◌≡◌, ℕ, ◌+◌, ◌*◌, ◌/◌, ◌≤◌, true, length, replicate, Some, Ok, Err, refl, ap, sym, ◌∙◌, subst, arith}
+use Rattle.std.proofs.Common.{inr, ◌≡◌, ℕ, ◌+◌, ◌*◌, ◌/◌, ◌≤◌, true, length, replicate, Some, Ok, Err, refl, ap, sym, ◌∙◌, subst, arith}
 use Rattle.std.specs.Option.{is_some}
 use Rattle.std.proofs.lemmas.Result.{err_from_is_err_and}
 use Rattle.capnp_model.specs.Chains.{◌>>=◌}
@@ -22,6 +22,8 @@ use Rattle.capnp_copy_from.proofs.Allocated.{room_new}
 use Rattle.capnp_copy_from.proofs.Parts.{front_there}
 use Rattle.capnp_copy_from.proofs.Placed.{copied_object, refused_object, no_room, object_refused, struct_fits}
 use Rattle.capnp_copy_from.proofs.SectionBytes.{bytes_grow, section_fills}
+use Rattle.capnp_copy.specs.Refusals.{IsSizeOrRefusal}
+use Rattle.capnp_copy_from.proofs.Told.{told_err}
 use Rattle.capnp_copy_from.proofs.structs.set_struct.Goals as goal
 
 pub returns-in_err-room-clause-copy : goal.returns-in_err-room-clause-copy
@@ -146,3 +148,12 @@ returns-in-Err-clause-copy g c =
     let clears : ClearsObject u y (copied_at (begin_of p c.in_ok-room.room) (object.Struct c.args.first ((length c.args.section.now + 7) / 8) c.args.pointers)) = subst (λ (r : Place). ClearsObject u y (copied_at r (object.Struct c.args.first ((length c.args.section.now + 7) / 8) c.args.pointers))) begins (subst (ClearsObject u y) c.copy_at.ensures c.clear_object.ensures.clears) in
     subst (λ (d : ℕ). ObjectRefused from (object.Struct c.args.first d c.args.pointers) (from_each (visits c.args.levels from) (place_view c.args.first) c.args.pointers) s y c.args.limiter.now e c.fill_row.new.limiter) (words_for_bytes (length c.args.section.now))
     (refused_object n from s m u y p (object.Struct c.args.first ((length c.args.section.now + 7) / 8) c.args.pointers) c.in_ok-room.room (from_each (visits c.args.levels from) (place_view c.args.first) c.args.pointers) c.args.limiter.now c.fill_row.new.limiter e c.requires.there c.in_ok-room.ensures.ok left clears c.clear_object.ensures.sizes)
+
+pub returns-in_err-room-clause-cause : goal.returns-in_err-room-clause-cause
+returns-in_err-room-clause-cause g c =
+    let from : Segments = words_in (g.B.ReaderArena.segments c.args.source.now) in
+    let r = err_from_is_err_and c.from_residual.result c.from_residual.ensures.1 in
+    told_err (from_each (visits c.args.levels from) (place_view c.args.first) c.args.pointers) c.args.limiter.now c.args.limiter.now (IsSizeOrRefusal g.A.BuilderArena.refuses) c.from_residual.result r.0 c.in_err-room.field-0.0 r.1 r.2 (inr c.in_err-room.ensures.cause)
+
+pub returns-in-Err-clause-cause : goal.returns-in-Err-clause-cause
+returns-in-Err-clause-cause g c = c.in-Err.ensures.cause

@@ -1,5 +1,8 @@
-use Rattle.std.proofs.Common.{◌≡◌, inl, inr, max, Some, Ok, ap, ◌∙◌, rules, arith}
+use Rattle.std.proofs.Common.{◌≡◌, inl, inr, max, Some, Result, Ok, Err, sym, subst, ap, ◌∙◌, rules, arith}
+use Rattle.std.specs.Result.{IsOk}
+use Rattle.capnp_model.specs.Kinds.{Kind}
 use Rattle.capnp_model.specs.Segments.{word_at}
+use Rattle.capnp_copy.specs.declared.init.ListPlace.{ListPlace}
 use Rattle.capnp_units.specs.Segments.{words_in}
 use Rattle.capnp_wire.specs.Places.{place_view}
 use Rattle.capnp_widening.specs.Widened.{GrowthRefused}
@@ -22,6 +25,26 @@ widen_list-requires-clause-short g c = λ zeros.
     let narrow : IsWideList c.in_ok-old.old c.args.size.data_words c.args.size.pointers → ⊥ = search rules in
     let least = c.element_size-least.ensures in
     known_short s old c.args.size.data_words c.args.size.pointers (known s c.args.slot old found leads) narrow (omega (arith, zeros, c.max.ensures, c.max-2.ensures, least.0, least.1))
+
+-- what is no list
+no_fault : (x : Result ListPlace Kind) (k : Kind) → Err k ≡ x → IsOk x → ⊥
+no_fault x k e h = let none : IsOk {T = ListPlace} {E = Kind} (Err k) = subst (λ (y : Result ListPlace Kind). IsOk y) (sym e) h in absurd cc
+
+pub returns-in_err-old : goal.returns-in_err-old
+returns-in_err-old g c =
+    let s = words_in (g.A.ReaderArena.segments c.args.arena.now) in
+    record {
+      value = search rules;
+      list = search rules;
+      taken = search rules;
+      bound = search rules;
+      full = search rules;
+      wide = search rules;
+      refused = search rules;
+      kind = search rules;
+      books = search rules;
+      cause = λ there. absurd (no_fault (list_there s c.args.slot) _ c.in_err-old.ensures.list there);
+    }
 
 pub returns-then-eq : goal.returns-then-eq
 returns-then-eq g c =
@@ -67,6 +90,7 @@ returns-then-eq g c =
       refused = search rules;
       kind = search rules;
       books = search rules;
+      cause = λ there. tt;
     }
 
 pub returns : goal.returns
@@ -95,4 +119,5 @@ returns g c =
       refused = search rules;
       kind = err_then (GrowthRefused s (words_wanted old c.max.result c.max-2.result)) (ListRefused s p (list_there s c.args.slot) d k) (λ e h. refused_list s c.args.slot old d k c.max.result c.max-2.result e found some narrow ed ek h) c.widen_list.result c.widen_list.ensures.kind;
       books = search rules;
+      cause = λ there. c.widen_list.ensures.cause;
     }

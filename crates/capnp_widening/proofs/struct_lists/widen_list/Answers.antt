@@ -48,6 +48,7 @@ returns-in_err-room g c =
       refused = search rules;
       kind = subst (λ (n : ℕ). IfErr c.from_residual-in_err-room.result (GrowthRefused s n)) sum (search rules);
       books = search rules;
+      cause = search rules;
     }
 
 pub begin_of-requires-clause-room : goal.begin_of-requires-clause-room
@@ -274,4 +275,5 @@ returns g c =
       refused = tt;
       kind = tt;
       books = c.link.ensures.books ∙ (c.clear.ensures.books ∙ (c.fill_elements.ensures.books ∙ (c.write_word.ensures.books ∙ c.in_ok-room.ensures.books)));
+      cause = tt;
     }

@@ -326,6 +326,7 @@ returns g c =
       refused = tt;
       kind = tt;
       books = c.link.ensures.books ∙ (c.clear.ensures.books ∙ (c.move_pointers.ensures.books ∙ (c.copy_words.ensures.books ∙ c.in_ok-room.ensures.books)));
+      cause = tt;
     }
 
 pub returns-in_err-room : goal.returns-in_err-room
@@ -347,4 +348,5 @@ returns-in_err-room g c =
       refused = search rules;
       kind = search rules;
       books = search rules;
+      cause = search rules;
     }
