@@ -135,10 +135,10 @@ pub fn message_words(alloc: Global, case: &Case) -> Result<String, Fault> {
 /// The words of bytes, without the rest that is no word.
 fn words_of(alloc: Global, bytes: &[u8]) -> Result<Vec<Word>, Fault> {
     let mut words = Vec::new(alloc);
-    let mut rest = bytes;
-    while let [a, b, c, d, e, f, g, h, others @ ..] = rest {
-        words.push([*a, *b, *c, *d, *e, *f, *g, *h])?;
-        rest = others;
+    for chunk in bytes.chunks(8) {
+        if let [a, b, c, d, e, f, g, h] = chunk {
+            words.push([*a, *b, *c, *d, *e, *f, *g, *h])?;
+        }
     }
     Ok(words)
 }
