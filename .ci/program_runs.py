@@ -1,12 +1,14 @@
 #!/usr/bin/env python3
 """Runs the built program on README's examples, on the stored runs, and as a child that is waited for.
 
-usage: program_runs.py PROGRAM EXAMPLES RUNS
+usage: program_runs.py PROGRAM EXAMPLES CASES..
 
-EXAMPLES is the folder of README's examples. RUNS has one run a line: the words, the files, the input, and
-the status, output and log that independent software gives (crates/capnp_relay_cases/data/relay.jsonl). The
-program's status, output and log must be those, byte by byte. Ends with status 1 at the first difference.
+EXAMPLES is the folder of README's examples. CASES are files of cases, one a line, as the README of capnp_relay_cases
+tells; those without a "call" are runs of the program: the arguments, the files, the input, and the status, output and
+log that are wanted. The program's status, output and log must be those, byte by byte. Ends with status 1 where one
+differs, where a file has no run, and where nothing else was to be run.
 """
+import concurrent.futures
 import json
 import os
 import select
@@ -19,16 +21,42 @@ import time
 LIMIT = 60
 
 
+def file_bytes(file):
+    """The bytes of a file: those that a text spells in hex, or the text of another JSON value."""
+    return bytes.fromhex(file) if isinstance(file, str) else json.dumps(file, ensure_ascii=False).encode()
+
+
+def wanted_of(run):
+    """The status, the output and the log that a run should have."""
+    log = run["log"].encode() if "log" in run else bytes.fromhex(run["stderr"])
+    return {"status": run["status"], "stdout": bytes.fromhex(run["stdout"]), "stderr": log}
+
+
 def difference(program, run):
     """What differs between a run of the program and the stored one, or nothing."""
+    wanted = wanted_of(run)
     with tempfile.TemporaryDirectory() as room:
-        for name, text in run["files"].items():
-            with open(os.path.join(room, name), "wb") as file:
-                file.write(bytes.fromhex(text))
+        for name, file in run["files"].items():
+            with open(os.path.join(room, name), "wb") as it:
+                it.write(file_bytes(file))
         given = bytes.fromhex(run["stdin"])
         ran = subprocess.run([program, *run["args"]], input=given, capture_output=True, cwd=room, timeout=LIMIT)
-    seen = {"status": ran.returncode, "stdout": ran.stdout.hex(), "stderr": ran.stderr.hex()}
-    return next((f"{it}: {seen[it]}, and not {run[it]}" for it in seen if seen[it] != run[it]), None)
+    seen = {"status": ran.returncode, "stdout": ran.stdout, "stderr": ran.stderr}
+    return next((f"{it}: {seen[it]}, and not {wanted[it]}" for it in wanted if seen[it] != wanted[it]), None)
+
+
+def runs_in(name):
+    """The runs of a file, each with its line."""
+    with open(name, encoding="utf-8") as file:
+        cases = [(f"{name}, line {number}", json.loads(line)) for number, line in enumerate(file, 1)]
+    return [(place, case) for place, case in cases if "call" not in case]
+
+
+def differences(program, runs):
+    """What is said of the runs that differ; as many run at once as there are processors, and two more."""
+    with concurrent.futures.ThreadPoolExecutor((os.cpu_count() or 1) + 2) as pool:
+        found = pool.map(lambda run: difference(program, run[1]), runs)
+        return [f"{place}: {told}" for (place, _), told in zip(runs, found) if told]
 
 
 def read_so_many(pipe, count):
@@ -103,18 +131,20 @@ def answers_the_examples(program, folder):
     return True
 
 
-def main(program, folder, runs):
+def main(program, folder, *files):
     """Prints how many runs passed, and returns the status."""
     program, passed = os.path.abspath(program), 0
     if not answers_the_examples(program, folder):
         return 1
-    with open(runs, encoding="ascii") as file:
-        for number, line in enumerate(file, 1):
-            differs = difference(program, json.loads(line))
-            if differs:
-                print(f"run {number} differs in its {differs}")
-                return 1
-            passed += 1
+    for name in files:
+        runs = runs_in(name)
+        told = differences(program, runs)
+        for line in told:
+            print(line)
+        if told or not runs:
+            print(f"{name}: {len(told)} of {len(runs)} runs differ")
+            return 1
+        passed += len(runs)
     if not passed or not waits_for_no_part(program):
         return 1
     print(f"built program: both examples, {passed} stored runs, three messages through a pipe one by one and with each part of the next, in both forms: as they should be")

@@ -1,22 +1,70 @@
-//! Compares runs of the relay's program with what they should be.
+//! Compares runs of the relay's program, and calls of its library, with what they should be.
 //!
-//! Each line of the file that is given is a JSON object, a run of the program: `args`, its arguments, `files`, the bytes of each
-//! file in hex, `stdin`, `stdout` and `stderr`, in hex, and `status`. The answers are those of independent software.
+//! Each line of the files that are given is a JSON object, a case. README says what is in it.
 #![tactic(auto)]
 
+mod answers;
+mod case;
+mod given;
+mod relays;
 mod runs;
+mod sources;
 
-use runs::{Fault, is_as_it_should_be};
-use serde_json::Value as Json;
+use case::{Case, Fault};
 use std::alloc::Global;
 use std::process::ExitCode;
 use std::{env, fs, io};
 
-/// How many runs are as they should be, and the lines of those that differ.
+/// How many cases are as they should be, and what is said of those that differ.
 #[derive(Drop)]
 struct Counts {
     same: u64,
-    differing: Vec<u64>,
+    differing: Vec<String>,
+}
+
+/// What a call of the library answers.
+fn answer(alloc: Global, call: &str, case: &Case) -> Result<String, Fault> {
+    match call {
+        "show" => answers::shown(alloc, case),
+        "compatible" => answers::compatibility(alloc, case),
+        "admitted" => answers::admission(alloc, case),
+        "calls" => answers::made_calls(alloc, case),
+        "schema_file" => answers::schema_text(alloc, case),
+        "calls_file" => answers::calls_text(alloc, case),
+        "message" => answers::message_words(alloc, case),
+        "plain_sets" => answers::words_after_sets(alloc, case),
+        "splices" => answers::words_after_splices(alloc, case),
+        _ => Err(Fault::Shape),
+    }
+}
+
+/// What differs in a case, if anything.
+fn difference(alloc: Global, case: &Case) -> Result<Option<String>, Fault> {
+    if !case.has("call") {
+        return runs::difference(alloc, case);
+    }
+    let call = case.text("call")?;
+    if call == "relay" {
+        return relays::difference(alloc, case);
+    }
+    let answer = answer(alloc, call, case)?;
+    if answer.as_str() == case.text("answer")? {
+        Ok(None)
+    } else {
+        Ok(Some(answer))
+    }
+}
+
+/// What differs in the case of a line, if anything.
+fn difference_in(alloc: Global, line: &str) -> Result<Option<String>, Fault> {
+    let told = match Case::new(alloc, line) {
+        Ok(case) => difference(alloc, &case),
+        Err(fault) => Err(fault),
+    };
+    match told {
+        Err(Fault::Shape) => Ok(Some(String::from_str(alloc, "this is no case")?)),
+        told => told,
+    }
 }
 
 fn count(alloc: Global, text: &str) -> Result<Counts, Fault> {
@@ -27,45 +75,53 @@ fn count(alloc: Global, text: &str) -> Result<Counts, Fault> {
     let mut number: u64 = 0;
     for line in text.lines() {
         number = number.saturating_add(1);
-        let Ok(run) = Json::from_str(alloc, line) else {
-            return Err(Fault::Shape);
-        };
-        if is_as_it_should_be(alloc, &run)? {
-            counts.same = counts.same.saturating_add(1);
-        } else {
-            counts.differing.push(number)?;
+        match difference_in(alloc, line)? {
+            None => counts.same = counts.same.saturating_add(1),
+            Some(told) => {
+                let told = format!(in alloc; "line {number}: {}", told.as_str())?;
+                counts.differing.push(told)?;
+            }
         }
     }
     Ok(counts)
 }
 
-/// Prints the counts; the status is 0 where no run differs.
-fn report(rt: &HostRuntime, counts: &Counts) -> io::Result<ExitCode> {
+/// Prints the counts; whether no case differs, and there are some.
+fn report(rt: &HostRuntime, name: &str, counts: &Counts) -> io::Result<bool> {
     let Counts { same, differing } = counts;
-    println!(rt; "{same} runs are as they should be")?;
+    println!(rt;
+        "{name}: {same} cases are as they should be, {} differ",
+        differing.len()
+    )?;
     for line in differing {
-        println!(rt; "the run of line {line} differs")?;
+        println!(rt; "{}", line.as_str())?;
     }
-    println!(rt; "{} runs differ", differing.len())?;
-    if differing.is_empty() && *same > 0 {
-        Ok(ExitCode::SUCCESS)
-    } else {
-        Ok(ExitCode::FAILURE)
+    Ok(differing.is_empty() && *same > 0)
+}
+
+/// Whether all cases of a file are as they should be.
+fn compare(rt: &HostRuntime, name: &str) -> io::Result<bool> {
+    let text = fs::read_to_string(rt, name)?;
+    match count(rt.alloc(), text.as_str()) {
+        Ok(counts) => report(rt, name, &counts),
+        Err(fault) => {
+            println!(rt; "{name}: {fault}")?;
+            Ok(false)
+        }
     }
 }
 
 fn run(rt: &HostRuntime) -> io::Result<ExitCode> {
-    let Some(name) = env::args(rt)?.nth(1) else {
-        eprintln!(rt; "the file's name is missing")?;
-        return Ok(ExitCode::FAILURE);
-    };
-    let text = fs::read_to_string(rt, name.as_str())?;
-    match count(rt.alloc(), text.as_str()) {
-        Ok(counts) => report(rt, &counts),
-        Err(fault) => {
-            println!(rt; "{fault}")?;
-            Ok(ExitCode::FAILURE)
-        }
+    let mut files: u64 = 0;
+    let mut are_same = true;
+    for name in env::args(rt)?.skip(1) {
+        files = files.saturating_add(1);
+        are_same &= compare(rt, name.as_str())?;
+    }
+    if are_same && files > 0 {
+        Ok(ExitCode::SUCCESS)
+    } else {
+        Ok(ExitCode::FAILURE)
     }
 }
 

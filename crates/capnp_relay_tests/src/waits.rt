@@ -2,8 +2,8 @@
 ghost use Rattle.std.specs.Prelude.{◌≡◌, length};
 ghost use Rattle.capnp_units.specs.declared.kinds.ErrorKind.{ErrorKind};
 
-use crate::program::devices::Device;
-use crate::program::samples::{SET_A, run, set_a};
+use crate::devices::Device;
+use crate::samples::{SET_A, run, set_a};
 use capnp_program::sources::Windowed;
 use capnp_stream::traits::{BufRead, Read};
 use capnp_units::errors::Result;
@@ -145,8 +145,16 @@ fn sinks_are_flushed_where_packed_words_may_be_longer(
     let mut source = [16, 1, 0, 0, 16, 1, 0, 0, 16, 1, 0, 0, 16, 1, 0, 0].as_slice();
     let mut out = Device::new(alloc, 1000, false);
     let mut log = Device::new(alloc, 1000, true);
-    let words = ["p.json", "c.json", "1", "packed-framed"];
-    assert!(rt; run(alloc, &words, SET_A, &mut source, &mut out, &mut log)? == 1);
+    assert!(rt;
+        run(
+            alloc,
+            "packed-framed",
+            SET_A,
+            &mut source,
+            &mut out,
+            &mut log
+        )? == 1
+    );
     assert!(rt; out.held.len() == 2 * WRITTEN);
     assert!(rt; source.len() == 8);
     Ok(())

@@ -1,3 +1,0 @@
-//! Tests of `capnp_call_messages`.
-
-mod tests;

@@ -1,4 +1,0 @@
-//! Tests of `capnp_compatible`.
-
-mod schemas;
-mod tests;

@@ -1,4 +1,0 @@
-//! Tests of `capnp_files`.
-
-mod large_tests;
-mod tests;

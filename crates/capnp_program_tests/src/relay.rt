@@ -1,4 +1,0 @@
-//! Tests of `capnp_relay`.
-
-mod rows;
-mod streams;
