@@ -6,6 +6,7 @@ from world_runs import LIMIT, Failure, answers, room
 
 # Bytes that a reader takes before it leaves, and times that a run's input is sent to it.
 TAKEN, SENT = 10, 20_000
+FAILING_IN = ("<&-", "</")
 FAILING_OUT = (">&-", ">/dev/full")
 FAILING_LOG = ("2>&-", "2>/dev/full")
 
@@ -24,8 +25,12 @@ def beginnings(frames):
 
 
 def failing(program, run):
-    """A run of messages whose output, then its log, is closed and full: the fault where something was written."""
+    """A run whose input is closed or a folder, and whose output and log are closed or full: the fault of each."""
     frames, wanted = answers(run), run.wanted
+    for redirection in FAILING_IN:
+        it = shell_run(program, run, redirection)
+        if (it.returncode, it.stdout, it.stderr) != (1, b"", b"fault: source\n"):
+            raise Failure(f"{run.words} {redirection}: {it}")
     for redirection in FAILING_OUT:
         it = shell_run(program, run, redirection)
         lines, fault = it.stderr, b""
@@ -38,7 +43,7 @@ def failing(program, run):
         it = shell_run(program, run, redirection)
         if it.returncode != 1 or it.stdout not in beginnings(frames):
             raise Failure(f"{run.words} {redirection}: status {it.returncode}, {it.stdout.hex()}, not {wanted}")
-    return {"runs with a device that is closed or full": len(FAILING_OUT + FAILING_LOG)}
+    return {"runs with a device that is closed or full": len(FAILING_IN + FAILING_OUT + FAILING_LOG)}
 
 
 def leaving(program, run):

@@ -27,6 +27,8 @@ SCHEMA = [
     }
 ]
 SET_A = {"path": ["a"], "verb": "set", "value": {"number": 7}}
+# A call that isn't put into the canonical words, so that the message is edited in a region.
+CLEAR_A = {"path": ["a"], "verb": "clear"}
 ROOT = struct.pack("<IHHQ", 0, 1, 1, 1)
 PIPES = {name: subprocess.PIPE for name in ("stdin", "stdout", "stderr")}
 
@@ -104,10 +106,9 @@ class Runs:
         child = subprocess.Popen(self.words(calls, limits), cwd=self.folder, **PIPES)
         child.stdin.write(given)
         child.stdin.flush()
-        if given:
-            head = child.stdout.read(8)
-            child.stdout.read(8 * int.from_bytes(head[4:8], "little"))
-            child.stderr.readline()
+        head = child.stdout.read(8)
+        child.stdout.read(8 * int.from_bytes(head[4:8], "little"))
+        child.stderr.readline()
         with open(f"/proc/{child.pid}/status", encoding="ascii") as file:
             (line,) = (it for it in file if it.startswith("VmHWM:"))
         child.communicate()
@@ -121,27 +122,29 @@ class Runs:
 
 def costs(runs):
     """Prints how the cost grows."""
-    small = with_structs(12)
+    small = with_structs(13)
     for count in (1000, 2000, 4000):
-        print(f"{count} messages of 96 bytes: {runs.beyond(small * count) / count:.0f} instructions each")
+        print(f"{count} messages of {len(small)} bytes: {runs.beyond(small * count) / count:.0f} instructions each")
     for make in (with_data, with_structs):
         for words in (1000, 10_000, 100_000, 1_000_000):
             given = make(words)
             print(f"{make.__name__}, {words} words: {runs.beyond(given) / len(given):.2f} instructions a byte")
     for count in (1, 10, 100):
         cost = runs.beyond(small * 1000, [SET_A] * count) / 1000
-        print(f"{count} calls: {cost:.0f} instructions a message of 96 bytes")
+        print(f"{count} calls: {cost:.0f} instructions a message of {len(small)} bytes")
+    cost = runs.beyond(small * 1000, [CLEAR_A]) / 1000
+    print(f"a call made by the general machine: {cost:.0f} instructions a message of {len(small)} bytes")
     for count in (1, 10, 100, 511):
-        cost = runs.beyond(with_segments(count) * 100, nesting=1000) / 100
+        cost = runs.beyond(with_segments(count) * 10, nesting=1000) / 10
         print(f"{count} segments: {cost / count:.0f} instructions a segment of three words")
 
 
 def memory(runs):
     """Prints what a process holds."""
-    print(f"no message yet: {runs.peak(b'')} kB")
     for words in (12, 1000, 10_000, 100_000, 1_000_000, 8_388_608):
         given = with_data(words)
-        print(f"{words} words: {runs.peak(given)} kB, {len(given) // 1000} of them the message's")
+        plain, general = runs.peak(given), runs.peak(given, [CLEAR_A])
+        print(f"{words} words ({len(given) // 1000} kB): {plain} kB, {general} kB with the general machine")
 
 
 def limits(runs):
@@ -154,7 +157,7 @@ def limits(runs):
         print(f"a limit of {words} words: {runs.answer(with_data(12), words=words)}")
     for levels in (64, 65):
         print(f"{levels} levels where 64 are allowed: {runs.answer(nested(levels))}")
-    for levels in (1000, 10_000, 30_000, 100_000, 1_000_000):
+    for levels in (1000, 10_000, 15_000, 20_000, 30_000, 40_000, 100_000):
         print(f"{levels} levels where so many are allowed: {runs.answer(nested(levels), nesting=levels)}")
 
 

@@ -149,7 +149,8 @@ def main(count=100_000):
                 rates.setdefault((size, kills), it.rate)
                 times = it.rate / rates[1, False]
                 print(
-                    f"{size:7}  {it.rate:10.0f}  {times:9.2f}  {it.of_workers:18.0f}  {it.of_broker:6.0f}  {it.killed:6}"
+                    f"{size:7}  {it.rate:10.0f}  {times:9.2f}"
+                    f"  {it.of_workers:18.0f}  {it.of_broker:6.0f}  {it.killed:6}"
                     f"  {it.dead:12}  {it.lost:4}  {it.doubled:7}  {it.wrong:5}",
                     flush=True,
                 )

@@ -57,7 +57,7 @@ def hand_on(broker, relay, messages):
                 steps.xadd(DEAD, dead)
             else:
                 steps.xadd(ANSWERS, {"key": key, "frame": answer.frame})
-            steps.xack(MESSAGES, GROUP, key)
+        steps.xack(MESSAGES, GROUP, *(key for key, _fields in messages))
         steps.execute()
 
 
