@@ -13,3 +13,5 @@ pub mod sources;
 pub mod stop;
 pub mod usage;
 pub mod version;
+
+pub use capnp_between::{ends, relay};

@@ -1,7 +1,7 @@
 //! Long messages and many messages, with ample memory.
 
 use crate::samples::{NULL, SET_A, SEVEN, relayed};
-use capnp_relay::ends::{Counts, RelayFault};
+use capnp_program::ends::{Counts, RelayFault};
 use std::alloc::{AllocError, Global};
 use std::test::Fail;
 

@@ -1,12 +1,12 @@
 //! The schema of a struct of one data word and one pointer with the number `a` and the text `t`, and runs at it.
 
+use capnp_program::ends::{Counts, RelayFault};
 use capnp_program::program::program;
+use capnp_program::relay::relay;
 use capnp_program::settings::Settings;
 use capnp_program::sinks::Flush;
 use capnp_program::sources::Windowed;
 use capnp_program::version::Version;
-use capnp_relay::ends::{Counts, RelayFault};
-use capnp_relay::relay::relay;
 use capnp_stream::traits::{BufRead, Write};
 use std::alloc::{AllocError, Global};
 use std::test::Fail;

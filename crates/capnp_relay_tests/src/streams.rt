@@ -1,7 +1,7 @@
 //! Runs of `relay` over streams that fail, want memory or are too short.
 
 use crate::samples::{EMPTY, NO_CALLS, NULL, SET_A, SEVEN, relayed};
-use capnp_relay::ends::{Counts, Fault, RelayFault};
+use capnp_program::ends::{Counts, Fault, RelayFault};
 use capnp_test_streams::{Drip, Short};
 use std::alloc::{AllocError, Global};
 use std::test::Fail;
