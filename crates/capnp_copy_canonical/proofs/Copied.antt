@@ -14,9 +14,9 @@ use Rattle.capnp_units.specs.declared.limiter.ReadLimiter.{ReadLimiter}
 use Rattle.capnp_units.specs.Limits.{IsFree}
 use Rattle.capnp_object.specs.Walks.{Walked, Stopped}
 use Rattle.capnp_footprints.proofs.lemmas.Algebra.{changes_nothing}
-use Rattle.capnp_canonical.specs.Copies.{copy_visits, Halted, Written, Filled, room_of}
+use Rattle.capnp_canonical.specs.Copies.{copy_visits, Halted, Unwritten, Written, Filled, room_of}
 use Rattle.capnp_copy_from.specs.Copies.{BecomesCopy, CopiesValue, FollowsFew, Unplaced}
-use Rattle.capnp_copy_canonical.specs.Canonical.{IsRead, canonical_message, CopiesCanonical, HasNoRoom}
+use Rattle.capnp_copy_canonical.specs.Canonical.{IsRead, IsTooShort, canonical_message, CopiesCanonical, HasNoRoom}
 use Rattle.capnp_object.proofs.lemmas.Walks.{free_left, unstopped}
 
 -- ---- what is written
@@ -40,9 +40,13 @@ module _ (path : List Visit) (begun : (before rest : List Visit) (paid : ℕ) �
 
 -- ---- the copy
 
-pub halted : (n : ℕ) (from : Segments) (q : Place) (lent : List (List ℕ)) (s : Segments) (p : Place) (old : ReadLimiter) (e : Error) (into : List (List ℕ)) (new : ReadLimiter) (r : Result ⊤ Error) (d : Error) → r ≡ Err d → d ≡ e → Halted (copy_visits n from q) 1 lent old e into new → CopiesCanonical n from q lent s s p old r new
+pub halted : (n : ℕ) (from : Segments) (q : Place) (lent : List (List ℕ)) (s : Segments) (p : Place) (old : ReadLimiter) (e : Error) (into : List (List ℕ)) (new : ReadLimiter) (r : Result ⊤ Error) (d : Error) → r ≡ Err d → d ≡ e → Unwritten (tree_at n from q) (λ t words. canonical_words (trim t)) (copy_visits n from q) 1 1 lent old e into new → CopiesCanonical n from q lent s s p old r new
 halted n from q lent s p old e into new r d is same h =
-    subst (λ (y : Result ⊤ Error). CopiesCanonical n from q lent s s p old y new) (sym (is ∙ ap (λ (y : Error). Err y) same)) (record { left = changes_nothing s (λ q. 0); why = inl (refl, h.why) })
+    subst (λ (y : Result ⊤ Error). CopiesCanonical n from q lent s s p old y new) (sym (is ∙ ap (λ (y : Error). Err y) same)) (record { left = changes_nothing s (λ q. 0); why = inl (refl, by h.halted.why) })
+  where
+    by : Stopped (copy_visits n from q) old e new ⊎ Filled (copy_visits n from q) (room_of lent) 1 old e new → Stopped (copy_visits n from q) old e new ⊎ IsTooShort n from q lent old e new
+    by (inl stop) = inl stop
+    by (inr few) = inr (few, h.full few.why)
 
 pub copied : (n : ℕ) (from : Segments) (q : Place) (lent : List (List ℕ)) (s u : Segments) (p : Place) (old new start stop : ReadLimiter) (r : Result ⊤ Error) (t : Tree) (cost : ℕ) → IsRead n from q t old new → tree_at n (canonical_message t) root ≡ Some (trim t) → visits_cost (visits n (canonical_message t) root) ≡ Some cost → IsFree start
     → CopiesValue n (canonical_message t) root s u p start r stop → CopiesCanonical n from q lent s u p old r new

@@ -11,7 +11,7 @@ use Rattle.capnp_units.specs.declared.errors.Error.{Error}
 use Rattle.capnp_units.specs.declared.limiter.ReadLimiter.{ReadLimiter}
 use Rattle.capnp_units.specs.Limits.{Spends, IsFree}
 use Rattle.capnp_object.specs.Walks.{Walked, Stopped}
-use Rattle.capnp_canonical.specs.Copies.{copy_visits, Behind, Filled, room_of}
+use Rattle.capnp_canonical.specs.Copies.{copy_visits, Behind, Filled, HasNoRoomFor, room_of}
 use Rattle.capnp_copy_from.specs.Copies.{BecomesCopy, GrowsByZeros, TakesFew, Unplaced}
 
 -- A value without a capability is there, and the visits of a canonical copy were made.
@@ -50,10 +50,14 @@ pub record HasNoRoom (n : ℕ) (from : Segments) (q : Place) (s u : Segments) (o
   pub unplaced : Unplaced (canonical_message value) (visits n (canonical_message value) root) u start e end
   pub takes : TakesFew s u start end
 
+-- The words that were lent are fewer than the value's canonical words, and than those that were granted, and one.
+abbrev pub IsTooShort : ℕ → Segments → Place → List (List ℕ) → ReadLimiter → Error → ReadLimiter → Type 0
+IsTooShort n from q lent old e new = Filled (copy_visits n from q) (room_of lent) 1 old e new × HasNoRoomFor (tree_at n from q) (λ t words. canonical_words (trim t)) 1 lent
+
 -- All words stand: the walk was stopped, too few words were lent, or the arena had no room.
 pub record Refused (n : ℕ) (from : Segments) (q : Place) (lent : List (List ℕ)) (s u : Segments) (old : ReadLimiter) (e : Error) (new : ReadLimiter) : Type 0 where
   pub left : GrowsByZeros s u
-  pub why : ((u ≡ s) × (Stopped (copy_visits n from q) old e new ⊎ Filled (copy_visits n from q) (room_of lent) 1 old e new)) ⊎ HasNoRoom n from q s u old e new
+  pub why : ((u ≡ s) × (Stopped (copy_visits n from q) old e new ⊎ IsTooShort n from q lent old e new)) ⊎ HasNoRoom n from q s u old e new
 
 -- The value of the pointer at q is put in place of that at p, trimmed; or it is refused, and all words stand.
 abbrev pub CopiesCanonical : ℕ → Segments → Place → List (List ℕ) → Segments → Segments → Place → ReadLimiter → Result ⊤ Error → ReadLimiter → Type 0

@@ -39,14 +39,14 @@ module _ (r : StructSchema) (options : ReaderOptions) (bytes : List ℕ) where
       unfolding value_within
       value_is o e = ap (λ (x : Option ℕ). x >>= λ k. value_to k options.traversal_limit_in_words m.0) deep ∙ e
 
-      has_value : (t : Tree) → value_to n options.traversal_limit_in_words m.0 ≡ Some t → HasValue (limits_of options) bytes (cost_at n m.0 root)
+      abbrev has_value : (t : Tree) → value_to n options.traversal_limit_in_words m.0 ≡ Some t → HasValue (limits_of options) bytes (cost_at n m.0 root)
       has_value t e = record { message = m; framed = framed; nesting = n; deep = deep; value = t; within = value_is (Some t) e; cost_is = refl }
 
       -- why there is no copy
       pub no_copy_shown : (why : ShowFault) → IsNoCopy n options.traversal_limit_in_words m.0 why → IsFault r options bytes why
       no_copy_shown fault-of.Value h = shown_is None (value_is None h)
       no_copy_shown fault-of.Memory h = (cost_at n m.0 root, has_value h.0 h.1)
-      no_copy_shown fault-of.Size h = (cost_at n m.0 root, has_value h.0.0 h.0.1, h.1)
+      no_copy_shown fault-of.Size h = (cost_at n m.0 root, has_value h.0 h.1, h.2)
       no_copy_shown (fault-of.Framing kind) h = absurd h
       no_copy_shown fault-of.Root h = absurd h
       no_copy_shown fault-of.Unreadable h = absurd h

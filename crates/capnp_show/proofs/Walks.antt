@@ -17,7 +17,7 @@ use Rattle.capnp_units.specs.declared.errors.Error.{Error}
 use Rattle.capnp_units.specs.declared.limiter.ReadLimiter.{ReadLimiter}
 use Rattle.capnp_units.specs.declared.sizes.MessageSize.{MessageSize}
 use Rattle.capnp_object.specs.Walks.{Walked, Stopped, CannotPass, SizeGives}
-use Rattle.capnp_canonical.specs.Copies.{copy_visits, Filled, Halted, room_of}
+use Rattle.capnp_canonical.specs.Copies.{copy_visits, Filled, Unwritten, room_of}
 use Rattle.capnp_model.proofs.lemmas.Tests.{and_right_false}
 use Rattle.capnp_show.specs.Copied.{value_to}
 
@@ -134,8 +134,8 @@ module _ (costs : Costs) (n : ℕ) (limit : Option ℕ) (s : Segments) where
   -- ---- copies that were refused
 
   pub halted : (t : Tree) (size : MessageSize) (granted : ℕ) → IsSized size granted t → has_capability t ≡ false → ((p : Place) (u : Tree) → tree_at n s p ≡ Some u → has_capability u ≡ false → copy_visits n s p ≡ visits n s p)
-      → (old new : List (List ℕ)) (l m : ReadLimiter) (e : Error) → IsFresh limit l → length old ≡ min granted (2 ^ 29 - 2) + 1 → Halted (copy_visits n s root) 1 old l e new m → 2 ^ 29 - 1 ≤ cost_at n s root
-  halted t size granted is free same old new l m e fresh room h = by h.why
+      → (old new : List (List ℕ)) (l m : ReadLimiter) (e : Error) → IsFresh limit l → length old ≡ min granted (2 ^ 29 - 2) + 1 → Unwritten (tree_at n s root) (λ u ws. canonical_words (trim u)) (copy_visits n s root) 1 1 old l e new m → 2 ^ 29 ≤ length (canonical_words (trim t))
+  halted t size granted is free same old new l m e fresh room h = by h.halted.why
     where
       c : ℕ
       c = cost_at n s root
@@ -146,7 +146,7 @@ module _ (costs : Costs) (n : ℕ) (limit : Option ℕ) (s : Segments) where
       all : visits_cost (copy_visits n s root) ≡ Some (cost_at n s root)
       all = ap visits_cost path ∙ costs n s root t is.there
 
-      by : Stopped (copy_visits n s root) l e m ⊎ Filled (copy_visits n s root) (room_of old) 1 l e m → 2 ^ 29 - 1 ≤ cost_at n s root
+      by : Stopped (copy_visits n s root) l e m ⊎ Filled (copy_visits n s root) (room_of old) 1 l e m → 2 ^ 29 ≤ length (canonical_words (trim t))
       by (inl stop) =
           let past = stopped_past t l m e is.there fresh (subst (λ (vs : List Visit). Stopped vs l e m) path stop) in
           let no : true ≡ false = sym is.within_limit ∙ past in absurd cc
@@ -154,4 +154,5 @@ module _ (costs : Costs) (n : ℕ) (limit : Option ℕ) (s : Segments) where
           let less = begun full.before full.rest (cost_at n s root) full.cost (ap visits_cost (sym full.path_is) ∙ all) full.cost_is in
           let paid = is.paid in
           let f = full.full in
-          omega (arith, less, paid, f, room)
+          let none = h.full full.why t is.there in
+          omega (arith, less, paid, f, room, none)

@@ -1,8 +1,10 @@
 -- What `show` answers.
-use Rattle.std.specs.Prelude.{ℕ, ◌≡◌, ◌-◌, ◌^◌, ◌≤◌, List, Some, Result, Ok, Err}
+use Rattle.std.specs.Prelude.{ℕ, ◌≡◌, ◌^◌, ◌≤◌, List, length, Some, Result, Ok, Err}
 use Rattle.capnp_model.specs.Segments.{Segments, root}
 use Rattle.capnp_model.specs.Trees.{Tree}
 use Rattle.capnp_model.specs.Traversal.{cost_at}
+use Rattle.capnp_model.specs.Trimming.{trim}
+use Rattle.capnp_model.specs.Encoding.{canonical_words}
 use Rattle.capnp_model.specs.Answers.{Limits, levels, value_within}
 use Rattle.capnp_units.specs.Errors.{kind_of}
 use Rattle.capnp_message.specs.declared.options.ReaderOptions.{ReaderOptions}
@@ -31,11 +33,11 @@ pub record HasValue (limits : Limits) (bytes : List ℕ) (cost : ℕ) : Type 0 w
   pub within : value_within limits message.0 ≡ Some value
   pub cost_is : cost_at nesting message.0 root ≡ cost
 
--- Why nothing is shown: as the model has it; for want of memory, or since what would be copied may be more than a message has room for, where there is a value.
+-- Why nothing is shown: as the model has it; for want of memory, or since a message has no room for the value's canonical words, where there is a value.
 abbrev pub IsFault : StructSchema → ReaderOptions → List ℕ → ShowFault → Type 0
 IsFault r options bytes (fault.Framing kind) = shown_by r options bytes ≡ Err (not_framed (kind_of kind))
 IsFault r options bytes fault.Value = shown_by r options bytes ≡ Err no_value
 IsFault r options bytes fault.Root = shown_by r options bytes ≡ Err no_struct
 IsFault r options bytes fault.Unreadable = shown_by r options bytes ≡ Err no_text
 IsFault r options bytes fault.Memory = (cost : ℕ) × HasValue (limits_of options) bytes cost
-IsFault r options bytes fault.Size = (cost : ℕ) × HasValue (limits_of options) bytes cost × (2 ^ 29 - 1 ≤ cost)
+IsFault r options bytes fault.Size = (cost : ℕ) × (v : HasValue (limits_of options) bytes cost) × (2 ^ 29 ≤ length (canonical_words (trim v.value)))

@@ -21,11 +21,11 @@ pub record IsCopy (n : ℕ) (limit : Option ℕ) (s copy : Segments) : Type 0 wh
   pub are : copy ≡ canonical_words (trim value) ∷ []
   pub room : length (canonical_words (trim value)) < 2 ^ 29
 
--- Why there is no copy: there is no value, or for want of memory, or the value costs more than a message has room for.
+-- Why there is no copy: there is no value, or for want of memory, or a message has no room for its canonical words.
 abbrev pub IsNoCopy : ℕ → Option ℕ → Segments → ShowFault → Type 0
 IsNoCopy n limit s fault.Value = value_to n limit s ≡ None
 IsNoCopy n limit s fault.Memory = (t : Tree) × (value_to n limit s ≡ Some t)
-IsNoCopy n limit s fault.Size = ((t : Tree) × (value_to n limit s ≡ Some t)) × (2 ^ 29 - 1 ≤ cost_at n s root)
+IsNoCopy n limit s fault.Size = (t : Tree) × (value_to n limit s ≡ Some t) × (2 ^ 29 ≤ length (canonical_words (trim t)))
 IsNoCopy n limit s (fault.Framing kind) = ⊥
 IsNoCopy n limit s fault.Root = ⊥
 IsNoCopy n limit s fault.Unreadable = ⊥

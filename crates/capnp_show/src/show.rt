@@ -109,7 +109,7 @@ fn text_of<'a, A: ReaderArena>(
 ///
 /// The message is read under the options, and its value copied canonically, so that trailing zeros and nulls count for nothing; without a limit of words no sum of lengths and no cost is too high. The copy takes at most a word more than the value costs.
 ///
-/// A fault is answered in the order of `ShowFault`, but `Memory` and `Size` where they are met; these two come only where the value is there, and `Size` only where it costs 2^29 - 1 words or more.
+/// A fault is answered in the order of `ShowFault`, but `Memory` and `Size` where they are met; these two come only where the value is there, and `Size` only where its canonical words are 2^29 or more.
 pub fn show(
     alloc: Global,
     bytes: &[u8],

@@ -24,7 +24,7 @@ returns-in_err-count-clause-copy g c =
     let from : Segments = words_in (g.B.ReaderArena.segments c.args.source.now) in
     let s : Segments = words_in (g.A.ReaderArena.segments c.args.arena.now) in
     let r = err_from_is_err_and c.from_residual.result c.from_residual.ensures.1 in
-    halted c.args.levels from (place_view c.args.place) c.args.lent.now s (place_view c.args.slot) c.args.limiter.now c.in_err-count.field-0.0 c.write_canonical.new.into c.write_canonical.new.limiter c.from_residual.result r.0 r.1 r.2 c.in_err-count.ensures.halted
+    halted c.args.levels from (place_view c.args.place) c.args.lent.now s (place_view c.args.slot) c.args.limiter.now c.in_err-count.field-0.0 c.write_canonical.new.into c.write_canonical.new.limiter c.from_residual.result r.0 r.1 r.2 c.in_err-count.ensures
 
 pub returns-in_err-count-clause-few : goal.returns-in_err-count-clause-few
 returns-in_err-count-clause-few g c =

@@ -61,4 +61,4 @@ returns-in-Err-clause-refused g c =
     let told = c.granted.ensures.value in
     let room : length c.deref_mut.result.now ≡ min granted (2 ^ 29 - 2) + 1 =
     c.deref_mut.ensures.len ∙ c.resize.ensures.len ∙ ap (λ (b : Bool). if b then c.min.result + 1 else c.new-words.result.len) c.if-is_err.ensures.negation ∙ ap (λ (k : ℕ). k + 1) (c.min.ensures ∙ ap (λ (k : ℕ). min k 536870910) c.granted.ensures.value) in
-    ((x.0, counted_some costs n limit s none c.in-Ok.size granted x.0 x.1 c.if-size-ne0.false), halted costs n limit s x.0 c.in-Ok.size granted x.1 free (λ p u. c.copies_as_walks.ensures n s p u) c.deref_mut.result.now c.write_canonical.new.into c.read_limiter-limiter-2.result c.write_canonical.new.limiter c.in-Err.field-0 again room c.in-Err.ensures.halted)
+    (x.0, counted_some costs n limit s none c.in-Ok.size granted x.0 x.1 c.if-size-ne0.false, halted costs n limit s x.0 c.in-Ok.size granted x.1 free (λ p u. c.copies_as_walks.ensures n s p u) c.deref_mut.result.now c.write_canonical.new.into c.read_limiter-limiter-2.result c.write_canonical.new.limiter c.in-Err.field-0 again room c.in-Err.ensures)
