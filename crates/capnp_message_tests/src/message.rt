@@ -1,8 +1,6 @@
 //! Tests of `capnp_message`.
 
 mod allocator_tests;
-mod canonical_tests;
-mod packed_tests;
 mod placed_tests;
 mod reader_tests;
 mod root_tests;

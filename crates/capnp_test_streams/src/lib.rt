@@ -1,6 +1,8 @@
 //! What tests share: the bytes of words, a source that shows one byte at a time, and a sink that has an end.
 #![tactic(auto)]
 
+pub mod shown;
+
 ghost use Rattle.std.specs.Prelude.{◌≡◌, ◌≤◌, length, IfOk};
 ghost use Rattle.capnp_model.specs.Bytes.{bytes_of_words};
 ghost use Rattle.capnp_units.specs.declared.kinds.ErrorKind.{ErrorKind};

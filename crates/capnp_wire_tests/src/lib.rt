@@ -1,8 +1,6 @@
-//! Tests of `capnp_units`, `capnp_text`, `capnp_wire`, `capnp_canonical`, by their public calls alone.
+//! Tests of `capnp_units`, `capnp_text` and `capnp_wire`, by their public calls alone, where no case of `capnp_segment_cases` can say them.
 #![tactic(auto)]
 
-#[cfg(test)]
-mod canonical;
 #[cfg(test)]
 mod text;
 #[cfg(test)]

@@ -1,5 +1,3 @@
 //! Tests of `capnp_wire`.
 
-mod canonical_tests;
-mod size_tests;
 mod tests;

@@ -1,5 +1,5 @@
 //! Readers and writers of a program that are interrupted, end and fail.
-use crate::stream::tests::{TWO, WRITTEN, expect_two};
+use crate::messages::{TWO, WRITTEN, expect_two};
 use capnp_io::adapters::{Sink, Source};
 use capnp_io::traits::{BufRead, Read, Write};
 use capnp_stream::frames::try_read_message;

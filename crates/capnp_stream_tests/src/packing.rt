@@ -1,4 +1,0 @@
-//! Tests of `capnp_packing`.
-
-mod cut_tests;
-mod tests;
