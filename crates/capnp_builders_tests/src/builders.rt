@@ -1,20 +1,9 @@
-//! Tests of `capnp_builders`.
+//! Tests of `capnp_builders`, and of copies below it.
 
-mod blob_tests;
-mod build_tests;
-mod calls;
-mod cases;
-mod children;
-mod copy_tests;
-mod data_tests;
+mod arena_tests;
 mod deep_tests;
 mod element_tests;
-mod fault_tests;
-mod get_tests;
 mod input_tests;
-mod list_tests;
-mod reach_tests;
-mod row_tests;
-mod tests;
-mod text_tests;
+mod parts_tests;
+mod support;
 mod typed_tests;

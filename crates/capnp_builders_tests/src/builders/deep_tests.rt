@@ -12,8 +12,7 @@ ghost use Rattle.capnp_copy.specs.Values.{LeadsTo};
 ghost use Rattle.capnp_copy.specs.declared.fields.StructPlace.{StructPlace};
 ghost use Rattle.capnp_builders_tests.specs.Deep.{behind, with_behind, with_number, with_inner_number, Edits};
 
-use crate::builders::build_tests::ROOT;
-use crate::builders::calls::{Call, is_there, make_call, sized};
+use crate::builders::support::{ROOT, is_there};
 use capnp_allocators::growth::AllocationStrategy;
 use capnp_allocators::heap::HeapAllocator;
 use capnp_builders::pointer_builder::PointerBuilder;
@@ -93,7 +92,14 @@ fn set_twice<A: BuilderArena>(memory: &mut Memory<A>) -> Result<(u64, u64)>
     }
     set_inner_number(memory, 12)?;
     let first = inner_number(&memory.arena)?;
-    make_call(memory, ROOT, Call::GetStruct(sized(1, 2)))?;
+    let wider = StructSize {
+        data_words: 1,
+        pointers: 2,
+    };
+    if !is_there(&memory.arena, ROOT) {
+        return Err(Error::from(ErrorKind::OutOfBounds));
+    }
+    PointerBuilder::get_root(memory).get_struct(wider, None)?;
     if !is_there(&memory.arena, ROOT) {
         return Err(Error::from(ErrorKind::OutOfBounds));
     }

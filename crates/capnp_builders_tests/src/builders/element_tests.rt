@@ -1,8 +1,7 @@
 //! Elements of lists that are set and got, and read back.
 ghost use Rattle.std.specs.Prelude.{◌≡◌, ◌≤◌, [], length};
 
-use crate::builders::build_tests::{ROOT, clear_root, nonzero};
-use crate::builders::tests::Exact;
+use crate::builders::support::{ROOT, clear_root, exact_segments, nonzero};
 use capnp_builders::element::BuilderElement;
 use capnp_builders::pointer_builder::PointerBuilder;
 use capnp_copy::arena::{BuilderArena, Memory};
@@ -56,9 +55,8 @@ fn seen<T: BuilderElement>(
     second: T,
     third: T,
 ) -> (Result<(T, T, T)>, Result<(T, T, T)>, usize) {
-    let allocator = Exact { alloc, left: 2 };
     let mut memory = Memory {
-        arena: BuilderArenaImpl::new(alloc, allocator),
+        arena: BuilderArenaImpl::new(alloc, exact_segments(alloc, 2)),
     };
     let begun = match memory.arena.allocate_segment(1) {
         Ok(()) => memory
@@ -89,24 +87,6 @@ fn truth_values_are_set(rt: HostRuntime) -> std::result::Result<(), Fail> {
     assert!(rt; got? == ((), (), ()));
     assert!(rt; read? == ((), (), ()));
     assert!(rt; left == 0);
-    Ok(())
-}
-
-#[test]
-fn numbers_without_sign_are_set(rt: HostRuntime) -> std::result::Result<(), Fail> {
-    let (got, read, left) = seen::<u8>(rt.alloc(), 1, 255, 128);
-    assert!(rt; got? == (0, 255, 128));
-    assert!(rt; read? == (0, 255, 128));
-    assert!(rt; left == 0);
-    let (got, read, _left) = seen::<u16>(rt.alloc(), 1, 0xfffe, 0x8001);
-    assert!(rt; got? == (0, 0xfffe, 0x8001));
-    assert!(rt; read? == (0, 0xfffe, 0x8001));
-    let (got, read, _left) = seen::<u32>(rt.alloc(), 1, 0xffff_fffe, 7);
-    assert!(rt; got? == (0, 0xffff_fffe, 7));
-    assert!(rt; read? == (0, 0xffff_fffe, 7));
-    let (got, read, _left) = seen::<u64>(rt.alloc(), 1, 0xffff_ffff_ffff_fffe, 7);
-    assert!(rt; got? == (0, 0xffff_ffff_ffff_fffe, 7));
-    assert!(rt; read? == (0, 0xffff_ffff_ffff_fffe, 7));
     Ok(())
 }
 

@@ -1,9 +1,7 @@
 //! Pointers that are set to what texts and data are taken from.
 ghost use Rattle.std.specs.Prelude.{◌≡◌};
 
-use crate::builders::blob_tests::holds;
-use crate::builders::build_tests::ROOT;
-use crate::builders::tests::Exact;
+use crate::builders::support::{ROOT, exact_segments, holds};
 use capnp_builders::pointer_builder::PointerBuilder;
 use capnp_builders::traits::SetterInput;
 use capnp_copy::arena::{BuilderArena, Memory};
@@ -48,12 +46,8 @@ fn set_in_turn<A: BuilderArena>(
 
 /// The same in a message of so many segments at most.
 fn seen(alloc: Global, segments: u32, string: &String) -> Result<(bool, bool, bool, bool)> {
-    let allocator = Exact {
-        alloc,
-        left: segments,
-    };
     let mut memory = Memory {
-        arena: BuilderArenaImpl::new(alloc, allocator),
+        arena: BuilderArenaImpl::new(alloc, exact_segments(alloc, segments)),
     };
     let seen = set_in_turn(&mut memory, string);
     let Memory { arena } = memory;

@@ -6,8 +6,7 @@ ghost use Rattle.capnp_copy.specs.contracts.arena.Memory.{the_row};
 ghost use Rattle.capnp_builders.specs.Making.{StaysAt, memory_words};
 ghost use Rattle.capnp_builders_tests.specs.Persons.{IsPersonMade, IsNotMade, IsPersonGot, IsNotGot};
 
-use crate::builders::build_tests::ROOT;
-use crate::builders::tests::Exact;
+use crate::builders::support::{ROOT, exact_segments};
 use capnp_builders::gets::struct_or_default;
 use capnp_builders::owned::{FromPointerBuilder, OwnedStruct};
 use capnp_builders::pointer_builder::PointerBuilder;
@@ -216,12 +215,8 @@ fn seen<A: BuilderArena>(memory: &mut Memory<A>) -> Result<bool>
 }
 
 fn all_seen(alloc: Global, segments: u32) -> Result<bool> {
-    let allocator = Exact {
-        alloc,
-        left: segments,
-    };
     let mut memory = Memory {
-        arena: BuilderArenaImpl::new(alloc, allocator),
+        arena: BuilderArenaImpl::new(alloc, exact_segments(alloc, segments)),
     };
     let seen = seen(&mut memory);
     let Memory { arena } = memory;

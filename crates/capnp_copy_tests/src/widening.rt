@@ -1,4 +1,0 @@
-//! Tests of `capnp_widening`.
-
-mod list_tests;
-mod tests;
