@@ -1,9 +1,15 @@
-//! Tests of `capnp_records`, `capnp_queries`, `capnp_values`, by their public calls alone.
+//! Tests of schemas, dynamic values and runs of calls, of what no line of a data file says: types, traits, keys, records that no file gives, and callers' types.
 #![tactic(auto)]
 
 #[cfg(test)]
-mod queries;
+mod calls;
 #[cfg(test)]
-mod records;
+mod fixtures;
+#[cfg(test)]
+mod keys;
+#[cfg(test)]
+mod own_type;
+#[cfg(test)]
+mod rules;
 #[cfg(test)]
 mod values;

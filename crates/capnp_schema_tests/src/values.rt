@@ -1,7 +1,207 @@
-//! Tests of `capnp_values`.
+//! Values of known types, values of annotations, and texts that are refused.
+use crate::fixtures::{SCHEMAS, Segments, root, set_of};
+use capnp_print::stringify::print;
+use capnp_queries::enums::EnumSchema;
+use capnp_queries::introspect::{Type, TypeVariant};
+use capnp_records::node::Value;
+use capnp_records::set::SchemaSet;
+use capnp_text::{data, text};
+use capnp_units::kinds::ErrorKind;
+use capnp_values::downcast::DowncastReader;
+use capnp_values::dynamic_value::{Capability, Enum, Reader};
+use capnp_values::{any_pointer, dynamic_list, dynamic_struct};
+use capnp_wire::arena::ReaderArenaImpl;
+use capnp_wire::pointer::PointerReader;
+use std::test::Fail;
 
-mod field_tests;
-mod list_tests;
-mod size_tests;
-mod tests;
-mod typed_tests;
+type Held<'a> = Reader<'a, Segments<'a>>;
+
+/// Of which types a value is, as bits in the order of `values_of_known_types`.
+fn sorts(value: &Held<'_>) -> u32 {
+    let told = [
+        <()>::fits(value),
+        bool::fits(value),
+        i8::fits(value),
+        i16::fits(value),
+        i32::fits(value),
+        i64::fits(value),
+        u8::fits(value),
+        u16::fits(value),
+        u32::fits(value),
+        u64::fits(value),
+        Enum::fits(value),
+        text::Reader::fits(value),
+        data::Reader::fits(value),
+        <dynamic_struct::Reader<'_, Segments<'_>> as DowncastReader<'_, Segments<'_>>>::fits(value),
+        dynamic_list::Reader::fits(value),
+        any_pointer::Reader::fits(value),
+    ];
+    let mut bits = 0u32;
+    let mut bit = 1u32;
+    for is_one in told {
+        if is_one {
+            bits |= bit;
+        }
+        bit = bit.wrapping_mul(2);
+    }
+    bits
+}
+
+/// A number of each type, by a downcast.
+fn number(value: Held<'_>) -> i128 {
+    if bool::fits(&value) {
+        let is_set: bool = value.downcast();
+        return if is_set { 1 } else { 0 };
+    }
+    if i8::fits(&value) {
+        return value.downcast::<i8>() as i128;
+    }
+    if i16::fits(&value) {
+        return value.downcast::<i16>() as i128;
+    }
+    if i32::fits(&value) {
+        return value.downcast::<i32>() as i128;
+    }
+    if i64::fits(&value) {
+        return value.downcast::<i64>() as i128;
+    }
+    if u8::fits(&value) {
+        return value.downcast::<u8>() as i128;
+    }
+    if u16::fits(&value) {
+        return value.downcast::<u16>() as i128;
+    }
+    if u32::fits(&value) {
+        return value.downcast::<u32>() as i128;
+    }
+    if u64::fits(&value) {
+        return value.downcast::<u64>() as i128;
+    }
+    if Enum::fits(&value) {
+        return value.downcast::<Enum<'_>>().get_value() as i128;
+    }
+    -1
+}
+
+#[test]
+fn values_of_known_types(rt: HostRuntime) -> Result<(), Fail> {
+    let set = set_of(rt.alloc(), SCHEMAS)?;
+    let colours = EnumSchema::new(&set, set.enum_by_id(7).ok_or("7")?);
+    let null = [0; 8];
+    let segments = [null.as_slice()];
+    let arena = ReaderArenaImpl::new(segments.as_slice(), 64);
+    let pointer = PointerReader::get_root_from_arena(&arena)?;
+    let values: [(Held<'_>, i128); 12] = [
+        (Reader::from(()), -1),
+        (Reader::from(true), 1),
+        (Reader::from(-7i8), -7),
+        (Reader::from(-300i16), -300),
+        (Reader::from(-70_000i32), -70_000),
+        (Reader::from(i64::MIN), -0x8000_0000_0000_0000),
+        (Reader::from(200u8), 200),
+        (Reader::from(7u16), 7),
+        (Reader::from(70_000u32), 70_000),
+        (Reader::from(u64::MAX), 0xffff_ffff_ffff_ffff),
+        (Reader::from(Enum::new(1, colours)), 1),
+        (Reader::from("hi"), -1),
+    ];
+    let mut bit = 1u32;
+    for (value, expected) in values {
+        assert!(rt; sorts(&value) == bit, "{expected}");
+        assert!(rt; number(value) == expected, "{expected}");
+        bit = bit.wrapping_mul(2);
+    }
+    let bytes: Held<'_> = Reader::Data(&[1, 2]);
+    assert!(rt; sorts(&bytes) == 1 << 12);
+    let object = Reader::from(root(&arena, &set, 1)?);
+    assert!(rt; sorts(&object) == 1 << 13);
+    let untyped = Reader::AnyPointer(any_pointer::Reader::new(pointer));
+    assert!(rt; sorts(&untyped) == 1 << 15);
+    let capability: Held<'_> = Reader::from(Capability);
+    assert!(rt; sorts(&capability) == 0);
+    Ok(())
+}
+
+#[test]
+fn texts_and_data_of_known_types(rt: HostRuntime) -> Result<(), Fail> {
+    let value: Held<'_> = Reader::from("hi");
+    let is_hi = if text::Reader::fits(&value) {
+        value.downcast::<text::Reader<'_>>().eq_str("hi")
+    } else {
+        false
+    };
+    assert!(rt; is_hi);
+    let value: Held<'_> = Reader::Data(&[1, 2]);
+    let is_two = if data::Reader::fits(&value) {
+        value.downcast::<data::Reader<'_>>() == &[1, 2][..]
+    } else {
+        false
+    };
+    assert!(rt; is_two);
+    Ok(())
+}
+
+/// What a value is read as under a type of the set; none where it is of another.
+fn read_as<'a>(set: &'a SchemaSet, value: &'a Value, ty: Type) -> Result<Held<'a>, Fail> {
+    if !set.holds(ty) {
+        return Err("a type of the set".into());
+    }
+    Ok(Reader::<Segments<'_>>::new(set, value, ty)?)
+}
+
+/// By which kind a value is refused under a type.
+fn refused(set: &SchemaSet, value: &Value, ty: Type) -> Result<ErrorKind, Fail> {
+    if !set.holds(ty) {
+        return Err("a type of the set".into());
+    }
+    let error = Reader::<Segments<'_>>::new(set, value, ty)
+        .err()
+        .ok_or("refused")?;
+    Ok(error.kind)
+}
+
+#[test]
+fn values_of_annotations(rt: HostRuntime) -> Result<(), Fail> {
+    let set = set_of(rt.alloc(), SCHEMAS)?;
+    let small = Type::from(TypeVariant::UInt16);
+    let number = Value::UInt16(7);
+    let wide = Value::UInt32(7);
+    assert!(rt; matches!(read_as(&set, &number, small)?, Reader::UInt16(7)));
+    assert!(rt; refused(&set, &wide, small)? == ErrorKind::TypeMismatch);
+    let untyped = Value::AnyPointer;
+    let Reader::AnyPointer(pointer) = read_as(&set, &untyped, Type::from(TypeVariant::AnyPointer))?
+    else {
+        return Err("untyped".into());
+    };
+    assert!(rt; pointer.is_null());
+    let p = Type::from(TypeVariant::Struct(set.struct_by_id(1).ok_or("known")?));
+    let words = [0, 0, 0, 0, 1, 0, 0, 0, 7, 0, 0, 0, 0, 0, 0, 0];
+    let seven = Value::Struct(words.to_vec(rt.alloc())?);
+    let Reader::Struct(held) = read_as(&set, &seven, p)? else {
+        return Err("a struct".into());
+    };
+    assert!(rt; matches!(held.get_named("a")?, Reader::UInt16(7)));
+    let text = Type::from(TypeVariant::Text);
+    assert!(rt; refused(&set, &seven, text)? == ErrorKind::TypeMismatch);
+    Ok(())
+}
+
+/// Text is printed behind what was there, and what is refused leaves it.
+#[test]
+fn refused_texts(rt: HostRuntime) -> Result<(), Fail> {
+    let set = set_of(rt.alloc(), SCHEMAS)?;
+    let unended = [
+        0, 0, 0, 0, 0, 0, 1, 0, 1, 0, 0, 0, 0x12, 0, 0, 0, 104, 105, 0, 0, 0, 0, 0, 0,
+    ];
+    let segments = [unended.as_slice()];
+    let arena = ReaderArenaImpl::new(segments.as_slice(), 64);
+    let mut out = b">".to_vec(rt.alloc())?;
+    let value = Reader::Struct(root(&arena, &set, 1)?);
+    let error = print(value, true, &mut out).err().ok_or("refused")?;
+    assert!(rt; error.kind == ErrorKind::TextWithoutZeroByte);
+    assert!(rt; out.as_slice() == b">".as_slice());
+    let value: Held<'_> = Reader::from("\"~");
+    print(value, false, &mut out)?;
+    assert!(rt; out.as_slice() == b">\"\\\"~\"".as_slice());
+    Ok(())
+}

@@ -1,4 +1,0 @@
-//! Tests of `capnp_show`.
-
-mod tests;
-mod word_tests;

@@ -1,3 +1,0 @@
-//! Tests of `capnp_queries`.
-
-mod tests;
