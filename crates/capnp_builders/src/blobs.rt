@@ -7,6 +7,7 @@ ghost use Rattle.capnp_model.specs.Pointers.{a_list};
 ghost use Rattle.capnp_object.specs.Objects.{AreThere};
 ghost use Rattle.capnp_units.specs.Segments.{words_in};
 ghost use Rattle.capnp_wire.specs.Places.{place_view, seen};
+ghost use Rattle.capnp_copy.specs.Refusals.{IsSizeOrRefusal};
 ghost use Rattle.capnp_copy.specs.States.{state_in, HasWords};
 ghost use Rattle.capnp_copy.specs.Values.{LeadsTo};
 ghost use Rattle.capnp_copy.specs.contracts.arena.Memory.{the_row};
@@ -41,6 +42,7 @@ fn init_bytes<A: BuilderArena>(arena: &mut A, slot: Place, count: u32) -> Result
         IfOk result (MakesBytes (at arena.old) (at arena.new) slot count) }
     ensures refused { let at = state_in A.segments A.room A.books in
         IfErr result (BytesNotSet (at arena.old) (at arena.new) slot.segment count) }
+    ensures cause { IfErr result (λ e. IsSizeOrRefusal A.refuses e) }
 {
     let list = init_list(arena, slot, ElementSize::Byte, count)?;
     Ok(list.start)
@@ -187,6 +189,7 @@ fn init_text_bytes<A: BuilderArena>(arena: &mut A, slot: Place, count: u32) -> R
         IfOk result (MakesBytes (at arena.old) (at arena.new) slot (count + 1)) }
     ensures refused { let at = state_in A.segments A.room A.books in
         IfErr result (BytesNotSet (at arena.old) (at arena.new) slot.segment (count + 1)) }
+    ensures cause { IfErr result (λ e. IsSizeOrRefusal A.refuses e) }
 {
     if count >= MOST_WORDS {
         return Err(Error::from(ErrorKind::SizeOverflow));
@@ -207,6 +210,7 @@ impl<'a, A: BuilderArena> PointerBuilder<'a, A> {
             o.place) }
         ensures kind { let at = state_of A.segments A.room A.books in IfErr result
             (BytesRefused (at self.entry.memory.now) self.entry.place.segment size) }
+        ensures cause { IfErr result (λ e. IsSizeOrRefusal A.refuses e) }
         ensures* refused { sem 𝓛 (RestsIfErr (the_row A.row) self.entry.memory
             (λ o. o.memory.ghost_name) result (StaysAt A.segments A.books self.entry.memory.now)) }
     {
@@ -228,6 +232,7 @@ impl<'a, A: BuilderArena> PointerBuilder<'a, A> {
             o.place × (o.position ≡ 0)) }
         ensures kind { let at = state_of A.segments A.room A.books in IfErr result
             (BytesRefused (at self.entry.memory.now) self.entry.place.segment (size + 1)) }
+        ensures cause { IfErr result (λ e. IsSizeOrRefusal A.refuses e) }
         ensures* refused { sem 𝓛 (RestsIfErr (the_row A.row) self.entry.memory
             (λ o. o.memory.ghost_name) result (StaysAt A.segments A.books self.entry.memory.now)) }
     {

@@ -9,6 +9,7 @@ ghost use Rattle.capnp_units.specs.Sizes.{size_number};
 ghost use Rattle.capnp_wire.specs.Places.{place_view};
 ghost use Rattle.capnp_wire.specs.Views.{seen_pointer, pointer_at};
 ghost use Rattle.capnp_copy.specs.Clearing.{ClearsValue};
+ghost use Rattle.capnp_copy.specs.Refusals.{IsSizeOrRefusal};
 ghost use Rattle.capnp_copy.specs.States.{HasWords};
 ghost use Rattle.capnp_copy.specs.contracts.arena.Memory.{the_row};
 ghost use Rattle.capnp_builders.specs.Leaving.{LeavesMemory};
@@ -128,6 +129,7 @@ impl<'a, A: BuilderArena> PointerBuilder<'a, A> {
             size o.place) }
         ensures kind { let at = state_of A.segments A.room A.books in IfErr result
             (StructRefused (at self.entry.memory.now) self.entry.place.segment size) }
+        ensures cause { IfErr result (λ e. IsSizeOrRefusal A.refuses e) }
         ensures* refused { sem 𝓛 (RestsIfErr (the_row A.row) self.entry.memory
             (λ o. o.memory.ghost_name) result (StaysAt A.segments A.books self.entry.memory.now)) }
     {
@@ -154,6 +156,7 @@ impl<'a, A: BuilderArena> PointerBuilder<'a, A> {
         ensures kind { let at = state_of A.segments A.room A.books in IfErr result
             (ElementsRefused (at self.entry.memory.now) self.entry.place.segment element_size
             element_count) }
+        ensures cause { IfErr result (λ e. IsSizeOrRefusal A.refuses e) }
         ensures* refused { sem 𝓛 (RestsIfErr (the_row A.row) self.entry.memory
             (λ o. o.memory.ghost_name) result (StaysAt A.segments A.books self.entry.memory.now)) }
     {
@@ -179,6 +182,7 @@ impl<'a, A: BuilderArena> PointerBuilder<'a, A> {
         ensures kind { let at = state_of A.segments A.room A.books in IfErr result
             (StructsRefused (at self.entry.memory.now) self.entry.place.segment element_count
             element_size) }
+        ensures cause { IfErr result (λ e. IsSizeOrRefusal A.refuses e) }
         ensures* refused { sem 𝓛 (RestsIfErr (the_row A.row) self.entry.memory
             (λ o. o.memory.ghost_name) result (StaysAt A.segments A.books self.entry.memory.now)) }
     {
@@ -202,6 +206,7 @@ impl<'a, A: BuilderArena> PointerBuilder<'a, A> {
         ensures refused { let at = state_of A.segments A.room A.books in IfErr result
             (BytesNotSet (at self.old.memory.now) (at self.new.memory.now)
             self.old.place.segment (length value.now)) }
+        ensures cause { IfErr result (λ e. IsSizeOrRefusal A.refuses e) }
     {
         let place = self.place;
         set_data(&mut self.memory.arena, place, value)
@@ -222,6 +227,7 @@ impl<'a, A: BuilderArena> PointerBuilder<'a, A> {
         ensures refused { let at = state_of A.segments A.room A.books in IfErr result
             (BytesNotSet (at self.old.memory.now) (at self.new.memory.now)
             self.old.place.segment (length value.now + 1)) }
+        ensures cause { IfErr result (λ e. IsSizeOrRefusal A.refuses e) }
     {
         let place = self.place;
         set_text(&mut self.memory.arena, place, value)

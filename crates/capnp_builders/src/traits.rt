@@ -5,6 +5,7 @@ ghost use Rattle.capnp_model.specs.Trees.{Tree, plain_list};
 ghost use Rattle.capnp_units.specs.declared.kinds.ErrorKind.TheVariants.{SizeOverflow};
 ghost use Rattle.capnp_copy.specs.Allocations.{total_words};
 ghost use Rattle.capnp_copy.specs.Inits.{BecomesAt};
+ghost use Rattle.capnp_copy.specs.Refusals.{IsSizeOrRefusal};
 ghost use Rattle.capnp_copy.specs.States.{HasWords};
 ghost use Rattle.capnp_builders.specs.Inputs.{IsTooLong};
 ghost use Rattle.capnp_builders.specs.Making.{state_of, memory_words};
@@ -40,7 +41,8 @@ pub trait SetterInput<T>: Sized {
         ensures refused { OnErr result
             (A.segments builder.exit.0.now.arena ≡ A.segments builder.entry.memory.now.arena) }
         ensures kind { IfErr result (λ e. (e.kind ≡ SizeOverflow) ↔ is_too_large value
-            (total_words (memory_words A.segments builder.entry.memory.now))) };
+            (total_words (memory_words A.segments builder.entry.memory.now))) }
+        ensures cause { IfErr result (λ e. IsSizeOrRefusal A.refuses e) };
 }
 
 /// Data are set to these bytes.
