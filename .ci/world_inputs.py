@@ -12,8 +12,9 @@ from world_runs import LIMIT, Failure, Ran, answers, message_ends, of_first, ran
 MANY = 100_000
 DEFAULT_WORDS = 8_388_608
 MOST_WORDS = 2**29 - 2
-# Kilobytes by which the peak may grow from a thousand messages to all, or by a higher limit.
-LEVEL = 128
+# Kilobytes by which the peak may grow from a thousand messages to all, or by a higher limit: ten bytes a message,
+# and twice what the kernel's own count may be off.
+LEVEL = 1024
 SCHEMA = [
     {
         "id": 1,
