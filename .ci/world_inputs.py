@@ -1,4 +1,5 @@
 """Input that trickles, that is cut, that is as large as allowed, and of many messages."""
+import contextlib
 import json
 import os
 import struct
@@ -12,8 +13,9 @@ from world_runs import LIMIT, Failure, Ran, answers, message_ends, of_first, ran
 MANY = 100_000
 DEFAULT_WORDS = 8_388_608
 MOST_WORDS = 2**29 - 2
-# Kilobytes by which the peak may grow from a thousand messages to all, or by a higher limit.
-LEVEL = 128
+# Kilobytes by which the peak may grow from a thousand messages to all, or by a higher limit: ten bytes a message,
+# and twice what the kernel's own count may be off.
+LEVEL = 1024
 SCHEMA = [
     {
         "id": 1,
@@ -48,11 +50,9 @@ def trickle(program, run):
 
 def give(into, data):
     """Writes bytes one by one, as packets of their own, until the reader is gone."""
-    try:
+    with contextlib.suppress(BrokenPipeError):
         for byte in data:
             os.write(into, bytes([byte]))
-    except BrokenPipeError:
-        pass
     os.close(into)
 
 
@@ -116,10 +116,19 @@ class Peak:
         pipes = {name: subprocess.PIPE for name in ("stdin", "stdout", "stderr")}
         self.begun = time.monotonic()
         self.child = subprocess.Popen([program, *WORDS], cwd=self.folder.name, **pipes)
+        # A program that waits for ever is ended, so that what it was to answer is missed.
+        self.watch = threading.Timer(LIMIT, self.child.kill)
+        self.watch.start()
+
+    def give(self, data):
+        """Writes bytes to the program, until it is gone."""
+        with contextlib.suppress(BrokenPipeError):
+            self.child.stdin.write(data)
+            self.child.stdin.flush()
 
     def answers(self, given, wanted, lines):
         """Gives bytes, and looks whether as many come as are wanted, and the lines."""
-        giver = threading.Thread(target=lambda: (self.child.stdin.write(given), self.child.stdin.flush()))
+        giver = threading.Thread(target=self.give, args=(given,))
         log = []
         reader = threading.Thread(target=lambda: log.append(self.child.stderr.read(len(lines))))
         for it in (giver, reader):
@@ -128,6 +137,8 @@ class Peak:
         for it in (giver, reader):
             it.join()
         if (out, log) != (wanted, [lines]):
+            self.watch.cancel()
+            self.child.kill()
             raise Failure(f"{len(out)} bytes and {len(log[0])} of log aren't those that are wanted")
 
     def kilobytes(self):
@@ -139,6 +150,7 @@ class Peak:
     def end(self):
         """Ends the input; the program has to end as it should."""
         rest = self.child.communicate(timeout=LIMIT)
+        self.watch.cancel()
         self.folder.cleanup()
         if self.child.returncode != 0 or rest != (b"", b""):
             raise Failure(f"the end of input: status {self.child.returncode}, {rest}")
