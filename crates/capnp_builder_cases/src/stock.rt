@@ -1,5 +1,6 @@
 //! Segments of the sizes that a script tells.
-ghost use Rattle.std.specs.Prelude.{[]};
+ghost use Rattle.std.specs.Prelude.{◌≡◌, []};
+ghost use Rattle.capnp_units.specs.declared.kinds.ErrorKind.TheVariants.{OutOfMemory};
 
 use capnp_copy::allocator::Allocator;
 use capnp_units::errors::{Error, Result};
@@ -43,6 +44,8 @@ impl Allocator for Stock {
     ghost loans = { λ _. [] };
 
     ghost place = { λ _. [] };
+
+    ghost refuses = { λ _ _ kind. kind ≡ OutOfMemory };
 
     fn allocate_segment(&mut self, minimum: u32) -> Result<Vec<u8>> {
         let words = match self.next_size() {

@@ -3,6 +3,7 @@ ghost use Rattle.std.specs.Prelude.{◌≡◌, ◌<◌, ◌^◌, [], true};
 ghost use Rattle.std.specs.Option.{is_some};
 ghost use Rattle.capnp_model.specs.Segments.{words_at};
 ghost use Rattle.capnp_units.specs.Segments.{words_in};
+ghost use Rattle.capnp_units.specs.declared.kinds.ErrorKind.TheVariants.{OutOfMemory};
 ghost use Rattle.capnp_wire.specs.Places.{place_view};
 
 use capnp_builders::pointer_builder::PointerBuilder;
@@ -47,6 +48,8 @@ impl Allocator for Exact {
     ghost loans = { λ _. [] };
 
     ghost place = { λ _. [] };
+
+    ghost refuses = { λ _ _ kind. kind ≡ OutOfMemory };
 
     fn allocate_segment(&mut self, minimum: u32) -> Result<Vec<u8>> {
         self.asked = minimum;
