@@ -6,7 +6,7 @@ use Rattle.std.specs.Cmp.Derive.{both_true}
 use Rattle.std.proofs.lemmas.Bool.{or_left, or_right, eq-eqb}
 use Rattle.std.proofs.lemmas.Bool.Decides.{nat_tests}
 use Rattle.std.proofs.lemmas.List.Folds.{list_all-append}
-use Rattle.capnp_model.specs.Compatible.{Pairs, has_pair, keeps, IsCompatible}
+use Rattle.capnp_model.specs.Compatible.{Pairs, has_pair, keeps, IsCompatible, IsCompatibleWith}
 use Rattle.capnp_model.specs.Accepted.{schema_of, shape_in}
 use Rattle.capnp_model.specs.Schemas.{Node}
 use Rattle.capnp_model.proofs.lemmas.Tests.{same_number, and_left, and_right}
@@ -15,7 +15,10 @@ use Rattle.capnp_compatible.specs.declared.keeps.Versions.{Versions}
 use Rattle.capnp_compatible.specs.declared.keeps.Levels.{Levels}
 use Rattle.capnp_compatible.specs.Pairs.{has_each, pairs_of}
 use Rattle.capnp_compatible.specs.Holders.{nodes_in, schema_in}
-use Rattle.capnp_compatible.specs.Walks.{IsSoundFor, Decides, keeps_at, keeps_all, IsKeptFrom, AreEnough, are_alike}
+use Rattle.capnp_compatible.specs.Walks.{IsSoundFor, Decides, older_schema, kept_shape, keeps_at, keeps_all, IsKeptFrom, AreEnough, are_alike}
+use Rattle.capnp_model.specs.Partners.{Renaming, renamed_shape}
+use Rattle.capnp_model.proofs.lemmas.NewerWords.{newer-words}
+use Rattle.capnp_compatible.specs.Renamed.{names_in}
 use Rattle.capnp_compatible.proofs.NodesFound.{shape_is}
 
 -- ---- pairs among pairs
@@ -122,13 +125,14 @@ walked_into v levels older newer i a b old new w at d k =
 -- ---- compatible schemas
 
 kept_alike : (v : Versions) (levels : Levels) → AreEnough v levels → (pairs some : Pairs)
-    → list_all (λ p. keeps (schema_in v.older) (schema_in v.newer) pairs ((schema_in v.older).shape_of p.0) ((schema_in v.newer).shape_of p.1)) some ≡ keeps_all v levels pairs some
+    → list_all (λ p. keeps (older_schema v) (schema_in v.newer) pairs ((older_schema v).shape_of p.0) ((schema_in v.newer).shape_of p.1)) some ≡ keeps_all v levels pairs some
 kept_alike v levels e pairs [] = refl
 kept_alike v levels e pairs (p ∷ some) =
-    let first : (schema_in v.older).shape_of p.0 ≡ shape_in (nodes_in v.older) levels.older p.0 = shape_is (nodes_in v.older) p.0 ∙ ap (λ (k : ℕ). shape_in (nodes_in v.older) k p.0) (sym e.older) in
+    let first : (older_schema v).shape_of p.0 ≡ kept_shape v levels p.0
+    = newer-words (names_in v.names) ((schema_in v.older).shape_of p.0) ∙ ap (renamed_shape (names_in v.names)) (shape_is (nodes_in v.older) p.0 ∙ ap (λ (k : ℕ). shape_in (nodes_in v.older) k p.0) (sym e.older)) in
     let second : (schema_in v.newer).shape_of p.1 ≡ shape_in (nodes_in v.newer) levels.newer p.1 = shape_is (nodes_in v.newer) p.1 ∙ ap (λ (k : ℕ). shape_in (nodes_in v.newer) k p.1) (sym e.newer) in
-    ap (λ g. keeps (schema_in v.older) (schema_in v.newer) pairs g ((schema_in v.newer).shape_of p.1) && list_all (λ q. keeps (schema_in v.older) (schema_in v.newer) pairs ((schema_in v.older).shape_of q.0) ((schema_in v.newer).shape_of q.1)) some) first
-    ∙ ap (λ g. keeps (schema_in v.older) (schema_in v.newer) pairs (shape_in (nodes_in v.older) levels.older p.0) g && list_all (λ q. keeps (schema_in v.older) (schema_in v.newer) pairs ((schema_in v.older).shape_of q.0) ((schema_in v.newer).shape_of q.1)) some) second
+    ap (λ g. keeps (older_schema v) (schema_in v.newer) pairs g ((schema_in v.newer).shape_of p.1) && list_all (λ q. keeps (older_schema v) (schema_in v.newer) pairs ((older_schema v).shape_of q.0) ((schema_in v.newer).shape_of q.1)) some) first
+    ∙ ap (λ g. keeps (older_schema v) (schema_in v.newer) pairs (kept_shape v levels p.0) g && list_all (λ q. keeps (older_schema v) (schema_in v.newer) pairs ((older_schema v).shape_of q.0) ((schema_in v.newer).shape_of q.1)) some) second
     ∙ ap (λ z. keeps_at v levels p.0 p.1 pairs && z) (kept_alike v levels e pairs some)
 
 truth : (b : Bool) → b ≡ true → IsTrue b
@@ -137,7 +141,7 @@ truth b h = h
 untruth : (b : Bool) → IsTrue b → b ≡ true
 untruth b h = h
 
-pub compatible_if : (v : Versions) (levels : Levels) (i j : ℕ) → AreEnough v levels → (schema_in v.older).is_group i ≡ (schema_in v.newer).is_group j → IsKeptFrom v levels i j → IsCompatible (schema_in v.older) (schema_in v.newer) i j
+pub compatible_if : (v : Versions) (levels : Levels) (i j : ℕ) → AreEnough v levels → (schema_in v.older).is_group i ≡ (schema_in v.newer).is_group j → IsKeptFrom v levels i j → IsCompatible (older_schema v) (schema_in v.newer) i j
 compatible_if v levels i j e g k = record {
   pairs = k.pairs;
   same_sort = g;
@@ -145,7 +149,7 @@ compatible_if v levels i j e g k = record {
   are_kept = truth _ (kept_alike v levels e k.pairs k.pairs ∙ k.are_kept);
 }
 
-pub compatible_only_if : (v : Versions) (levels : Levels) (i j : ℕ) → AreEnough v levels → IsCompatible (schema_in v.older) (schema_in v.newer) i j → IsKeptFrom v levels i j
+pub compatible_only_if : (v : Versions) (levels : Levels) (i j : ℕ) → AreEnough v levels → IsCompatible (older_schema v) (schema_in v.newer) i j → IsKeptFrom v levels i j
 compatible_only_if v levels i j e k = record {
   pairs = k.pairs;
   has_roots = untruth (has_pair k.pairs i j) k.has_roots;
@@ -153,13 +157,14 @@ compatible_only_if v levels i j e k = record {
 }
 
 -- what is answered of the versions is answered of their nodes
-pub answer_is : (v : Versions) (levels : Levels) (i j : ℕ) (b : Bool) (os ns : List Node) → nodes_in v.older ≡ os → nodes_in v.newer ≡ ns → AreEnough v levels → (schema_in v.older).is_group i ≡ (schema_in v.newer).is_group j
-    → MatchBool b (IsKeptFrom v levels i j) (IsKeptFrom v levels i j → ⊥) → MatchBool b (IsCompatible (schema_of os) (schema_of ns) i j) (IsCompatible (schema_of os) (schema_of ns) i j → ⊥)
-answer_is v levels i j b os ns h k e g m =
-    subst (λ (xs : List Node). MatchBool b (IsCompatible (schema_of xs) (schema_of ns) i j) (IsCompatible (schema_of xs) (schema_of ns) i j → ⊥)) h
-    (subst (λ (ys : List Node). MatchBool b (IsCompatible (schema_in v.older) (schema_of ys) i j) (IsCompatible (schema_in v.older) (schema_of ys) i j → ⊥)) k (by b m))
+pub answer_is : (v : Versions) (levels : Levels) (i j : ℕ) (b : Bool) (rs : List Renaming) (os ns : List Node) → names_in v.names ≡ rs → nodes_in v.older ≡ os → nodes_in v.newer ≡ ns → AreEnough v levels → (schema_in v.older).is_group i ≡ (schema_in v.newer).is_group j
+    → MatchBool b (IsKeptFrom v levels i j) (IsKeptFrom v levels i j → ⊥) → MatchBool b (IsCompatibleWith rs (schema_of os) (schema_of ns) i j) (IsCompatibleWith rs (schema_of os) (schema_of ns) i j → ⊥)
+answer_is v levels i j b rs os ns names h k e g m =
+    subst (λ (zs : List Renaming). MatchBool b (IsCompatibleWith zs (schema_of os) (schema_of ns) i j) (IsCompatibleWith zs (schema_of os) (schema_of ns) i j → ⊥)) names
+    (subst (λ (xs : List Node). MatchBool b (IsCompatibleWith (names_in v.names) (schema_of xs) (schema_of ns) i j) (IsCompatibleWith (names_in v.names) (schema_of xs) (schema_of ns) i j → ⊥)) h
+    (subst (λ (ys : List Node). MatchBool b (IsCompatible (older_schema v) (schema_of ys) i j) (IsCompatible (older_schema v) (schema_of ys) i j → ⊥)) k (by b m)))
   where
-    by : (x : Bool) → MatchBool x (IsKeptFrom v levels i j) (IsKeptFrom v levels i j → ⊥) → MatchBool x (IsCompatible (schema_in v.older) (schema_in v.newer) i j) (IsCompatible (schema_in v.older) (schema_in v.newer) i j → ⊥)
+    by : (x : Bool) → MatchBool x (IsKeptFrom v levels i j) (IsKeptFrom v levels i j → ⊥) → MatchBool x (IsCompatible (older_schema v) (schema_in v.newer) i j) (IsCompatible (older_schema v) (schema_in v.newer) i j → ⊥)
     by true y = compatible_if v levels i j e g y
     by false y = λ z. y (compatible_only_if v levels i j e z)
 
@@ -175,7 +180,7 @@ apart false true h e = absurd (cc e)
 apart false false h e = absurd (cc h)
 
 -- a group and a struct that is none are not compatible
-pub other_sorts_are_not : (v : Versions) (i j : ℕ) (os ns : List Node) → nodes_in v.older ≡ os → nodes_in v.newer ≡ ns → are_alike ((schema_in v.older).is_group i) ((schema_in v.newer).is_group j) ≡ false → IsCompatible (schema_of os) (schema_of ns) i j → ⊥
-other_sorts_are_not v i j os ns h k e c =
+pub other_sorts_are_not : (v : Versions) (i j : ℕ) (rs : List Renaming) (os ns : List Node) → nodes_in v.older ≡ os → nodes_in v.newer ≡ ns → are_alike ((schema_in v.older).is_group i) ((schema_in v.newer).is_group j) ≡ false → IsCompatibleWith rs (schema_of os) (schema_of ns) i j → ⊥
+other_sorts_are_not v i j rs os ns h k e c =
     apart ((schema_in v.older).is_group i) ((schema_in v.newer).is_group j) e
     (ap (λ (xs : List Node). (schema_of xs).is_group i) h ∙ c.same_sort ∙ ap (λ (xs : List Node). (schema_of xs).is_group j) (sym k))

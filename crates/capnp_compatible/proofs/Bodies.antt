@@ -24,7 +24,10 @@ use Rattle.capnp_compatible.specs.Types.{sort, bits, id_in, keeps_id}
 use Rattle.capnp_compatible.specs.Defaults.{AllBytes, default_bytes, same_value}
 use Rattle.capnp_compatible.specs.Holders.{nodes_in, schema_in, shape_by, is_sound_kind, are_sound}
 use Rattle.capnp_compatible.specs.Pairs.{has_each, pairs_of, IsFront}
-use Rattle.capnp_compatible.specs.Walks.{IsSoundFor, Decides, Moves, begins_with, has_room, keeps_at, older_fields, newer_fields, older_body, newer_body}
+use Rattle.capnp_compatible.specs.Walks.{IsSoundFor, Decides, Moves, older_schema, kept_shape, kept_field, begins_with, has_room, keeps_at, older_fields, newer_fields, kept_body, newer_body}
+use Rattle.capnp_model.specs.Partners.{Renaming, partner_name, renamed_shape}
+use Rattle.capnp_compatible.specs.Renamed.{names_in}
+use Rattle.capnp_compatible.proofs.RenamedHolders.{kept_holder, renamed_holder}
 use Rattle.capnp_compatible.proofs.Relations.{related_by_sort, related_lists}
 use Rattle.capnp_compatible.proofs.Slots.{slots_kept, slot_no_group, group_no_slot, groups_kept, base_is, type_wide, same_members}
 use Rattle.capnp_compatible.proofs.Scans.{front_itself, front_of_front, decides_here, decides_same}
@@ -32,25 +35,25 @@ use Rattle.capnp_compatible.proofs.Scans.{front_itself, front_of_front, decides_
 -- ---- types
 
 abbrev pub bases_test : Versions → BaseType → BaseType → Pairs → Bool
-bases_test v a b pairs = related (schema_in v.older) (schema_in v.newer) pairs (base_type (base_of a)) (base_type (base_of b))
+bases_test v a b pairs = related (older_schema v) (schema_in v.newer) pairs (base_type (base_of a)) (base_type (base_of b))
 
 abbrev pub types_test : Versions → TypeRecord → TypeRecord → Pairs → Bool
-types_test v a b pairs = related (schema_in v.older) (schema_in v.newer) pairs (type_of (type_record_of a)) (type_of (type_record_of b))
+types_test v a b pairs = related (older_schema v) (schema_in v.newer) pairs (type_of (type_record_of a)) (type_of (type_record_of b))
 
 abbrev pub one_sort : BaseType → BaseType → Bool
 one_sort a b = sort (base_type (base_of a)) == sort (base_type (base_of b)) && bits (base_type (base_of a)) == bits (base_type (base_of b))
 
-by_sort : (v : Versions) (a b : BaseType) (pairs : Pairs) → bases_test v a b pairs ≡ (one_sort a b && keeps_id (schema_in v.older) (schema_in v.newer) pairs (base_type (base_of a)) (id_in (base_type (base_of b))))
-by_sort v a b pairs = related_by_sort (schema_in v.older) (schema_in v.newer) pairs (base_type (base_of a)) (base_type (base_of b)) (base_is a) (base_is b)
+by_sort : (v : Versions) (a b : BaseType) (pairs : Pairs) → bases_test v a b pairs ≡ (one_sort a b && keeps_id (older_schema v) (schema_in v.newer) pairs (base_type (base_of a)) (id_in (base_type (base_of b))))
+by_sort v a b pairs = related_by_sort (older_schema v) (schema_in v.newer) pairs (base_type (base_of a)) (base_type (base_of b)) (base_is a) (base_is b)
 
 pub other_sorts : (v : Versions) (r : Reached) (a b : BaseType) → one_sort a b ≡ false → IsSoundFor v r → Decides v r r false (bases_test v a b)
-other_sorts v r a b h s = decides_here v r false (bases_test v a b) s (λ pairs. by_sort v a b pairs ∙ ap (λ x. x && keeps_id (schema_in v.older) (schema_in v.newer) pairs (base_type (base_of a)) (id_in (base_type (base_of b)))) h)
+other_sorts v r a b h s = decides_here v r false (bases_test v a b) s (λ pairs. by_sort v a b pairs ∙ ap (λ x. x && keeps_id (older_schema v) (schema_in v.newer) pairs (base_type (base_of a)) (id_in (base_type (base_of b)))) h)
 
-pub same_sorts : (v : Versions) (old new : Reached) (ok : Bool) (a b : BaseType) → one_sort a b ≡ true → Decides v old new ok (λ pairs. keeps_id (schema_in v.older) (schema_in v.newer) pairs (base_type (base_of a)) (id_in (base_type (base_of b)))) → Decides v old new ok (bases_test v a b)
-same_sorts v old new ok a b h d = decides_same v old new ok _ (bases_test v a b) d (λ pairs. by_sort v a b pairs ∙ ap (λ x. x && keeps_id (schema_in v.older) (schema_in v.newer) pairs (base_type (base_of a)) (id_in (base_type (base_of b)))) h)
+pub same_sorts : (v : Versions) (old new : Reached) (ok : Bool) (a b : BaseType) → one_sort a b ≡ true → Decides v old new ok (λ pairs. keeps_id (older_schema v) (schema_in v.newer) pairs (base_type (base_of a)) (id_in (base_type (base_of b)))) → Decides v old new ok (bases_test v a b)
+same_sorts v old new ok a b h d = decides_same v old new ok _ (bases_test v a b) d (λ pairs. by_sort v a b pairs ∙ ap (λ x. x && keeps_id (older_schema v) (schema_in v.newer) pairs (base_type (base_of a)) (id_in (base_type (base_of b)))) h)
 
 by_count : (v : Versions) (a b : TypeRecord) (pairs : Pairs) → types_test v a b pairs ≡ (a.list_count == b.list_count && bases_test v a.base b.base pairs)
-by_count v a b pairs = related_lists (schema_in v.older) (schema_in v.newer) pairs a.list_count b.list_count (base_type (base_of a.base)) (base_type (base_of b.base)) (base_is a.base) (base_is b.base)
+by_count v a b pairs = related_lists (older_schema v) (schema_in v.newer) pairs a.list_count b.list_count (base_type (base_of a.base)) (base_type (base_of b.base)) (base_is a.base) (base_is b.base)
 
 pub other_counts : (v : Versions) (r : Reached) (a b : TypeRecord) → a.list_count ≢ b.list_count → IsSoundFor v r → Decides v r r false (types_test v a b)
 other_counts v r a b h s = decides_here v r false (types_test v a b) s (λ pairs. by_count v a b pairs ∙ ap (λ x. x && bases_test v a.base b.base pairs) (test_is_false a.list_count b.list_count h))
@@ -61,14 +64,14 @@ same_counts v old new ok a b h d = decides_same v old new ok (bases_test v a.bas
 -- ---- slots and groups
 
 abbrev pub bodies_test : Versions → Levels → FieldBody → FieldBody → Pairs → Bool
-bodies_test v levels a b pairs = keeps_body (schema_in v.older) (schema_in v.newer) pairs (older_body v levels a) (newer_body v levels b)
+bodies_test v levels a b pairs = keeps_body (older_schema v) (schema_in v.newer) pairs (kept_body v levels a) (newer_body v levels b)
 
 module _ (v : Versions) (levels : Levels) (a b : ℕ) (t u : TypeRecord) (d e : Option Value)
     (sound : is_sound_kind (kind_of_field (B.Slot a t d)) ≡ true) (other : is_sound_kind (kind_of_field (B.Slot b u e)) ≡ true)
     (x : AllBytes (default_bytes (option_map value_of d))) (y : AllBytes (default_bytes (option_map value_of e))) where
   slots : (pairs : Pairs) → bodies_test v levels (B.Slot a t d) (B.Slot b u e) pairs ≡ ((a == b && same_value (option_map value_of d) (option_map value_of e)) && types_test v t u pairs)
   slots pairs =
-      slots_kept (schema_in v.older) (schema_in v.newer) pairs a b (type_of (type_record_of t)) (type_of (type_record_of u)) (option_map value_of d) (option_map value_of e) (type_wide t)
+      slots_kept (older_schema v) (schema_in v.newer) pairs a b (type_of (type_record_of t)) (type_of (type_record_of u)) (option_map value_of d) (option_map value_of e) (type_wide t)
       (and_left (is_default_of (type_of (type_record_of t)) (option_map value_of d)) _ sound)
       (and_left (is_default_of (type_of (type_record_of u)) (option_map value_of e)) _ other)
       (and_right (is_default_of (type_of (type_record_of t)) (option_map value_of d)) _ sound)
@@ -85,13 +88,13 @@ module _ (v : Versions) (levels : Levels) (a b : ℕ) (t u : TypeRecord) (d e : 
   same_slots old new ok h k w = decides_same v old new ok (types_test v t u) _ w (λ pairs. slots pairs ∙ ap (λ z. (a == b && z) && types_test v t u pairs) h ∙ ap (λ z. (z && true) && types_test v t u pairs) (test_is_true a b k))
 
 pub slot_and_group : (v : Versions) (levels : Levels) (r : Reached) (a g : ℕ) (t : TypeRecord) (d : Option Value) → IsSoundFor v r → Decides v r r false (bodies_test v levels (B.Slot a t d) (B.Group g))
-slot_and_group v levels r a g t d s = decides_here v r false _ s (λ pairs. group_no_slot (schema_in v.older) (schema_in v.newer) pairs (shape_in (nodes_in v.newer) levels.newer g) a (type_of (type_record_of t)) (option_map value_of d))
+slot_and_group v levels r a g t d s = decides_here v r false _ s (λ pairs. group_no_slot (older_schema v) (schema_in v.newer) pairs (shape_in (nodes_in v.newer) levels.newer g) a (type_of (type_record_of t)) (option_map value_of d))
 
 pub group_and_slot : (v : Versions) (levels : Levels) (r : Reached) (g b : ℕ) (u : TypeRecord) (e : Option Value) → IsSoundFor v r → Decides v r r false (bodies_test v levels (B.Group g) (B.Slot b u e))
-group_and_slot v levels r g b u e s = decides_here v r false _ s (λ pairs. slot_no_group (schema_in v.older) (schema_in v.newer) pairs (shape_in (nodes_in v.older) levels.older g) b (type_of (type_record_of u)) (option_map value_of e))
+group_and_slot v levels r g b u e s = decides_here v r false _ s (λ pairs. slot_no_group (older_schema v) (schema_in v.newer) pairs (kept_shape v levels g) b (type_of (type_record_of u)) (option_map value_of e))
 
 pub two_groups : (v : Versions) (levels : Levels) (old new : Reached) (ok : Bool) (g h : ℕ) → Decides v old new ok (keeps_at v levels g h) → Decides v old new ok (bodies_test v levels (B.Group g) (B.Group h))
-two_groups v levels old new ok g h d = decides_same v old new ok (keeps_at v levels g h) _ d (λ pairs. groups_kept (schema_in v.older) (schema_in v.newer) pairs (shape_in (nodes_in v.older) levels.older g) (shape_in (nodes_in v.newer) levels.newer h))
+two_groups v levels old new ok g h d = decides_same v old new ok (keeps_at v levels g h) _ d (λ pairs. groups_kept (older_schema v) (schema_in v.newer) pairs (kept_shape v levels g) (shape_in (nodes_in v.newer) levels.newer h))
 
 -- ---- fields
 
@@ -104,110 +107,114 @@ other_members v levels r f g h s = decides_here v r false _ s (λ pairs. ap (λ 
 pub kept_members : (v : Versions) (levels : Levels) (old new : Reached) (ok : Bool) (f g : FieldRecord) → f.discriminant_value ≡ g.discriminant_value → Decides v old new ok (bodies_test v levels f.body g.body) → Decides v old new ok (fields_test v levels f g)
 kept_members v levels old new ok f g h d = decides_same v old new ok (bodies_test v levels f.body g.body) _ d (λ pairs. ap (λ z. z && bodies_test v levels f.body g.body pairs) (same_members f.discriminant_value g.discriminant_value ∙ test_is_true f.discriminant_value g.discriminant_value h))
 
-abbrev pub rest_test : Versions → Levels → ℕ → List FieldRecord → Fields → Pairs → Bool
-rest_test v levels count left rest pairs = keeps_fields (schema_in v.older) (schema_in v.newer) pairs count (older_fields v levels left) rest
+abbrev pub rest_test : Versions → Levels → ℕ → ℕ → List FieldRecord → Fields → Pairs → Bool
+rest_test v levels node count left rest pairs = keeps_fields (older_schema v) (schema_in v.newer) pairs count (older_fields v levels node left) rest
 
 abbrev pub next_field : Versions → Levels → FieldRecord → Fields → Fields
 next_field v levels g rest = field (string_bytes g.name) (member_of g.discriminant_value) (newer_body v levels g.body) rest
 
 -- a newer field without a partner here
-alone : (v : Versions) (levels : Levels) (count : ℕ) (left : List FieldRecord) (g : FieldRecord) (rest : Fields) (pairs : Pairs) → begins_with left (string_bytes g.name) ≡ false
-    → rest_test v levels count left (next_field v levels g rest) pairs ≡ (is_new count (member_of g.discriminant_value) && rest_test v levels count left rest pairs)
+alone : (v : Versions) (levels : Levels) (node count : ℕ) (left : List FieldRecord) (g : FieldRecord) (rest : Fields) (pairs : Pairs) → begins_with (names_in v.names) node left (string_bytes g.name) ≡ false
+    → rest_test v levels node count left (next_field v levels g rest) pairs ≡ (is_new count (member_of g.discriminant_value) && rest_test v levels node count left rest pairs)
 unfolding keeps_fields
-alone v levels count [] g rest pairs h = refl
-alone v levels count (f ∷ fs) g rest pairs h = ap (λ (b : Bool). elim b as (λ (x : Bool). Bool) [
-  | true ↦ fields_test v levels f g pairs && rest_test v levels count fs rest pairs
-  | false ↦ is_new count (member_of g.discriminant_value) && rest_test v levels count (f ∷ fs) rest pairs
+alone v levels node count [] g rest pairs h = refl
+alone v levels node count (f ∷ fs) g rest pairs h = ap (λ (b : Bool). elim b as (λ (x : Bool). Bool) [
+  | true ↦ fields_test v levels f g pairs && rest_test v levels node count fs rest pairs
+  | false ↦ is_new count (member_of g.discriminant_value) && rest_test v levels node count (f ∷ fs) rest pairs
 ]) h
 
 -- a newer field with its partner
-together : (v : Versions) (levels : Levels) (count : ℕ) (f : FieldRecord) (fs : List FieldRecord) (g : FieldRecord) (rest : Fields) (pairs : Pairs) → bytes_eq (string_bytes f.name) (string_bytes g.name) ≡ true
-    → rest_test v levels count (f ∷ fs) (next_field v levels g rest) pairs ≡ (fields_test v levels f g pairs && rest_test v levels count fs rest pairs)
+together : (v : Versions) (levels : Levels) (node count : ℕ) (f : FieldRecord) (fs : List FieldRecord) (g : FieldRecord) (rest : Fields) (pairs : Pairs) → bytes_eq (partner_name (names_in v.names) node (string_bytes f.name)) (string_bytes g.name) ≡ true
+    → rest_test v levels node count (f ∷ fs) (next_field v levels g rest) pairs ≡ (fields_test v levels f g pairs && rest_test v levels node count fs rest pairs)
 unfolding keeps_fields
-together v levels count f fs g rest pairs h = ap (λ (b : Bool). elim b as (λ (x : Bool). Bool) [
-  | true ↦ fields_test v levels f g pairs && rest_test v levels count fs rest pairs
-  | false ↦ is_new count (member_of g.discriminant_value) && rest_test v levels count (f ∷ fs) rest pairs
+together v levels node count f fs g rest pairs h = ap (λ (b : Bool). elim b as (λ (x : Bool). Bool) [
+  | true ↦ fields_test v levels f g pairs && rest_test v levels node count fs rest pairs
+  | false ↦ is_new count (member_of g.discriminant_value) && rest_test v levels node count (f ∷ fs) rest pairs
 ]) h
 
-pub moves_past : (v : Versions) (levels : Levels) (r : Reached) (count : ℕ) (left : List FieldRecord) (g : FieldRecord) → begins_with left (string_bytes g.name) ≡ false → is_new count (member_of g.discriminant_value) ≡ true → IsSoundFor v r → Moves v levels r r count left g (Some left)
-moves_past v levels r count left g h k s = record {
+pub moves_past : (v : Versions) (levels : Levels) (r : Reached) (node count : ℕ) (left : List FieldRecord) (g : FieldRecord) → begins_with (names_in v.names) node left (string_bytes g.name) ≡ false → is_new count (member_of g.discriminant_value) ≡ true → IsSoundFor v r → Moves v levels r r node count left g (Some left)
+moves_past v levels r node count left g h k s = record {
   sound = s;
   grows = front_itself (pairs_of r);
-  tested = λ pairs rest. ap (λ z. has_each pairs (pairs_of r) && z) (alone v levels count left g rest pairs h ∙ ap (λ z. z && rest_test v levels count left rest pairs) k);
+  tested = λ pairs rest. ap (λ z. has_each pairs (pairs_of r) && z) (alone v levels node count left g rest pairs h ∙ ap (λ z. z && rest_test v levels node count left rest pairs) k);
 }
 
-pub moves_nowhere : (v : Versions) (levels : Levels) (r : Reached) (count : ℕ) (left : List FieldRecord) (g : FieldRecord) → begins_with left (string_bytes g.name) ≡ false → is_new count (member_of g.discriminant_value) ≡ false → IsSoundFor v r → Moves v levels r r count left g None
-moves_nowhere v levels r count left g h k s = record {
+pub moves_nowhere : (v : Versions) (levels : Levels) (r : Reached) (node count : ℕ) (left : List FieldRecord) (g : FieldRecord) → begins_with (names_in v.names) node left (string_bytes g.name) ≡ false → is_new count (member_of g.discriminant_value) ≡ false → IsSoundFor v r → Moves v levels r r node count left g None
+moves_nowhere v levels r node count left g h k s = record {
   sound = s;
   grows = front_itself (pairs_of r);
-  tested = λ pairs rest. ap (λ z. has_each pairs (pairs_of r) && z) (alone v levels count left g rest pairs h ∙ ap (λ z. z && rest_test v levels count left rest pairs) k) ∙ and_false (has_each pairs (pairs_of r));
+  tested = λ pairs rest. ap (λ z. has_each pairs (pairs_of r) && z) (alone v levels node count left g rest pairs h ∙ ap (λ z. z && rest_test v levels node count left rest pairs) k) ∙ and_false (has_each pairs (pairs_of r));
 }
 
-pub moves_on : (v : Versions) (levels : Levels) (old new : Reached) (count : ℕ) (left : List FieldRecord) (f : FieldRecord) (fs : List FieldRecord) (g : FieldRecord) → left ≡ f ∷ fs → bytes_eq (string_bytes f.name) (string_bytes g.name) ≡ true → Decides v old new true (fields_test v levels f g) → Moves v levels old new count left g (Some fs)
-moves_on v levels old new count left f fs g is h d = record {
+pub moves_on : (v : Versions) (levels : Levels) (old new : Reached) (node count : ℕ) (left : List FieldRecord) (f : FieldRecord) (fs : List FieldRecord) (g : FieldRecord) → left ≡ f ∷ fs → bytes_eq (partner_name (names_in v.names) node (string_bytes f.name)) (string_bytes g.name) ≡ true → Decides v old new true (fields_test v levels f g) → Moves v levels old new node count left g (Some fs)
+moves_on v levels old new node count left f fs g is h d = record {
   sound = d.sound;
   grows = d.grows;
   tested = λ pairs rest.
-      ap (λ (z : List FieldRecord). has_each pairs (pairs_of old) && rest_test v levels count z (next_field v levels g rest) pairs) is
-      ∙ ap (λ z. has_each pairs (pairs_of old) && z) (together v levels count f fs g rest pairs h)
-      ∙ sym (and_assoc (has_each pairs (pairs_of old)) (fields_test v levels f g pairs) (rest_test v levels count fs rest pairs))
-      ∙ ap (λ z. z && rest_test v levels count fs rest pairs) (d.tested pairs);
+      ap (λ (z : List FieldRecord). has_each pairs (pairs_of old) && rest_test v levels node count z (next_field v levels g rest) pairs) is
+      ∙ ap (λ z. has_each pairs (pairs_of old) && z) (together v levels node count f fs g rest pairs h)
+      ∙ sym (and_assoc (has_each pairs (pairs_of old)) (fields_test v levels f g pairs) (rest_test v levels node count fs rest pairs))
+      ∙ ap (λ z. z && rest_test v levels node count fs rest pairs) (d.tested pairs);
 }
 
-pub moves_not : (v : Versions) (levels : Levels) (old new : Reached) (count : ℕ) (left : List FieldRecord) (f : FieldRecord) (fs : List FieldRecord) (g : FieldRecord) → left ≡ f ∷ fs → bytes_eq (string_bytes f.name) (string_bytes g.name) ≡ true → Decides v old new false (fields_test v levels f g) → Moves v levels old new count left g None
-moves_not v levels old new count left f fs g is h d = record {
+pub moves_not : (v : Versions) (levels : Levels) (old new : Reached) (node count : ℕ) (left : List FieldRecord) (f : FieldRecord) (fs : List FieldRecord) (g : FieldRecord) → left ≡ f ∷ fs → bytes_eq (partner_name (names_in v.names) node (string_bytes f.name)) (string_bytes g.name) ≡ true → Decides v old new false (fields_test v levels f g) → Moves v levels old new node count left g None
+moves_not v levels old new node count left f fs g is h d = record {
   sound = d.sound;
   grows = d.grows;
   tested = λ pairs rest.
-      ap (λ (z : List FieldRecord). has_each pairs (pairs_of old) && rest_test v levels count z (next_field v levels g rest) pairs) is
-      ∙ ap (λ z. has_each pairs (pairs_of old) && z) (together v levels count f fs g rest pairs h)
-      ∙ sym (and_assoc (has_each pairs (pairs_of old)) (fields_test v levels f g pairs) (rest_test v levels count fs rest pairs))
-      ∙ ap (λ z. z && rest_test v levels count fs rest pairs) (d.tested pairs);
+      ap (λ (z : List FieldRecord). has_each pairs (pairs_of old) && rest_test v levels node count z (next_field v levels g rest) pairs) is
+      ∙ ap (λ z. has_each pairs (pairs_of old) && z) (together v levels node count f fs g rest pairs h)
+      ∙ sym (and_assoc (has_each pairs (pairs_of old)) (fields_test v levels f g pairs) (rest_test v levels node count fs rest pairs))
+      ∙ ap (λ z. z && rest_test v levels node count fs rest pairs) (d.tested pairs);
 }
 
-pub nothing_left : (v : Versions) (levels : Levels) (count : ℕ) (left : List FieldRecord) (pairs : Pairs) → rest_test v levels count left no_fields pairs ≡ (length left == 0)
+pub nothing_left : (v : Versions) (levels : Levels) (node count : ℕ) (left : List FieldRecord) (pairs : Pairs) → rest_test v levels node count left no_fields pairs ≡ (length left == 0)
 unfolding keeps_fields
-nothing_left v levels count [] pairs = refl
-nothing_left v levels count (f ∷ fs) pairs = sym (test_is_false (suc (length fs)) 0 (λ h. omega (arith, h)))
+nothing_left v levels node count [] pairs = refl
+nothing_left v levels node count (f ∷ fs) pairs = sym (test_is_false (suc (length fs)) 0 (λ h. omega (arith, h)))
 
-one_field : (groups : ℕ → Shape) (f : FieldRecord) (fs : List FieldRecord) → member_count (fields_from groups (map field_of (f ∷ fs))) ≡ cond (not (f.discriminant_value == 65535)) (1 + member_count (fields_from groups (map field_of fs))) (member_count (fields_from groups (map field_of fs)))
-one_field groups f fs = by (f.discriminant_value == 65535)
-  where
-    by : (b : Bool) → member_count (field (string_bytes f.name) (if b then None else Some f.discriminant_value) (field_body groups (kind_of_field f.body)) (fields_from groups (map field_of fs))) ≡ cond (not b) (1 + member_count (fields_from groups (map field_of fs))) (member_count (fields_from groups (map field_of fs)))
-    by true = refl
-    by false = omega arith
+module _ (groups : ℕ → Shape) (rs : List Renaming) (node : ℕ) where
+  abbrev kept : List FieldRecord → Fields
+  kept fs = fields_from groups (map (kept_field rs node) fs)
 
-pub count_is : (groups : ℕ → Shape) (fs : List FieldRecord) → member_count (fields_from groups (map field_of fs)) ≡ count_by (λ f. not (f.discriminant_value == 65535)) fs
-count_is groups fs = is_count_by (λ (gs : List FieldRecord). member_count (fields_from groups (map field_of gs))) (λ f. not (f.discriminant_value == 65535)) refl (λ x xs. one_field groups x xs) fs
+  one_field : (f : FieldRecord) (fs : List FieldRecord) → member_count (kept (f ∷ fs)) ≡ cond (not (f.discriminant_value == 65535)) (1 + member_count (kept fs)) (member_count (kept fs))
+  one_field f fs = by (f.discriminant_value == 65535)
+    where
+      by : (b : Bool) → member_count (field (partner_name rs node (string_bytes f.name)) (if b then None else Some f.discriminant_value) (field_body groups (kind_of_field f.body)) (kept fs)) ≡ cond (not b) (1 + member_count (kept fs)) (member_count (kept fs))
+      by true = refl
+      by false = omega arith
+
+  pub count_is : (fs : List FieldRecord) → member_count (kept fs) ≡ count_by (λ f. not (f.discriminant_value == 65535)) fs
+  count_is fs = is_count_by (λ (gs : List FieldRecord). member_count (kept gs)) (λ f. not (f.discriminant_value == 65535)) refl one_field fs
 
 -- ---- structs and groups
 
-keeps_nothing : (v : Versions) (pairs : Pairs) (g : Shape) → keeps (schema_in v.older) (schema_in v.newer) pairs no_shape g ≡ true
+keeps_nothing : (v : Versions) (pairs : Pairs) (g : Shape) → keeps (older_schema v) (schema_in v.newer) pairs no_shape g ≡ true
 unfolding keeps
 keeps_nothing v pairs (shape nid w p u fs) = both_true (both_true (both_true (le-leb 0 w (omega arith)) (le-leb 0 p (omega arith))) refl) (new_fields fs)
   where
-    new_fields : (fs : Fields) → keeps_fields (schema_in v.older) (schema_in v.newer) pairs 0 no_fields fs ≡ true
+    new_fields : (fs : Fields) → keeps_fields (older_schema v) (schema_in v.newer) pairs 0 no_fields fs ≡ true
     new_fields no_fields = refl
     new_fields (field l None b fs) = new_fields fs
     new_fields (field l (Some m) b fs) = both_true (le-leb 0 m (omega arith)) (new_fields fs)
 
 pub nothing_to_keep : (v : Versions) (levels : Levels) (r : Reached) (i j : ℕ) → shape_in (nodes_in v.older) levels.older i ≡ no_shape → IsSoundFor v r → Decides v r r true (keeps_at v levels i j)
-nothing_to_keep v levels r i j h s = decides_here v r true _ s (λ pairs. ap (λ (g : Shape). keeps (schema_in v.older) (schema_in v.newer) pairs g (shape_in (nodes_in v.newer) levels.newer j)) h ∙ keeps_nothing v pairs (shape_in (nodes_in v.newer) levels.newer j))
+nothing_to_keep v levels r i j h s = decides_here v r true _ s (λ pairs. ap (λ (g : Shape). keeps (older_schema v) (schema_in v.newer) pairs (renamed_shape (names_in v.names) g) (shape_in (nodes_in v.newer) levels.newer j)) h ∙ keeps_nothing v pairs (shape_in (nodes_in v.newer) levels.newer j))
 
 module _ (v : Versions) (levels below : Levels) (i j : ℕ) (a b : Holder)
     (older : shape_in (nodes_in v.older) levels.older i ≡ shape_by (λ g. shape_in (nodes_in v.older) below.older g) a)
     (newer : shape_in (nodes_in v.newer) levels.newer j ≡ shape_by (λ g. shape_in (nodes_in v.newer) below.newer g) b) where
-  holders : (pairs : Pairs) → keeps_at v levels i j pairs ≡ (has_room a b && rest_test v below (member_count (older_fields v below a.fields.now)) a.fields.now (newer_fields v below b.fields.now) pairs)
+  holders : (pairs : Pairs) → keeps_at v levels i j pairs ≡ (has_room a b && rest_test v below a.id (member_count (older_fields v below a.id a.fields.now)) a.fields.now (newer_fields v below b.fields.now) pairs)
   unfolding keeps
   holders pairs =
-      ap (λ (g : Shape). keeps (schema_in v.older) (schema_in v.newer) pairs g (shape_in (nodes_in v.newer) levels.newer j)) older
-      ∙ ap (λ (g : Shape). keeps (schema_in v.older) (schema_in v.newer) pairs (shape_by (λ h. shape_in (nodes_in v.older) below.older h) a) g) newer
+      ap (λ (g : Shape). keeps (older_schema v) (schema_in v.newer) pairs g (shape_in (nodes_in v.newer) levels.newer j)) (ap (renamed_shape (names_in v.names)) older ∙ renamed_holder (names_in v.names) (λ g. shape_in (nodes_in v.older) below.older g) a)
+      ∙ ap (λ (g : Shape). keeps (older_schema v) (schema_in v.newer) pairs (kept_holder (names_in v.names) (λ h. shape_in (nodes_in v.older) below.older h) a) g) newer
 
   pub no_room : (r : Reached) → has_room a b ≡ false → IsSoundFor v r → Decides v r r false (keeps_at v levels i j)
-  no_room r h s = decides_here v r false _ s (λ pairs. holders pairs ∙ ap (λ z. z && rest_test v below (member_count (older_fields v below a.fields.now)) a.fields.now (newer_fields v below b.fields.now) pairs) h)
+  no_room r h s = decides_here v r false _ s (λ pairs. holders pairs ∙ ap (λ z. z && rest_test v below a.id (member_count (older_fields v below a.id a.fields.now)) a.fields.now (newer_fields v below b.fields.now) pairs) h)
 
-  pub with_room : (old new : Reached) (ok : Bool) → has_room a b ≡ true → Decides v old new ok (rest_test v below (member_count (older_fields v below a.fields.now)) a.fields.now (newer_fields v below b.fields.now)) → Decides v old new ok (keeps_at v levels i j)
-  with_room old new ok h d = decides_same v old new ok _ _ d (λ pairs. holders pairs ∙ ap (λ z. z && rest_test v below (member_count (older_fields v below a.fields.now)) a.fields.now (newer_fields v below b.fields.now) pairs) h)
+  pub with_room : (old new : Reached) (ok : Bool) → has_room a b ≡ true → Decides v old new ok (rest_test v below a.id (member_count (older_fields v below a.id a.fields.now)) a.fields.now (newer_fields v below b.fields.now)) → Decides v old new ok (keeps_at v levels i j)
+  with_room old new ok h d = decides_same v old new ok _ _ d (λ pairs. holders pairs ∙ ap (λ z. z && rest_test v below a.id (member_count (older_fields v below a.id a.fields.now)) a.fields.now (newer_fields v below b.fields.now) pairs) h)
 
 -- ---- what patterns bind
 
@@ -225,19 +232,19 @@ rest_sound left f fs e h = and_right (is_sound_kind (kind_of_field f.body)) (are
 
 -- ---- the fields in turn
 
-module _ (v : Versions) (levels : Levels) (start old : Reached) (whole : Pairs → Bool) (count : ℕ) (left rest : List FieldRecord)
+module _ (v : Versions) (levels : Levels) (start old : Reached) (whole : Pairs → Bool) (node count : ℕ) (left rest : List FieldRecord)
     (grows : IsFront (pairs_of start) (pairs_of old))
-    (tested : (pairs : Pairs) → (has_each pairs (pairs_of start) && whole pairs) ≡ (has_each pairs (pairs_of old) && rest_test v levels count left (newer_fields v levels rest) pairs)) where
-  pub fields_stop : (new : Reached) (next : FieldRecord) (more : List FieldRecord) → rest ≡ next ∷ more → Moves v levels old new count left next None → Decides v start new false whole
+    (tested : (pairs : Pairs) → (has_each pairs (pairs_of start) && whole pairs) ≡ (has_each pairs (pairs_of old) && rest_test v levels node count left (newer_fields v levels rest) pairs)) where
+  pub fields_stop : (new : Reached) (next : FieldRecord) (more : List FieldRecord) → rest ≡ next ∷ more → Moves v levels old new node count left next None → Decides v start new false whole
   fields_stop new next more e m = record {
     sound = m.sound;
     grows = front_of_front (pairs_of start) (pairs_of old) (pairs_of new) grows m.grows;
-    tested = λ pairs. tested pairs ∙ ap (λ (xs : List FieldRecord). has_each pairs (pairs_of old) && rest_test v levels count left (newer_fields v levels xs) pairs) e ∙ m.tested pairs (newer_fields v levels more);
+    tested = λ pairs. tested pairs ∙ ap (λ (xs : List FieldRecord). has_each pairs (pairs_of old) && rest_test v levels node count left (newer_fields v levels xs) pairs) e ∙ m.tested pairs (newer_fields v levels more);
   }
 
-  pub fields_go : (new : Reached) (next : FieldRecord) (more others : List FieldRecord) → rest ≡ next ∷ more → Moves v levels old new count left next (Some others)
-      → (pairs : Pairs) → (has_each pairs (pairs_of start) && whole pairs) ≡ (has_each pairs (pairs_of new) && rest_test v levels count others (newer_fields v levels more) pairs)
-  fields_go new next more others e m pairs = tested pairs ∙ ap (λ (xs : List FieldRecord). has_each pairs (pairs_of old) && rest_test v levels count left (newer_fields v levels xs) pairs) e ∙ m.tested pairs (newer_fields v levels more)
+  pub fields_go : (new : Reached) (next : FieldRecord) (more others : List FieldRecord) → rest ≡ next ∷ more → Moves v levels old new node count left next (Some others)
+      → (pairs : Pairs) → (has_each pairs (pairs_of start) && whole pairs) ≡ (has_each pairs (pairs_of new) && rest_test v levels node count others (newer_fields v levels more) pairs)
+  fields_go new next more others e m pairs = tested pairs ∙ ap (λ (xs : List FieldRecord). has_each pairs (pairs_of old) && rest_test v levels node count left (newer_fields v levels xs) pairs) e ∙ m.tested pairs (newer_fields v levels more)
 
   pub fields_end : IsSoundFor v old → rest ≡ [] → Decides v start old (length left == 0) whole
   fields_end s e = record {
@@ -245,7 +252,7 @@ module _ (v : Versions) (levels : Levels) (start old : Reached) (whole : Pairs �
     grows = grows;
     tested = λ pairs.
         tested pairs
-        ∙ ap (λ (xs : List FieldRecord). has_each pairs (pairs_of old) && rest_test v levels count left (newer_fields v levels xs) pairs) e
-        ∙ ap (λ z. has_each pairs (pairs_of old) && z) (nothing_left v levels count left pairs)
+        ∙ ap (λ (xs : List FieldRecord). has_each pairs (pairs_of old) && rest_test v levels node count left (newer_fields v levels xs) pairs) e
+        ∙ ap (λ z. has_each pairs (pairs_of old) && z) (nothing_left v levels node count left pairs)
         ∙ and_comm (has_each pairs (pairs_of old)) (length left == 0);
   }

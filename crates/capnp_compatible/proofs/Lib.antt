@@ -1,4 +1,7 @@
 mod Relations
+mod NamedFields
+mod RenamedHolders
+mod RenamedLists
 mod Scans
 mod EqualBytes
 mod EqualDefaults

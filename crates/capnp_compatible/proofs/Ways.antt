@@ -1,7 +1,7 @@
 -- Walks along the paths of calls.
 use Rattle.std.proofs.Common.{◌≡◌, ℕ, zero, suc, ◌-◌, ◌<◌, Bool, true, false, if◌then◌else◌, Option, Some, None, is_some, List, [], ◌∷◌, map, string_bytes, refl, sym, ◌∙◌, ap, arith}
 use Rattle.std.specs.Str.{bytes_eq}
-use Rattle.capnp_model.specs.Schemas.{Ty, void, plain, text, blob, untyped, interface, struct, list, lists_of, Value, Shape, Fields, pointer_slot, group_slot, Schema}
+use Rattle.capnp_model.specs.Schemas.{id_of_shape, Ty, void, plain, text, blob, untyped, interface, struct, list, lists_of, Value, Shape, Fields, pointer_slot, group_slot, Schema}
 use Rattle.capnp_model.specs.Accepted.{slot_body, field_body, fields_from}
 use Rattle.capnp_model.specs.Printing.{fields_in}
 use Rattle.capnp_model.specs.Steps.{Target, no_target, target, target_if, target_of}
@@ -10,21 +10,8 @@ use Rattle.capnp_model.specs.Admitted.{is_group_write, is_set, is_struct_type, A
 use Rattle.capnp_records.specs.NodeViews.{member_of, kind_of_field, field_of}
 use Rattle.capnp_records.specs.declared.node.FieldRecord.{FieldRecord}
 use Rattle.capnp_calls.specs.CallViews.{verb_of}
+use Rattle.capnp_model.specs.Partners.{Renaming, partner_name}
 use Rattle.capnp_compatible.specs.Ways.{first_named, struct_id_in, element_in, writes_group, sets}
-
--- what a name finds among fields
-pub target_named : (groups : ℕ → Shape) (n : List ℕ) (fs : List FieldRecord) → target_of n (fields_from groups (map field_of fs))
-    ≡ elim (first_named n fs) [ None ↦ no_target | Some f ↦ target (member_of f.discriminant_value) (field_body groups (kind_of_field f.body)) ]
-target_named groups n [] = refl
-target_named groups n (f ∷ fs) = by (bytes_eq (string_bytes f.name) n) (target_named groups n fs)
-  where
-    found : Option FieldRecord → Target
-    found o = elim o as (λ (x : Option FieldRecord). Target) [ None ↦ no_target | Some f ↦ target (member_of f.discriminant_value) (field_body groups (kind_of_field f.body)) ]
-
-    by : (b : Bool) → target_of n (fields_from groups (map field_of fs)) ≡ found (first_named n fs)
-        → target_if b (target (member_of f.discriminant_value) (field_body groups (kind_of_field f.body))) (target_of n (fields_from groups (map field_of fs))) ≡ found (if b then Some f else first_named n fs)
-    by true h = refl
-    by false h = h
 
 pub writes_verb : (w : ModelVerb) → writes_group (verb_of w) ≡ is_group_write w
 writes_verb get = refl
@@ -50,9 +37,9 @@ struct_type_is interface = refl
 struct_type_is (struct i) = refl
 struct_type_is (list t) = refl
 
-module _ (o n : Schema) where
-  pub name_into_type : (l : List ℕ) (t u : Ty) (go : At → Bool) → into_type o n (name l) t u go
-      ≡ elim (struct_id_in t) [ None ↦ true | Some i ↦ elim (struct_id_in u) as (λ (x : Option ℕ). Bool) [ None ↦ true | Some j ↦ into_fields l (fields_in (o.shape_of i)) (fields_in (n.shape_of j)) go ] ]
+module _ (rs : List Renaming) (o n : Schema) where
+  pub name_into_type : (l : List ℕ) (t u : Ty) (go : At → Bool) → into_type rs o n (name l) t u go
+      ≡ elim (struct_id_in t) [ None ↦ true | Some i ↦ elim (struct_id_in u) as (λ (x : Option ℕ). Bool) [ None ↦ true | Some j ↦ into_fields rs (id_of_shape (o.shape_of i)) l (fields_in (o.shape_of i)) (fields_in (n.shape_of j)) go ] ]
   name_into_type l void void go = refl
   name_into_type l void (plain pb) go = refl
   name_into_type l void text go = refl
@@ -118,7 +105,7 @@ module _ (o n : Schema) where
   name_into_type l (list t) (struct ib) go = refl
   name_into_type l (list t) (list tb) go = refl
 
-  pub index_into_type : (k : ℕ) (t u : Ty) (go : At → Bool) → into_type o n (index k) t u go
+  pub index_into_type : (k : ℕ) (t u : Ty) (go : At → Bool) → into_type rs o n (index k) t u go
       ≡ elim (element_in t) [ None ↦ true | Some a ↦ elim (element_in u) as (λ (x : Option Ty). Bool) [ None ↦ true | Some b ↦ go (at_element a b) ] ]
   index_into_type k void void go = refl
   index_into_type k void (plain pb) go = refl
@@ -186,7 +173,7 @@ module _ (o n : Schema) where
   index_into_type k (list t) (list tb) go = refl
 
   -- slots are told by their types
-  slots_end : (w : ModelVerb) (a b : ℕ) (t u : Ty) (d e : Option Value) → is_admitted_end w (at_body (slot_body a t d) (slot_body b u e)) ≡ true
+  slots_end : (w : ModelVerb) (a b : ℕ) (t u : Ty) (d e : Option Value) → is_admitted_end rs w (at_body (slot_body a t d) (slot_body b u e)) ≡ true
   slots_end w a b void u d e = refl
   slots_end w a b (plain p) u d e = refl
   slots_end w a b text u d e = refl
@@ -196,7 +183,7 @@ module _ (o n : Schema) where
   slots_end w a b (struct i) u d e = refl
   slots_end w a b (list t) u d e = refl
 
-  slots_step : (st : Step) (a b : ℕ) (t u : Ty) (d e : Option Value) (go : At → Bool) → into_at o n st (at_body (slot_body a t d) (slot_body b u e)) go ≡ into_type o n st t u go
+  slots_step : (st : Step) (a b : ℕ) (t u : Ty) (d e : Option Value) (go : At → Bool) → into_at rs o n st (at_body (slot_body a t d) (slot_body b u e)) go ≡ into_type rs o n st t u go
   slots_step (name l) a b void void d e go = refl
   slots_step (name l) a b void (plain pb) d e go = refl
   slots_step (name l) a b void text d e go = refl
@@ -326,13 +313,13 @@ module _ (o n : Schema) where
   slots_step (index k) a b (list t) (struct ib) d e go = refl
   slots_step (index k) a b (list t) (list tb) d e go = refl
 
-  pub slots_go : (path : List Step) (w : ModelVerb) (a b : ℕ) (t u : Ty) (d e : Option Value) → is_admitted_from o n path w (at_body (slot_body a t d) (slot_body b u e)) ≡ is_admitted_from o n path w (at_body (pointer_slot 0 t None) (pointer_slot 0 u None))
+  pub slots_go : (path : List Step) (w : ModelVerb) (a b : ℕ) (t u : Ty) (d e : Option Value) → is_admitted_from rs o n path w (at_body (slot_body a t d) (slot_body b u e)) ≡ is_admitted_from rs o n path w (at_body (pointer_slot 0 t None) (pointer_slot 0 u None))
   unfolding is_admitted_from
   slots_go [] w a b t u d e = slots_end w a b t u d e
-  slots_go ((name l) ∷ path) w a b t u d e = slots_step (name l) a b t u d e (is_admitted_from o n path w)
-  slots_go ((index k) ∷ path) w a b t u d e = slots_step (index k) a b t u d e (is_admitted_from o n path w)
+  slots_go ((name l) ∷ path) w a b t u d e = slots_step (name l) a b t u d e (is_admitted_from rs o n path w)
+  slots_go ((index k) ∷ path) w a b t u d e = slots_step (index k) a b t u d e (is_admitted_from rs o n path w)
 
-  pub slot_group_go : (path : List Step) (w : ModelVerb) (a : ℕ) (t : Ty) (d : Option Value) (g : Shape) → is_admitted_from o n path w (at_body (slot_body a t d) (group_slot g)) ≡ is_admitted_from o n path w nowhere
+  pub slot_group_go : (path : List Step) (w : ModelVerb) (a : ℕ) (t : Ty) (d : Option Value) (g : Shape) → is_admitted_from rs o n path w (at_body (slot_body a t d) (group_slot g)) ≡ is_admitted_from rs o n path w nowhere
   unfolding is_admitted_from
   slot_group_go [] w a void d g = refl
   slot_group_go [] w a (plain p) d g = refl
@@ -359,7 +346,7 @@ module _ (o n : Schema) where
   slot_group_go ((name l) ∷ path) w a (list t) d g = refl
   slot_group_go ((index j) ∷ path) w a (list t) d g = refl
 
-  pub group_slot_go : (path : List Step) (w : ModelVerb) (g : Shape) (b : ℕ) (u : Ty) (e : Option Value) → is_admitted_from o n path w (at_body (group_slot g) (slot_body b u e)) ≡ is_admitted_from o n path w nowhere
+  pub group_slot_go : (path : List Step) (w : ModelVerb) (g : Shape) (b : ℕ) (u : Ty) (e : Option Value) → is_admitted_from rs o n path w (at_body (group_slot g) (slot_body b u e)) ≡ is_admitted_from rs o n path w nowhere
   unfolding is_admitted_from
   group_slot_go [] w g b void e = refl
   group_slot_go [] w g b (plain p) e = refl
@@ -386,16 +373,16 @@ module _ (o n : Schema) where
   group_slot_go ((name l) ∷ path) w g b (list t) e = refl
   group_slot_go ((index j) ∷ path) w g b (list t) e = refl
 
-  pub one_step : (st : Step) (path : List Step) (w : ModelVerb) (a : At) → is_admitted_from o n (st ∷ path) w a ≡ into_at o n st a (is_admitted_from o n path w)
+  pub one_step : (st : Step) (path : List Step) (w : ModelVerb) (a : At) → is_admitted_from rs o n (st ∷ path) w a ≡ into_at rs o n st a (is_admitted_from rs o n path w)
   unfolding is_admitted_from
   one_step st path w a = refl
 
-  pub no_step : (w : ModelVerb) (a : At) → is_admitted_from o n [] w a ≡ is_admitted_end w a
+  pub no_step : (w : ModelVerb) (a : At) → is_admitted_from rs o n [] w a ≡ is_admitted_end rs w a
   unfolding is_admitted_from
   no_step w a = refl
 
   -- a name, by what it finds in both versions
-  pub into_found : (l : List ℕ) (fs fs' : Fields) (go : At → Bool) (s t : Target) → target_of l fs ≡ s → target_of l fs' ≡ t
-      → into_fields l fs fs' go ≡ elim s [ no_target ↦ false | target m b ↦ elim t as (λ (x : Target). Bool) [ no_target ↦ go nowhere | target m' b' ↦ go (at_body b b') ] ]
-  into_found l fs fs' go s t h k = ap (λ (x : Target). elim x as (λ (y : Target). Bool) [ no_target ↦ false | target m b ↦ elim (target_of l fs') as (λ (z : Target). Bool) [ no_target ↦ go nowhere | target m' b' ↦ go (at_body b b') ] ]) h
+  pub into_found : (id : ℕ) (l : List ℕ) (fs fs' : Fields) (go : At → Bool) (s t : Target) → target_of l fs ≡ s → target_of (partner_name rs id l) fs' ≡ t
+      → into_fields rs id l fs fs' go ≡ elim s [ no_target ↦ false | target m b ↦ elim t as (λ (x : Target). Bool) [ no_target ↦ go nowhere | target m' b' ↦ go (at_body b b') ] ]
+  into_found id l fs fs' go s t h k = ap (λ (x : Target). elim x as (λ (y : Target). Bool) [ no_target ↦ false | target m b ↦ elim (target_of (partner_name rs id l) fs') as (λ (z : Target). Bool) [ no_target ↦ go nowhere | target m' b' ↦ go (at_body b b') ] ]) h
       ∙ ap (λ (x : Target). elim s as (λ (y : Target). Bool) [ no_target ↦ false | target m b ↦ elim x as (λ (z : Target). Bool) [ no_target ↦ go nowhere | target m' b' ↦ go (at_body b b') ] ]) k

@@ -2,6 +2,7 @@ pub mod Pairs
 pub mod Types
 pub mod Defaults
 pub mod Holders
+pub mod Renamed
 pub mod Walks
 pub mod Ways
 pub mod Roots
@@ -9,3 +10,4 @@ pub use Rattle.capnp_model.specs.Schemas
 pub use Rattle.capnp_model.specs.Accepted
 pub use Rattle.capnp_model.specs.Compatible
 pub use Rattle.capnp_model.specs.Admitted
+pub use Rattle.capnp_model.specs.Partners

@@ -2,7 +2,8 @@
 use Rattle.std.specs.Prelude.{ℕ, ◌≡◌, Bool, true, false, not, ◌&&◌, nat_le, Option, Some, None, List, [], ◌∷◌, map, length, string_bytes}
 use Rattle.std.specs.List.{list_all}
 use Rattle.std.specs.Str.{bytes_eq}
-use Rattle.capnp_model.specs.Schemas.{Fields, field, Body}
+use Rattle.capnp_model.specs.Schemas.{Field, Shape, Fields, field, Body, Schema}
+use Rattle.capnp_model.specs.Partners.{Renaming, partner_name, renamed_shape, renamed}
 use Rattle.capnp_model.specs.Accepted.{shape_in, field_body, fields_from}
 use Rattle.capnp_model.specs.Compatible.{Pairs, has_pair, keeps_union, keeps, keeps_fields}
 use Rattle.capnp_records.specs.NodeViews.{field_of, member_of, kind_of_field}
@@ -13,16 +14,22 @@ use Rattle.capnp_compatible.specs.declared.nodes.Holder.{Holder}
 use Rattle.capnp_compatible.specs.declared.keeps.Versions.{Versions}
 use Rattle.capnp_compatible.specs.declared.keeps.Levels.{Levels}
 use Rattle.capnp_compatible.specs.Holders.{nodes_in, schema_in, IsIndexed}
+use Rattle.capnp_compatible.specs.Renamed.{names_in, IsNamed}
 use Rattle.capnp_compatible.specs.Pairs.{has_each, pairs_of, IsSound, IsFront}
 
--- Both versions are indexed.
+-- Both versions are indexed, and the newer names are found.
 pub record AreIndexed (v : Versions) : Type 0 where
   pub older : IsIndexed v.older
   pub newer : IsIndexed v.newer
+  pub names : IsNamed v.names
+
+-- The older schema in the newer's words.
+abbrev pub older_schema : Versions → Schema
+older_schema v = renamed (names_in v.names) (schema_in v.older)
 
 -- What is reached is sound for the versions.
 abbrev pub IsSoundFor : Versions → Reached → Type 0
-IsSoundFor v r = IsSound (schema_in v.older) (schema_in v.newer) r
+IsSoundFor v r = IsSound (older_schema v) (schema_in v.newer) r
 
 -- The test holds just over those pairs that have all that are reached now, as far as they had all that were reached before.
 pub record Decides (v : Versions) (old new : Reached) (ok : Bool) (test : Pairs → Bool) : Type 0 where
@@ -30,13 +37,22 @@ pub record Decides (v : Versions) (old new : Reached) (ok : Bool) (test : Pairs 
   pub grows : IsFront (pairs_of old) (pairs_of new)
   pub tested : (pairs : Pairs) → (has_each pairs (pairs_of old) && test pairs) ≡ (ok && has_each pairs (pairs_of new))
 
+-- The shape of an older id in the newer's words, with so many levels of groups.
+abbrev pub kept_shape : Versions → Levels → ℕ → Shape
+kept_shape v levels i = renamed_shape (names_in v.names) (shape_in (nodes_in v.older) levels.older i)
+
 -- The newer struct or group of an id keeps the older, each with so many levels of groups.
 abbrev pub keeps_at : Versions → Levels → ℕ → ℕ → Pairs → Bool
-keeps_at v levels i j pairs = keeps (schema_in v.older) (schema_in v.newer) pairs (shape_in (nodes_in v.older) levels.older i) (shape_in (nodes_in v.newer) levels.newer j)
+keeps_at v levels i j pairs = keeps (older_schema v) (schema_in v.newer) pairs (kept_shape v levels i) (shape_in (nodes_in v.newer) levels.newer j)
 
--- Fields of the older version, with so many levels of groups.
-abbrev pub older_fields : Versions → Levels → List FieldRecord → Fields
-older_fields v levels fs = fields_from (λ g. shape_in (nodes_in v.older) levels.older g) (map field_of fs)
+-- A field of an older node by its partner's name.
+abbrev pub kept_field : List Renaming → ℕ → FieldRecord → Field
+kept_field rs node f =
+    let g = field_of f in record { name = partner_name rs node g.name; member = g.member; annotations = g.annotations; kind = g.kind }
+
+-- Fields of an older node in the newer's words.
+abbrev pub older_fields : Versions → Levels → ℕ → List FieldRecord → Fields
+older_fields v levels node fs = fields_from (λ g. kept_shape v levels g) (map (kept_field (names_in v.names) node) fs)
 
 -- Fields of the newer version.
 abbrev pub newer_fields : Versions → Levels → List FieldRecord → Fields
@@ -46,26 +62,30 @@ newer_fields v levels fs = fields_from (λ g. shape_in (nodes_in v.newer) levels
 abbrev pub older_body : Versions → Levels → FieldBody → Body
 older_body v levels b = field_body (λ g. shape_in (nodes_in v.older) levels.older g) (kind_of_field b)
 
+-- The same in the newer's words.
+abbrev pub kept_body : Versions → Levels → FieldBody → Body
+kept_body v levels b = field_body (λ g. kept_shape v levels g) (kind_of_field b)
+
 -- What a field of the newer version is.
 abbrev pub newer_body : Versions → Levels → FieldBody → Body
 newer_body v levels b = field_body (λ g. shape_in (nodes_in v.newer) levels.newer g) (kind_of_field b)
 
--- The first of the fields has the name.
-abbrev pub begins_with : List FieldRecord → List ℕ → Bool
-begins_with [] n = false
-begins_with (f ∷ fs) n = bytes_eq (string_bytes f.name) n
+-- The partner of the first of a node's fields has the name.
+abbrev pub begins_with : List Renaming → ℕ → List FieldRecord → List ℕ → Bool
+begins_with rs node [] n = false
+begins_with rs node (f ∷ fs) n = bytes_eq (partner_name rs node (string_bytes f.name)) n
 
 -- The newer's sections are at least as large, and the union stays where it is.
 abbrev pub has_room : Holder → Holder → Bool
 has_room a b = nat_le a.words b.words && nat_le a.pointers b.pointers && keeps_union a.union b.union
 
 -- Behind a newer field these older ones are left, where it keeps the first of them or is new.
-pub record Moves (v : Versions) (levels : Levels) (old new : Reached) (count : ℕ) (left : List FieldRecord) (next : FieldRecord) (o : Option (List FieldRecord)) : Type 0 where
+pub record Moves (v : Versions) (levels : Levels) (old new : Reached) (node count : ℕ) (left : List FieldRecord) (next : FieldRecord) (o : Option (List FieldRecord)) : Type 0 where
   pub sound : IsSoundFor v new
   pub grows : IsFront (pairs_of old) (pairs_of new)
   pub tested : (pairs : Pairs) (rest : Fields)
-      → (has_each pairs (pairs_of old) && keeps_fields (schema_in v.older) (schema_in v.newer) pairs count (older_fields v levels left) (field (string_bytes next.name) (member_of next.discriminant_value) (newer_body v levels next.body) rest))
-      ≡ elim o [ None ↦ false | Some others ↦ has_each pairs (pairs_of new) && keeps_fields (schema_in v.older) (schema_in v.newer) pairs count (older_fields v levels others) rest ]
+      → (has_each pairs (pairs_of old) && keeps_fields (older_schema v) (schema_in v.newer) pairs count (older_fields v levels node left) (field (string_bytes next.name) (member_of next.discriminant_value) (newer_body v levels next.body) rest))
+      ≡ elim o [ None ↦ false | Some others ↦ has_each pairs (pairs_of new) && keeps_fields (older_schema v) (schema_in v.newer) pairs count (older_fields v levels node others) rest ]
 
 -- Each pair is kept, as far as the structs that it names are among the pairs.
 abbrev pub keeps_all : Versions → Levels → Pairs → Pairs → Bool

@@ -18,11 +18,17 @@ use Rattle.capnp_compatible.specs.declared.admitted.Next.{Next}
 use Rattle.capnp_compatible.specs.declared.admitted.Next.TheVariants as next
 use Rattle.capnp_compatible.specs.declared.admitted.Admission.{Admission}
 use Rattle.capnp_compatible.specs.declared.admitted.Admission.TheVariants as admission
+use Rattle.capnp_model.specs.Partners.{Renaming, partner_name}
+use Rattle.capnp_compatible.specs.Renamed.{names_in}
 use Rattle.capnp_compatible.specs.Holders.{nodes_in, schema_in}
 
 -- The first field of a name.
 abbrev pub first_named : List ℕ → List FieldRecord → Option FieldRecord
 first_named n fs = find (λ f. bytes_eq (string_bytes f.name) n) fs
+
+-- The first field of a node whose partner has a name.
+abbrev pub first_partner : List Renaming → ℕ → List ℕ → List FieldRecord → Option FieldRecord
+first_partner rs node n fs = find (λ f. bytes_eq (partner_name rs node (string_bytes f.name)) n) fs
 
 -- The struct that a type names.
 abbrev pub struct_id_in : Ty → Option ℕ
@@ -51,7 +57,7 @@ at_seen v at.Nowhere = nowhere
 
 -- A call along a path from where the walk stands is admitted.
 abbrev pub goes_on : Versions → List Step → ModelVerb → ModelAt → Bool
-goes_on v path w a = is_admitted_from (schema_in v.older) (schema_in v.newer) path w a
+goes_on v path w a = is_admitted_from (names_in v.names) (schema_in v.older) (schema_in v.newer) path w a
 
 -- A call along a path from what a step leads to is admitted.
 abbrev pub next_seen : Versions → Next → List Step → ModelVerb → Bool

@@ -1,22 +1,24 @@
 //! Admitted calls.
 
 ghost use Rattle.std.specs.Prelude.{◌≡◌, List, map, option_map, option_copied, IfOk, IfErr};
-ghost use Rattle.capnp_model.specs.Schemas.{struct, type_of};
+ghost use Rattle.capnp_model.specs.Schemas.{struct, id_of_shape, type_of};
 ghost use Rattle.capnp_model.specs.Printing.{fields_in};
 ghost use Rattle.capnp_model.specs.Calls.{Step as ModelStep, Verb as ModelVerb};
-ghost use Rattle.capnp_model.specs.Admitted.{at_body, is_admitted_end, into_fields, into_type, into_at, is_admitted};
+ghost use Rattle.capnp_model.specs.Admitted.{at_body, is_admitted_end, into_fields, into_type, into_at, is_admitted_with};
 ghost use Rattle.capnp_units.specs.declared.kinds.ErrorKind.TheVariants.{OutOfMemory};
 ghost use Rattle.capnp_records.specs.NodeViews.{type_record_of};
 ghost use Rattle.capnp_calls.specs.CallViews.{step_view, call_view};
 ghost use Rattle.capnp_compatible.specs.Holders.{schema_in};
 ghost use Rattle.capnp_compatible.specs.Walks.{AreIndexed, older_body, newer_body};
-ghost use Rattle.capnp_compatible.specs.Roots.{is_admitted_at};
+ghost use Rattle.capnp_compatible.specs.Roots.{is_admitted_at, is_admitted_with_at};
+ghost use Rattle.capnp_compatible.specs.Renamed.{names_in, renamings_of};
 ghost use Rattle.capnp_compatible.specs.declared.keeps.Versions.{Versions};
 ghost use Rattle.capnp_compatible.specs.Ways.{first_named, struct_id_in, element_in, older_shape, newer_shape, at_seen, goes_on, next_seen, writes_group, sets, IsAdmissionOf};
 
 use crate::compatible::versions;
 use crate::extended::is_extended;
 use crate::keeps::{Levels, Versions};
+use crate::renamings::Renamings;
 use crate::root::Root;
 use capnp_calls::{Call, Step, Verb};
 use capnp_records::node::{BaseType, FieldBody, FieldRecord, TypeRecord};
@@ -107,8 +109,9 @@ fn at_fields(levels: Levels, older: &FieldBody, newer: &FieldBody) -> At
 /// Where a name leads from a struct or a group.
 fn into_fields(versions: &Versions<'_>, levels: Levels, older: u64, newer: u64, name: &str) -> Next
     requires { AreIndexed versions.now }
-    ensures { (path : List ModelStep) (verb : ModelVerb)
-        → into_fields name.now (fields_in (older_shape versions.now levels older))
+    ensures { (path : List ModelStep) (verb : ModelVerb) → into_fields (names_in versions.now.names)
+        (id_of_shape (older_shape versions.now levels older)) name.now
+        (fields_in (older_shape versions.now levels older))
         (fields_in (newer_shape versions.now levels newer)) (goes_on versions.now path verb)
         ≡ next_seen versions.now result path verb }
 {
@@ -121,7 +124,7 @@ fn into_fields(versions: &Versions<'_>, levels: Levels, older: u64, newer: u64, 
     let Some(field) = find_field(a.fields, name) else {
         return Next::Unknown;
     };
-    match find_field(b.fields, name) {
+    match find_field(b.fields, versions.names.partner(a.id, name)) {
         None => Next::To(At::Nowhere),
         Some(other) => Next::To(at_fields(below, &field.body, &other.body)),
     }
@@ -158,8 +161,8 @@ fn element_of(ty: TypeRecord) -> Option<TypeRecord>
 fn into_type(versions: &Versions<'_>, step: &Step, older: TypeRecord, newer: TypeRecord) -> Next
     requires { AreIndexed versions.now }
     ensures { (path : List ModelStep) (verb : ModelVerb)
-        → into_type (schema_in versions.now.older) (schema_in versions.now.newer)
-        (step_view step.now) (type_of (type_record_of older)) (type_of (type_record_of newer))
+        → into_type (names_in versions.now.names) (schema_in versions.now.older)
+        (schema_in versions.now.newer) (step_view step.now) (type_of (type_record_of older)) (type_of (type_record_of newer))
         (goes_on versions.now path verb) ≡ next_seen versions.now result path verb }
 {
     match step {
@@ -191,8 +194,8 @@ fn into_type(versions: &Versions<'_>, step: &Step, older: TypeRecord, newer: Typ
 fn into_at(versions: &Versions<'_>, step: &Step, at: At) -> Next
     requires { AreIndexed versions.now }
     ensures { (path : List ModelStep) (verb : ModelVerb)
-        → into_at (schema_in versions.now.older) (schema_in versions.now.newer)
-        (step_view step.now) (at_seen versions.now at) (goes_on versions.now path verb)
+        → into_at (names_in versions.now.names) (schema_in versions.now.older)
+        (schema_in versions.now.newer) (step_view step.now) (at_seen versions.now at) (goes_on versions.now path verb)
         ≡ next_seen versions.now result path verb }
 {
     match at {
@@ -232,7 +235,8 @@ fn is_admitted_end(
 ) -> std::result::Result<bool, AllocError>
     requires { AreIndexed versions.now }
     ensures { IfOk result (λ b.
-        b ≡ is_admitted_end (call_view call.now).verb (at_seen versions.now at)) }
+        b ≡ is_admitted_end (names_in versions.now.names) (call_view call.now).verb
+        (at_seen versions.now at)) }
 {
     match at {
         At::Group {
@@ -260,8 +264,8 @@ fn is_admitted(
 ) -> std::result::Result<bool, AllocError>
     requires { AreIndexed versions.now }
     ensures { IfOk result (λ b.
-        b ≡ is_admitted (schema_in versions.now.older) (schema_in versions.now.newer) older newer
-        (call_view call.now)) }
+        b ≡ is_admitted_with (names_in versions.now.names) (schema_in versions.now.older)
+        (schema_in versions.now.newer) older newer (call_view call.now)) }
 {
     let mut at = At::Element {
         older: struct_type(older),
@@ -288,6 +292,30 @@ fn struct_type(id: u64) -> TypeRecord
     }
 }
 
+/// Whether each call under the older schema is admitted beside the newer, where fields are renamed: it goes by fields that the older
+/// has, writes no group as a whole that the newer extends, and sets no list element of struct type. Takes time linear in the steps
+/// of the calls times the fields of the structs on their ways, and of the groups that they write. `OutOfMemory` is the one error.
+pub fn admitted_with(
+    alloc: Global,
+    calls: &[Call],
+    older: Root<'_>,
+    newer: Root<'_>,
+    renamings: &Renamings,
+) -> Result<Admission>
+    ensures answer { IfOk result (IsAdmissionOf
+        (is_admitted_with_at (renamings_of renamings.now) older.entry newer.entry)
+        (map call_view calls.now)) }
+    ensures refusal { IfErr result (λ e. e.kind ≡ OutOfMemory) }
+{
+    let versions = versions(alloc, older, newer, renamings)?;
+    for i in 0..calls.len() {
+        if !is_admitted(alloc, &versions, older.id, newer.id, &calls[i])? {
+            return Ok(Admission::Refused(i + 1));
+        }
+    }
+    Ok(Admission::Admitted)
+}
+
 /// Whether each call under the older schema is admitted beside the newer: it goes by fields that the older has, writes no
 /// group as a whole that the newer extends, and sets no list element of struct type. Takes time linear in the steps of the
 /// calls times the fields of the structs on their ways, and of the groups that they write. `OutOfMemory` is the one error.
@@ -301,11 +329,5 @@ pub fn admitted(
         (IsAdmissionOf (is_admitted_at older.entry newer.entry) (map call_view calls.now)) }
     ensures refusal { IfErr result (λ e. e.kind ≡ OutOfMemory) }
 {
-    let versions = versions(alloc, older, newer)?;
-    for i in 0..calls.len() {
-        if !is_admitted(alloc, &versions, older.id, newer.id, &calls[i])? {
-            return Ok(Admission::Refused(i + 1));
-        }
-    }
-    Ok(Admission::Admitted)
+    admitted_with(alloc, calls, older, newer, &Renamings::none(alloc))
 }

@@ -5,12 +5,15 @@ ghost use Rattle.std.specs.Bool.{MatchBool};
 ghost use Rattle.capnp_units.specs.declared.kinds.ErrorKind.TheVariants.{OutOfMemory};
 ghost use Rattle.capnp_records.specs.Sets.{nodes_of};
 ghost use Rattle.capnp_compatible.specs.Holders.{nodes_in};
-ghost use Rattle.capnp_compatible.specs.Roots.{AreCompatible};
+ghost use Rattle.capnp_compatible.specs.Roots.{AreCompatible, AreCompatibleWith};
+ghost use Rattle.capnp_compatible.specs.Renamed.{names_in, renamings_of};
 ghost use Rattle.capnp_compatible.specs.Walks.{AreIndexed, IsKeptFrom, are_alike};
 
 use crate::keeps::{Levels, Versions, keeps};
+use crate::names::Names;
 use crate::nodes::Nodes;
 use crate::reached::Reached;
+use crate::renamings::Renamings;
 use crate::root::Root;
 use capnp_units::errors::Result;
 use std::alloc::{AllocError, Global};
@@ -20,16 +23,20 @@ pub(crate) fn versions<'a>(
     alloc: Global,
     older: Root<'a>,
     newer: Root<'a>,
+    renamings: &'a Renamings,
 ) -> std::result::Result<Versions<'a>, AllocError>
     ensures index { IfOk result AreIndexed }
     ensures older { IfOk result (λ v. nodes_in v.older ≡ nodes_of older.entry.set.now) }
     ensures newer { IfOk result (λ v. nodes_in v.newer ≡ nodes_of newer.entry.set.now) }
+    ensures names { IfOk result (λ v. names_in v.names ≡ renamings_of renamings.now) }
 {
     let first = Nodes::new(alloc, older.set.nodes())?;
     let second = Nodes::new(alloc, newer.set.nodes())?;
+    let names = Names::new(alloc, renamings.list())?;
     Ok(Versions {
         older: first,
         newer: second,
+        names,
     })
 }
 
@@ -67,6 +74,32 @@ fn all_kept(
     Err(AllocError)
 }
 
+/// Whether the newer schema is compatible with the older from the two roots on, where fields are renamed: each older field is
+/// kept by its partner, the newer field of its renamed name, and no two have one partner. A renaming of a node or field that isn't
+/// reached has no effect. Takes time linear in the pairs of structs that are reached times their fields. `OutOfMemory` is the one
+/// error.
+pub fn compatible_with(
+    alloc: Global,
+    older: Root<'_>,
+    newer: Root<'_>,
+    renamings: &Renamings,
+) -> Result<bool>
+    ensures answer { IfOk result (λ b.
+        MatchBool b (AreCompatibleWith (renamings_of renamings.now) older.entry newer.entry)
+        (AreCompatibleWith (renamings_of renamings.now) older.entry newer.entry → ⊥)) }
+    ensures refusal { IfErr result (λ e. e.kind ≡ OutOfMemory) }
+{
+    let versions = versions(alloc, older, newer, renamings)?;
+    if !are_alike(
+        versions.older.is_group(older.id),
+        versions.newer.is_group(newer.id),
+    ) {
+        return Ok(false);
+    }
+    let levels = versions.levels();
+    Ok(all_kept(alloc, &versions, levels, older.id, newer.id)?)
+}
+
 /// Whether the newer schema is compatible with the older from the two roots on: whatever is written under the older reads
 /// the same under the newer, field by field. Takes time linear in the pairs of structs that are reached times their fields.
 /// `OutOfMemory` is the one error.
@@ -76,13 +109,5 @@ pub fn compatible(alloc: Global, older: Root<'_>, newer: Root<'_>) -> Result<boo
         (AreCompatible older.entry newer.entry → ⊥)) }
     ensures refusal { IfErr result (λ e. e.kind ≡ OutOfMemory) }
 {
-    let versions = versions(alloc, older, newer)?;
-    if !are_alike(
-        versions.older.is_group(older.id),
-        versions.newer.is_group(newer.id),
-    ) {
-        return Ok(false);
-    }
-    let levels = versions.levels();
-    Ok(all_kept(alloc, &versions, levels, older.id, newer.id)?)
+    compatible_with(alloc, older, newer, &Renamings::none(alloc))
 }

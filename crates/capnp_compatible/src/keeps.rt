@@ -4,21 +4,25 @@ ghost use Rattle.std.specs.Prelude.{◌≡◌, ◌==◌, ◌&&◌, ◌∷◌, tr
 ghost use Rattle.std.specs.Str.{bytes_eq};
 ghost use Rattle.capnp_model.specs.Compatible.{same_option, member_count, is_new, keeps_union, keeps_fields, keeps_body};
 ghost use Rattle.capnp_records.specs.NodeViews.{kind_of_field, member_of};
+ghost use Rattle.capnp_model.specs.Partners.{partner_name};
+ghost use Rattle.capnp_compatible.specs.Renamed.{names_in, IsNamed};
 ghost use Rattle.capnp_compatible.specs.Holders.{schema_in, are_sound, is_sound_kind};
-ghost use Rattle.capnp_compatible.specs.Walks.{AreIndexed, IsSoundFor, Decides, Moves, begins_with, has_room, keeps_at, older_fields, newer_fields, older_body, newer_body};
+ghost use Rattle.capnp_compatible.specs.Walks.{AreIndexed, IsSoundFor, Decides, Moves, older_schema, begins_with, has_room, keeps_at, older_fields, newer_fields, kept_body, newer_body};
 
 use crate::defaults::same_default;
+use crate::names::Names;
 use crate::nodes::{Holder, Nodes};
 use crate::reached::Reached;
 use crate::types::related;
 use capnp_records::node::{FieldBody, FieldRecord, NO_DISCRIMINANT};
 use std::alloc::AllocError;
 
-/// The nodes of two versions.
+/// The nodes of two versions, and the newer names of the older's fields.
 #[derive(Drop)]
 pub(crate) struct Versions<'a> {
     pub(crate) older: Nodes<'a>,
     pub(crate) newer: Nodes<'a>,
+    pub(crate) names: Names<'a>,
 }
 
 impl<'a> Versions<'a> {
@@ -82,16 +86,25 @@ fn has_room(older: Holder<'_>, newer: Holder<'_>) -> bool
         && keeps_union(older.union, newer.union)
 }
 
-/// The first field, where it has the name, and those behind it.
-fn partner<'f>(left: &'f [FieldRecord], name: &str) -> Option<(&'f FieldRecord, &'f [FieldRecord])>
-    ensures missing { IfNone result (begins_with left.now name.now ≡ false) }
+/// The first of a node's fields, where its partner has the name, and those behind it.
+fn partner<'f>(
+    names: &Names<'_>,
+    node: u64,
+    left: &'f [FieldRecord],
+    name: &str,
+) -> Option<(&'f FieldRecord, &'f [FieldRecord])>
+    requires { IsNamed names.now }
+    ensures missing { IfNone result
+        (begins_with (names_in names.now) node left.now name.now ≡ false) }
     ensures found { IfSome result (λ p. left.now ≡ p.0.now ∷ p.1.now) }
-    ensures name { IfSome result (λ p. bytes_eq (string_bytes p.0.now.name) name.now ≡ true) }
+    ensures name { IfSome result (λ p.
+        bytes_eq (partner_name (names_in names.now) node (string_bytes p.0.now.name)) name.now
+        ≡ true) }
 {
     let [first, others @ ..] = left else {
         return None;
     };
-    if first.name.as_str() != name {
+    if names.partner(node, first.name.as_str()) != name {
         return None;
     }
     Some((first, others))
@@ -123,14 +136,15 @@ pub(crate) fn keeps(
         older: levels.older - 1,
         newer: levels.newer.saturating_sub(1),
     };
-    keeps_fields(versions, below, a.fields, b.fields, reached)
+    keeps_fields(versions, below, a.id, a.fields, b.fields, reached)
 }
 
-/// Whether the older's fields stand in the newer's order, each kept.
+/// Whether the fields of an older node stand in the newer's order, each kept.
 #[cycle(keeps)]
 fn keeps_fields(
     versions: &Versions<'_>,
     levels: Levels,
+    node: u64,
     older: &[FieldRecord],
     newer: &[FieldRecord],
     reached: &mut Reached,
@@ -141,16 +155,16 @@ fn keeps_fields(
     requires newer { are_sound newer.now ≡ true }
     ensures { IfOk result (λ b.
         Decides versions.now reached.old reached.new
-        b (λ pairs. keeps_fields (schema_in versions.now.older) (schema_in versions.now.newer) pairs
-        (member_count (older_fields versions.now levels older.now))
-        (older_fields versions.now levels older.now)
+        b (λ pairs. keeps_fields (older_schema versions.now) (schema_in versions.now.newer) pairs
+        (member_count (older_fields versions.now levels node older.now))
+        (older_fields versions.now levels node older.now)
         (newer_fields versions.now levels newer.now))) }
 {
     let count = member_count(older);
     let mut left = older;
     let mut rest = newer;
     while let [next, more @ ..] = rest {
-        let Some(others) = keeps_next(versions, levels, count, left, next, reached)? else {
+        let Some(others) = keeps_next(versions, levels, node, count, left, next, reached)? else {
             return Ok(false);
         };
         left = others;
@@ -164,6 +178,7 @@ fn keeps_fields(
 fn keeps_next<'f>(
     versions: &Versions<'_>,
     levels: Levels,
+    node: u64,
     count: usize,
     left: &'f [FieldRecord],
     next: &FieldRecord,
@@ -174,11 +189,11 @@ fn keeps_next<'f>(
     requires left { are_sound left.now ≡ true }
     requires next { is_sound_kind (kind_of_field next.now.body) ≡ true }
     ensures moves { IfOk result (λ o.
-        Moves versions.now levels reached.old reached.new count left.now next.now
+        Moves versions.now levels reached.old reached.new node count left.now next.now
         (option_copied o)) }
     ensures left { IfOk result (λ o. IfSome o (λ others. are_sound others.now ≡ true)) }
 {
-    let Some((first, others)) = partner(left, next.name.as_str()) else {
+    let Some((first, others)) = partner(&versions.names, node, left, next.name.as_str()) else {
         if is_new(count, next) {
             return Ok(Some(left));
         }
@@ -207,8 +222,8 @@ fn keeps_field(
         Decides versions.now reached.old reached.new
         b (λ pairs. same_option (member_of older.now.discriminant_value)
         (member_of newer.now.discriminant_value)
-        && keeps_body (schema_in versions.now.older) (schema_in versions.now.newer) pairs
-        (older_body versions.now levels older.now.body)
+        && keeps_body (older_schema versions.now) (schema_in versions.now.newer) pairs
+        (kept_body versions.now levels older.now.body)
         (newer_body versions.now levels newer.now.body))) }
 {
     if older.discriminant_value != newer.discriminant_value {
@@ -232,8 +247,8 @@ fn keeps_body(
     requires newer { is_sound_kind (kind_of_field newer.now) ≡ true }
     ensures { IfOk result (λ b.
         Decides versions.now reached.old reached.new
-        b (λ pairs. keeps_body (schema_in versions.now.older) (schema_in versions.now.newer) pairs
-        (older_body versions.now levels older.now) (newer_body versions.now levels newer.now))) }
+        b (λ pairs. keeps_body (older_schema versions.now) (schema_in versions.now.newer) pairs
+        (kept_body versions.now levels older.now) (newer_body versions.now levels newer.now))) }
 {
     match older {
         FieldBody::Slot {

@@ -6,7 +6,7 @@ ghost use Rattle.capnp_model.specs.Compatible.{related, same_names};
 ghost use Rattle.capnp_records.specs.NodeViews.{base_of, type_record_of};
 ghost use Rattle.capnp_compatible.specs.Types.{sort, bits, id_in};
 ghost use Rattle.capnp_compatible.specs.Holders.{schema_in};
-ghost use Rattle.capnp_compatible.specs.Walks.{AreIndexed, IsSoundFor, Decides};
+ghost use Rattle.capnp_compatible.specs.Walks.{AreIndexed, IsSoundFor, Decides, older_schema};
 
 use crate::keeps::Versions;
 use crate::reached::{Reached, same_names};
@@ -96,7 +96,7 @@ fn related_bases(
     ensures { IfOk result (λ b.
         Decides versions.now reached.old reached.new
         b (λ pairs.
-        related (schema_in versions.now.older) (schema_in versions.now.newer) pairs
+        related (older_schema versions.now) (schema_in versions.now.newer) pairs
         (base_type (base_of older)) (base_type (base_of newer)))) }
 {
     if !same_sort(older, newer) {
@@ -139,7 +139,7 @@ pub(crate) fn related(
     ensures { IfOk result (λ b.
         Decides versions.now reached.old reached.new
         b (λ pairs.
-        related (schema_in versions.now.older) (schema_in versions.now.newer) pairs
+        related (older_schema versions.now) (schema_in versions.now.newer) pairs
         (type_of (type_record_of older)) (type_of (type_record_of newer)))) }
 {
     if older.list_count != newer.list_count {

@@ -33,6 +33,7 @@ pub mod OlderReading
 pub mod Widening
 pub mod KeptRules
 pub mod KeptShapes
+pub mod NewerWords
 pub mod TrimmedAnswers
 pub mod FitCalls
 pub mod FineShapes

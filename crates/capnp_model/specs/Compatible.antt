@@ -4,7 +4,7 @@ use Rattle.std.specs.List.{list_all, list_any}
 use Rattle.std.specs.Str.{bytes_eq}
 use Rattle.capnp_model.specs.Trees.{Tree}
 use Rattle.capnp_model.specs.Encoding.{canonical_words}
-use Rattle.capnp_model.specs.Partners.{is_partner}
+use Rattle.capnp_model.specs.Partners.{Renaming, renamed, is_partner}
 use Rattle.capnp_model.specs.Schemas.{PlainType, bool, int, uint, «enum», Ty, void, plain, text, blob, untyped, interface, struct, list, Shape, shape, Fields, no_fields, field, Body, void_slot, plain_slot, pointer_slot, group_slot, Schema}
 
 -- Pairs of an older and a newer id.
@@ -104,3 +104,7 @@ pub record IsCompatible (o n : Schema) (older newer : ℕ) : Type 0 where
   pub same_sort : o.is_group older ≡ n.is_group newer
   pub has_roots : IsTrue (has_pair pairs older newer)
   pub are_kept : IsTrue (list_all (λ p. keeps o n pairs (o.shape_of p.0) (n.shape_of p.1)) pairs)
+
+-- Compatible with renamed fields: compatible with the older schema in the newer's words.
+abbrev pub IsCompatibleWith : List Renaming → Schema → Schema → ℕ → ℕ → Type 0
+IsCompatibleWith rs o n older newer = IsCompatible (renamed rs o) n older newer

@@ -194,16 +194,16 @@ module _ (o n : Schema) (pairs : Pairs) where
       (good : (id : ℕ) → IsGood o (o.shape_of id)) (good' : (id : ℕ) → IsGood n (n.shape_of id)) where
     abbrev FieldKept : List Step → Type 0
     FieldKept path =
-        (bits bits' : ℕ) (b b' : Body) → keeps_body o n pairs b b' ≡ true → is_admitted_from o n path verb (at_body b b') ≡ true → BodyWithin bits b → BodyWithin bits' b' → IsGoodBody o b → IsGoodBody n b' → FieldFollows o n verb path bits b b'
+        (bits bits' : ℕ) (b b' : Body) → keeps_body o n pairs b b' ≡ true → is_admitted_from [] o n path verb (at_body b b') ≡ true → BodyWithin bits b → BodyWithin bits' b' → IsGoodBody o b → IsGoodBody n b' → FieldFollows o n verb path bits b b'
 
     abbrev ElementKept : List Step → Type 0
-    ElementKept path = (ty ty' : Ty) → related o n pairs ty ty' ≡ true → is_admitted_from o n path verb (at_element ty ty') ≡ true → AllNarrow ty → ElementFollows o n verb path ty ty'
+    ElementKept path = (ty ty' : Ty) → related o n pairs ty ty' ≡ true → is_admitted_from [] o n path verb (at_element ty ty') ≡ true → AllNarrow ty → ElementFollows o n verb path ty ty'
 
     module _ (path : List Step) (fields : FieldKept path) (elements : ElementKept path) where
       abbrev go : At → Bool
-      go at = is_admitted_from o n path verb at
+      go at = is_admitted_from [] o n path verb at
 
-      name_kept : (l : List ℕ) (bits bits' : ℕ) (g g' : Shape) → keeps o n pairs g g' ≡ true → into_fields l (fields_in g) (fields_in g') go ≡ true → IsWithin bits g → IsWithin bits' g' → IsGood o g → IsGood n g'
+      name_kept : (l : List ℕ) (bits bits' : ℕ) (g g' : Shape) → keeps o n pairs g g' ≡ true → into_fields [] 0 l (fields_in g) (fields_in g') go ≡ true → IsWithin bits g → IsWithin bits' g' → IsGood o g → IsGood n g'
           → NameFollows o n verb (FieldFollows o n verb path) l bits g g'
       unfolding keeps
       name_kept l bits bits' (shape nid w p u fs) (shape nid' w' p' u' fs') h k x y good good' = λ m b m' b' e e'.
@@ -216,12 +216,12 @@ module _ (o n : Schema) (pairs : Pairs) where
           ∙ ap (λ (t : Target). elim t as (λ (z : Target). Bool) [ no_target ↦ go nowhere | target i' c' ↦ go (at_body b c') ]) e') ∙ k in
           (subst (λ z. SameMark bits u m u' z) both.0 (marks_same bits u u' m four.2 x.0 older.0), fields bits bits' b b' both.1 admitted older.1 newer.0 older.2 newer.1)
 
-      struct_kept : (l : List ℕ) (i j : ℕ) → has_pair pairs i j ≡ true → into_fields l (fields_in (o.shape_of i)) (fields_in (n.shape_of j)) go ≡ true
+      struct_kept : (l : List ℕ) (i j : ℕ) → has_pair pairs i j ≡ true → into_fields [] 0 l (fields_in (o.shape_of i)) (fields_in (n.shape_of j)) go ≡ true
           → NameFollows o n verb (FieldFollows o n verb path) l (64 * words_of_shape (o.shape_of i)) (o.shape_of i) (n.shape_of j) × HasWords o n verb (struct i) (struct j)
       struct_kept l i j h k =
           (name_kept l (64 * words_of_shape (o.shape_of i)) (64 * words_of_shape (n.shape_of j)) (o.shape_of i) (n.shape_of j) (closed i j h) k (within i) (within' j) (good i) (good' j), words_kept (o.shape_of i) (n.shape_of j) (closed i j h))
 
-      value_kept : (st : Step) (ty ty' : Ty) → related o n pairs ty ty' ≡ true → into_type o n st ty ty' go ≡ true → AllNarrow ty → ValueFollows o n verb st (FieldFollows o n verb path) (ElementFollows o n verb path) ty ty'
+      value_kept : (st : Step) (ty ty' : Ty) → related o n pairs ty ty' ≡ true → into_type [] o n st ty ty' go ≡ true → AllNarrow ty → ValueFollows o n verb st (FieldFollows o n verb path) (ElementFollows o n verb path) ty ty'
       value_kept (name l) (struct i) (struct j) h k x = struct_kept l i j h k
       value_kept (index i) (list ty) (list ty') h k x = (elements ty ty' h k x, has_words ty ty' h, narrow ty x)
         where
@@ -231,7 +231,7 @@ module _ (o n : Schema) (pairs : Pairs) where
       value_kept (name l) ty ty' h k x = tt
       value_kept (index i) ty ty' h k x = tt
 
-      pointer_kept : (st : Step) (i j : ℕ) (ty ty' : Ty) (d d' : Option Tree) (bits : ℕ) → keeps_body o n pairs (pointer_slot i ty d) (pointer_slot j ty' d') ≡ true → into_type o n st ty ty' go ≡ true → AllNarrow ty × FitsDefault d → AllNarrow ty' × FitsDefault d'
+      pointer_kept : (st : Step) (i j : ℕ) (ty ty' : Ty) (d d' : Option Tree) (bits : ℕ) → keeps_body o n pairs (pointer_slot i ty d) (pointer_slot j ty' d') ≡ true → into_type [] o n st ty ty' go ≡ true → AllNarrow ty × FitsDefault d → AllNarrow ty' × FitsDefault d'
           → PointerFollows o n verb st (FieldFollows o n verb path) (ElementFollows o n verb path) bits i j ty ty' d d'
       unfolding keeps
       pointer_kept st i j ty ty' d d' bits h k x y =
@@ -279,7 +279,7 @@ module _ (o n : Schema) (pairs : Pairs) where
       element-kept (index i ∷ path) = λ ty ty' h k x. value_kept path (field-kept path) (element-kept path) (index i) ty ty' h k x
 
     -- THE LAW
-    pub root-kept : (path : List Step) (l : List ℕ) (i j : ℕ) → has_pair pairs i j ≡ true → is_admitted_from o n (name l ∷ path) verb (at_element (struct i) (struct j)) ≡ true
+    pub root-kept : (path : List Step) (l : List ℕ) (i j : ℕ) → has_pair pairs i j ≡ true → is_admitted_from [] o n (name l ∷ path) verb (at_element (struct i) (struct j)) ≡ true
         → NameFollows o n verb (FieldFollows o n verb path) l (64 * words_of_shape (o.shape_of i)) (o.shape_of i) (n.shape_of j) × HasWords o n verb (struct i) (struct j)
     unfolding is_admitted_from
     root-kept path l i j h k = struct_kept path (field-kept path) (element-kept path) l i j h k

@@ -98,12 +98,12 @@ module _ (o n : Schema) (pairs : Pairs) (verb : Verb) (write : IsWrite verb) (cl
 
   abbrev FieldView : List Step → Type 0
   FieldView path =
-      (bits bits' : ℕ) (b b' : Body) → keeps_body o n pairs b b' ≡ true → is_admitted_from o n path verb (at_body b b') ≡ true → BodyWithin bits b → BodyWithin bits' b' → IsGoodBody o b → IsGoodBody n b' → (a : Bool) (size : Extent) (section : ℕ) (f : ℕ → Tree)
+      (bits bits' : ℕ) (b b' : Body) → keeps_body o n pairs b b' ≡ true → is_admitted_from [] o n path verb (at_body b b') ≡ true → BodyWithin bits b → BodyWithin bits' b' → IsGoodBody o b → IsGoodBody n b' → (a : Bool) (size : Extent) (section : ℕ) (f : ℕ → Tree)
       → let x : Reading = only_if a (body_of b' size section (kids_of n f)) in step_field o path verb b (project o (as_body b) x) ≡ outcome_map (project o (as_body b)) (step_field n path verb b' x)
 
   abbrev ElementView : List Step → Type 0
   ElementView path =
-      (ty ty' : Ty) → related o n pairs ty ty' ≡ true → is_admitted_from o n path verb (at_element ty ty') ≡ true → (size : Extent) (section : ℕ) (f : ℕ → Tree)
+      (ty ty' : Ty) → related o n pairs ty ty' ≡ true → is_admitted_from [] o n path verb (at_element ty ty') ≡ true → (size : Extent) (section : ℕ) (f : ℕ → Tree)
       → let x : Reading = element_as n ty' size section (kids_of n f) in step_element o path verb ty (project o (as_type ty null) x) ≡ outcome_map (project o (as_type ty null)) (step_element n path verb ty' x)
 
   plain_parts : (p q : PlainType) (at d at' d' : ℕ) → KeptBody o n R (plain_slot p at d) (plain_slot q at' d') → SamePlain p q × (d ≡ d')
@@ -132,14 +132,14 @@ module _ (o n : Schema) (pairs : Pairs) (verb : Verb) (write : IsWrite verb) (cl
 
   module _ (path : List Step) (fields : FieldView path) (elements : ElementView path) where
     abbrev go : At → Bool
-    go at = is_admitted_from o n path verb at
+    go at = is_admitted_from [] o n path verb at
 
     active_alike : (u u' m : Option ℕ) (size : Extent) (section : ℕ) → keeps_union u u' ≡ true → IsGoodMember u m → is_active m (discriminant u size section) ≡ is_active m (discriminant u' size section)
     active_alike u u' None size section h g = refl
     active_alike (Some a) u' (Some k) size section h g = ap (λ z. is_active (Some k) (discriminant z size section)) (option_is (Some a) u' h)
     active_alike None u' (Some k) size section h g = absurd g.0
 
-    name_view : (l : List ℕ) (bits bits' : ℕ) (g g' : Shape) → keeps o n pairs g g' ≡ true → into_fields l (fields_in g) (fields_in g') go ≡ true → IsWithin bits g → IsWithin bits' g' → IsGood o g → IsGood n g' → (size : Extent) (section : ℕ) (f : ℕ → Tree)
+    name_view : (l : List ℕ) (bits bits' : ℕ) (g g' : Shape) → keeps o n pairs g g' ≡ true → into_fields [] 0 l (fields_in g) (fields_in g') go ≡ true → IsWithin bits g → IsWithin bits' g' → IsGood o g → IsGood n g' → (size : Extent) (section : ℕ) (f : ℕ → Tree)
         → let r : Record = shape_record g' size section (kids_of n f) in
         on_name (step_field o path verb) l (fields_in g) (project_fields o (fields_in g) r) ≡ outcome_map (project_fields o (fields_in g)) (on_name (step_field n path verb) l (fields_in g') r)
     unfolding shape_record keeps
@@ -207,7 +207,7 @@ module _ (o n : Schema) (pairs : Pairs) (verb : Verb) (write : IsWrite verb) (cl
     abbrev elementN : Ty → Reading → Outcome Reading
     elementN = step_element n path verb
 
-    struct_name : (l : List ℕ) (i j : ℕ) (d : Tree) (z : Reading) → has_pair pairs i j ≡ true → into_fields l (fields_in (o.shape_of i)) (fields_in (n.shape_of j)) go ≡ true → SeenStruct n j z
+    struct_name : (l : List ℕ) (i j : ℕ) (d : Tree) (z : Reading) → has_pair pairs i j ≡ true → into_fields [] 0 l (fields_in (o.shape_of i)) (fields_in (n.shape_of j)) go ≡ true → SeenStruct n j z
         → through_value o (name l) fieldO elementO (struct i) (project o (as_type (struct i) d) z) ≡ outcome_map (project o (as_type (struct i) d)) (through_value n (name l) fieldN elementN (struct j) z)
     unfolding project
     struct_name l i j d z h k (seen_fault x) = refl
@@ -275,7 +275,7 @@ module _ (o n : Schema) (pairs : Pairs) (verb : Verb) (write : IsWrite verb) (cl
     no_index j ty ty' how z (related_struct r) h = refl
 
     -- an opened value
-    opened_step : (st : Step) (ty ty' : Ty) (d t : Tree) → related o n pairs ty ty' ≡ true → into_type o n st ty ty' go ≡ true
+    opened_step : (st : Step) (ty ty' : Ty) (d t : Tree) → related o n pairs ty ty' ≡ true → into_type [] o n st ty ty' go ≡ true
         → let z : Reading = opened n ty' d (read n t ty') in through_value o st fieldO elementO ty (project o (as_type ty d) z) ≡ outcome_map (project o (as_type ty d)) (through_value n st fieldN elementN ty' z)
     opened_step (name l) (struct i) (struct j) d t h k = struct_name l i j d _ h k (opened-struct-seen n j d t)
     opened_step (index i) (list a) (list b) d t h k = list_index i a b d _ h k (opened-list-seen n b d t)
@@ -295,7 +295,7 @@ module _ (o n : Schema) (pairs : Pairs) (verb : Verb) (write : IsWrite verb) (cl
     opened_step (index i) (struct j) ty' d t h k = no_index i (struct j) ty' (as_type (struct j) d) _ (related-pairs o n pairs (struct j) ty' h) (λ x e. cc e)
     opened_step st ty ty' d t h k = absurd (cc h)
 
-    value_step : (st : Step) (ty ty' : Ty) (d t : Tree) → related o n pairs ty ty' ≡ true → into_type o n st ty ty' go ≡ true
+    value_step : (st : Step) (ty ty' : Ty) (d t : Tree) → related o n pairs ty ty' ≡ true → into_type [] o n st ty ty' go ≡ true
         → through_value o st fieldO elementO ty (opened o ty d (project o (as_type ty d) (read n t ty'))) ≡ outcome_map (project o (as_type ty d)) (through_value n st fieldN elementN ty' (opened n ty' d (read n t ty')))
     value_step st ty ty' d t h k = ap (through_value o st fieldO elementO ty) (opened_view ty ty' d (read n t ty') (related-pairs o n pairs ty ty' h)) ∙ opened_step st ty ty' d t h k
 
@@ -328,7 +328,7 @@ module _ (o n : Schema) (pairs : Pairs) (verb : Verb) (write : IsWrite verb) (cl
     inactive_pointer (name l) i j ty ty' d d' = refl
     inactive_pointer (index x) i j ty ty' d d' = refl
 
-    pointer_step : (st : Step) (i j : ℕ) (ty ty' : Ty) (d d' : Option Tree) → keeps_body o n pairs (pointer_slot i ty d) (pointer_slot j ty' d') ≡ true → into_type o n st ty ty' go ≡ true → FitsDefault d → FitsDefault d' → (a : Bool) (f : ℕ → Tree)
+    pointer_step : (st : Step) (i j : ℕ) (ty ty' : Ty) (d d' : Option Tree) → keeps_body o n pairs (pointer_slot i ty d) (pointer_slot j ty' d') ≡ true → into_type [] o n st ty ty' go ≡ true → FitsDefault d → FitsDefault d' → (a : Bool) (f : ℕ → Tree)
         → let z : Reading = only_if a (read n (f j) ty') in through_field o st fieldO elementO (pointer_slot i ty d) (project o (as_type ty (default_or_null d)) z) ≡ outcome_map (project o (as_type ty (default_or_null d))) (through_field n st fieldN elementN (pointer_slot j ty' d') z)
     unfolding keeps project
     pointer_step st i j ty ty' d d' h k x y false f = inactive_pointer st i j ty ty' d d'
@@ -360,7 +360,7 @@ module _ (o n : Schema) (pairs : Pairs) (verb : Verb) (write : IsWrite verb) (cl
 
     -- ---- through an element
 
-    element_step : (st : Step) (ty ty' : Ty) → related o n pairs ty ty' ≡ true → into_type o n st ty ty' go ≡ true → (size : Extent) (section : ℕ) (f : ℕ → Tree)
+    element_step : (st : Step) (ty ty' : Ty) → related o n pairs ty ty' ≡ true → into_type [] o n st ty ty' go ≡ true → (size : Extent) (section : ℕ) (f : ℕ → Tree)
         → let x : Reading = element_as n ty' size section (kids_of n f) in through_value o st fieldO elementO ty (opened o ty null (project o (as_type ty null) x)) ≡ outcome_map (project o (as_type ty null)) (through_value n st fieldN elementN ty' (opened n ty' null x))
     unfolding project
     element_step (name l) (struct i) (struct j) h k size section f = struct_name l i j null _ h k (seen_struct size section f)
@@ -389,7 +389,7 @@ module _ (o n : Schema) (pairs : Pairs) (verb : Verb) (write : IsWrite verb) (cl
     element-view' (index i ∷ path) = λ ty ty' h k size section f. element_step path (field-view path) (element-view' path) (index i) ty ty' h k size section f
 
   -- THE LAW, from the root on
-  pub root-view : (path : List Step) (l : List ℕ) (i j : ℕ) → has_pair pairs i j ≡ true → is_admitted_from o n (name l ∷ path) verb (at_element (struct i) (struct j)) ≡ true → (size : Extent) (section : ℕ) (f : ℕ → Tree)
+  pub root-view : (path : List Step) (l : List ℕ) (i j : ℕ) → has_pair pairs i j ≡ true → is_admitted_from [] o n (name l ∷ path) verb (at_element (struct i) (struct j)) ≡ true → (size : Extent) (section : ℕ) (f : ℕ → Tree)
       → let r : Record = shape_record (n.shape_of j) size section (kids_of n f) in
       on_name (step_field o path verb) l (fields_in (o.shape_of i)) (project_fields o (fields_in (o.shape_of i)) r) ≡ outcome_map (project_fields o (fields_in (o.shape_of i))) (on_name (step_field n path verb) l (fields_in (n.shape_of j)) r)
   unfolding is_admitted_from

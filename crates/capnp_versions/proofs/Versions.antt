@@ -50,7 +50,7 @@ module _ (nodes nodes' : List Node) (accepted : IsAccepted nodes) (accepted' : I
     -- ---- the record machines
 
     module _ (write : IsWrite c.verb) where
-      at_name : (l : List ℕ) (path : List Step) → is_admitted_from o n (name l ∷ path) c.verb (at_element (struct older) (struct newer)) ≡ true → (t : Tree) → let r : Record = record_by_shape n (n.shape_of newer) t in
+      at_name : (l : List ℕ) (path : List Step) → is_admitted_from [] o n (name l ∷ path) c.verb (at_element (struct older) (struct newer)) ≡ true → (t : Tree) → let r : Record = record_by_shape n (n.shape_of newer) t in
           on_name (step_field o path c.verb) l (fields_in (o.shape_of older)) (project_fields o (fields_in (o.shape_of older)) r) ≡ outcome_map (project_fields o (fields_in (o.shape_of older))) (on_name (step_field n path c.verb) l (fields_in (n.shape_of newer)) r)
       unfolding record_by_shape
       at_name l path h t = by t
@@ -73,7 +73,7 @@ module _ (nodes nodes' : List Node) (accepted : IsAccepted nodes) (accepted' : I
               ≡ outcome_map (project_fields o (fields_in (o.shape_of older))) (on_name (step_field n path c.verb) l (fields_in (n.shape_of newer)) (shape_record (n.shape_of newer) whole_words 0 z)))
               (sym (nothing_seen n)) (seen 0 (λ i. null))
 
-      at_path : (path : List Step) → is_admitted_from o n path c.verb (at_element (struct older) (struct newer)) ≡ true → (t : Tree) → let r : Record = record_by_shape n (n.shape_of newer) t in
+      at_path : (path : List Step) → is_admitted_from [] o n path c.verb (at_element (struct older) (struct newer)) ≡ true → (t : Tree) → let r : Record = record_by_shape n (n.shape_of newer) t in
           step_path o (fields_in (o.shape_of older)) path c.verb (project_fields o (fields_in (o.shape_of older)) r) ≡ outcome_map (project_fields o (fields_in (o.shape_of older))) (step_path n (fields_in (n.shape_of newer)) path c.verb r)
       at_path [] h t = refl
       at_path (index k ∷ path) h t = refl
@@ -107,7 +107,7 @@ module _ (nodes nodes' : List Node) (accepted : IsAccepted nodes) (accepted' : I
       follows : (l : List ℕ) (path : List Step) → c.path ≡ name l ∷ path → NameFollows o n c.verb (FieldFollows o n c.verb path) l (64 * words_of_shape (o.shape_of older)) (o.shape_of older) (n.shape_of newer)
       follows l path e =
           (root-kept o n compatible.pairs c.verb closed (accepted-within nodes accepted) (accepted-within nodes' accepted') (shape_good nodes accepted) (shape_good nodes' accepted') path l older newer compatible.has_roots
-          (ap (λ z. is_admitted_from o n z c.verb (at_element (struct older) (struct newer))) (sym e) ∙ admitted)).0
+          (ap (λ z. is_admitted_from [] o n z c.verb (at_element (struct older) (struct newer))) (sym e) ∙ admitted)).0
 
       words : words_of_shape (o.shape_of older) ≤ words_of_shape (n.shape_of newer)
       words = words_kept o n compatible.pairs (o.shape_of older) (n.shape_of newer) (closed older newer compatible.has_roots)

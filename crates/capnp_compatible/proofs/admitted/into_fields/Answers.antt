@@ -1,6 +1,8 @@
-use Rattle.std.proofs.Common.{◌≡◌, ℕ, Some, None, refl, sym, ◌∙◌, ap}
+use Rattle.std.proofs.Common.{◌≡◌, ℕ, List, Some, None, refl, sym, ◌∙◌, ap}
 use Rattle.capnp_model.specs.Accepted.{shape_in}
 use Rattle.capnp_compatible.specs.declared.keeps.Levels.{Levels}
+use Rattle.capnp_model.specs.Partners.{partner_name}
+use Rattle.capnp_compatible.specs.Renamed.{names_in}
 use Rattle.capnp_compatible.specs.Holders.{nodes_in, shape_by}
 use Rattle.capnp_compatible.specs.Ways.{first_named, goes_on}
 use Rattle.capnp_compatible.proofs.ExtendedGroups.{named}
@@ -13,7 +15,7 @@ returns-in_default c = λ path verb.
     = c.holder-a.ensures.shape ∙ ap (λ (k : ℕ). shape_by (λ g. shape_in (nodes_in c.args.versions.now.older) k g) c.holder-a.result) (sym c.saturating_sub.ensures) in
     let second : shape_in (nodes_in c.args.versions.now.newer) c.args.levels.newer c.args.newer ≡ shape_by (λ g. shape_in (nodes_in c.args.versions.now.newer) c.saturating_sub-2.result g) c.holder-b.result
     = c.holder-b.ensures.shape ∙ ap (λ (k : ℕ). shape_by (λ g. shape_in (nodes_in c.args.versions.now.newer) k g) c.holder-b.result) (sym c.saturating_sub-2.ensures) in
-    named c.args.versions.now c.args.levels below c.args.older c.args.newer c.holder-a.result c.holder-b.result first second c.args.name.now (goes_on c.args.versions.now path verb) None (first_named c.args.name.now c.holder-b.result.fields.now) (sym c.in_default.ensures) refl
+    named c.args.versions.now c.args.levels below c.args.older c.args.newer c.holder-a.result c.holder-b.result first second c.args.name.now (goes_on c.args.versions.now path verb) None (first_named (partner_name (names_in c.args.versions.now.names) c.holder-a.result.id c.args.name.now) c.holder-b.result.fields.now) (sym c.in_default.ensures) refl
 
 pub returns-in-None : goal.returns-in-None
 returns-in-None c = λ path verb.
@@ -22,7 +24,7 @@ returns-in-None c = λ path verb.
     = c.holder-a.ensures.shape ∙ ap (λ (k : ℕ). shape_by (λ g. shape_in (nodes_in c.args.versions.now.older) k g) c.holder-a.result) (sym c.saturating_sub.ensures) in
     let second : shape_in (nodes_in c.args.versions.now.newer) c.args.levels.newer c.args.newer ≡ shape_by (λ g. shape_in (nodes_in c.args.versions.now.newer) c.saturating_sub-2.result g) c.holder-b.result
     = c.holder-b.ensures.shape ∙ ap (λ (k : ℕ). shape_by (λ g. shape_in (nodes_in c.args.versions.now.newer) k g) c.holder-b.result) (sym c.saturating_sub-2.ensures) in
-    named c.args.versions.now c.args.levels below c.args.older c.args.newer c.holder-a.result c.holder-b.result first second c.args.name.now (goes_on c.args.versions.now path verb) (Some c.in-Some.field.now) None (sym c.in-Some.ensures) (sym c.in-None.ensures)
+    named c.args.versions.now c.args.levels below c.args.older c.args.newer c.holder-a.result c.holder-b.result first second c.args.name.now (goes_on c.args.versions.now path verb) (Some c.in-Some.field.now) None (sym c.in-Some.ensures) (ap (λ (n : List ℕ). first_named n c.holder-b.result.fields.now) (sym c.partner.ensures) ∙ sym c.in-None.ensures)
 
 pub returns-in-Some-find_field : goal.returns-in-Some-find_field
 returns-in-Some-find_field c = λ path verb.
@@ -31,5 +33,5 @@ returns-in-Some-find_field c = λ path verb.
     = c.holder-a.ensures.shape ∙ ap (λ (k : ℕ). shape_by (λ g. shape_in (nodes_in c.args.versions.now.older) k g) c.holder-a.result) (sym c.saturating_sub.ensures) in
     let second : shape_in (nodes_in c.args.versions.now.newer) c.args.levels.newer c.args.newer ≡ shape_by (λ g. shape_in (nodes_in c.args.versions.now.newer) c.saturating_sub-2.result g) c.holder-b.result
     = c.holder-b.ensures.shape ∙ ap (λ (k : ℕ). shape_by (λ g. shape_in (nodes_in c.args.versions.now.newer) k g) c.holder-b.result) (sym c.saturating_sub-2.ensures) in
-    named c.args.versions.now c.args.levels below c.args.older c.args.newer c.holder-a.result c.holder-b.result first second c.args.name.now (goes_on c.args.versions.now path verb) (Some c.in-Some.field.now) (Some c.in-Some-find_field.other.now) (sym c.in-Some.ensures) (sym c.in-Some-find_field.ensures)
+    named c.args.versions.now c.args.levels below c.args.older c.args.newer c.holder-a.result c.holder-b.result first second c.args.name.now (goes_on c.args.versions.now path verb) (Some c.in-Some.field.now) (Some c.in-Some-find_field.other.now) (sym c.in-Some.ensures) (ap (λ (n : List ℕ). first_named n c.holder-b.result.fields.now) (sym c.partner.ensures) ∙ sym c.in-Some-find_field.ensures)
     ∙ c.at_fields.ensures c.args.versions.now path verb

@@ -3,6 +3,7 @@ use Rattle.std.proofs.lemmas.Result.{IfOk-weaker}
 use Rattle.capnp_records.proofs.lemmas.ListTests.{first_and_rest, no_more}
 use Rattle.capnp_calls.specs.CallViews.{step_view, call_view}
 use Rattle.capnp_calls.specs.declared.call.Step.{Step}
+use Rattle.capnp_compatible.specs.Renamed.{names_in}
 use Rattle.capnp_compatible.specs.Holders.{schema_in}
 use Rattle.capnp_compatible.specs.Ways.{at_seen, goes_on}
 use Rattle.capnp_compatible.proofs.Ways.{one_step, no_step}
@@ -17,7 +18,7 @@ returns-in-Unknown c =
     let more = take (length rest - 1) (drop 1 rest) in
     let split : rest ≡ step ∷ more = first_and_rest rest step c.in-len1-up.len_at_least c.step-item.is in
     sym (c.in-Unknown.ensures (map step_view more) verb)
-    ∙ sym (one_step (schema_in v.older) (schema_in v.newer) (step_view step) (map step_view more) verb (at_seen v c.loop-rest.at))
+    ∙ sym (one_step (names_in v.names) (schema_in v.older) (schema_in v.newer) (step_view step) (map step_view more) verb (at_seen v c.loop-rest.at))
     ∙ ap (λ (xs : List Step). goes_on v (map step_view xs) verb (at_seen v c.loop-rest.at)) (sym split)
     ∙ c.loop-rest.invariant
 
@@ -30,7 +31,7 @@ returns-in-Unfit c =
     let more = take (length rest - 1) (drop 1 rest) in
     let split : rest ≡ step ∷ more = first_and_rest rest step c.in-len1-up.len_at_least c.step-item.is in
     sym (c.in-Unfit.ensures (map step_view more) verb)
-    ∙ sym (one_step (schema_in v.older) (schema_in v.newer) (step_view step) (map step_view more) verb (at_seen v c.loop-rest.at))
+    ∙ sym (one_step (names_in v.names) (schema_in v.older) (schema_in v.newer) (step_view step) (map step_view more) verb (at_seen v c.loop-rest.at))
     ∙ ap (λ (xs : List Step). goes_on v (map step_view xs) verb (at_seen v c.loop-rest.at)) (sym split)
     ∙ c.loop-rest.invariant
 
@@ -43,7 +44,7 @@ loop-rest-preserved c =
     let more = take (length rest - 1) (drop 1 rest) in
     let split : rest ≡ step ∷ more = first_and_rest rest step c.in-len1-up.len_at_least c.step-item.is in
     sym (c.in-To.ensures (map step_view more) verb)
-    ∙ sym (one_step (schema_in v.older) (schema_in v.newer) (step_view step) (map step_view more) verb (at_seen v c.loop-rest.at))
+    ∙ sym (one_step (names_in v.names) (schema_in v.older) (schema_in v.newer) (step_view step) (map step_view more) verb (at_seen v c.loop-rest.at))
     ∙ ap (λ (xs : List Step). goes_on v (map step_view xs) verb (at_seen v c.loop-rest.at)) (sym split)
     ∙ c.loop-rest.invariant
 
@@ -52,6 +53,6 @@ returns c =
     let v = c.args.versions.now in
     let verb = (call_view c.args.call.now).verb in
     IfOk-weaker c.is_admitted_end.result _ _ (λ b h.
-    h ∙ sym (no_step (schema_in v.older) (schema_in v.newer) verb (at_seen v c.loop-rest.at))
+    h ∙ sym (no_step (names_in v.names) (schema_in v.older) (schema_in v.newer) verb (at_seen v c.loop-rest.at))
     ∙ ap (λ (xs : List Step). goes_on v (map step_view xs) verb (at_seen v c.loop-rest.at)) (sym (no_more c.loop-rest.rest.now c.in_default.len_below))
     ∙ c.loop-rest.invariant) c.is_admitted_end.ensures

@@ -1,12 +1,12 @@
 use Rattle.std.proofs.Common.{Bool, sym, ◌∙◌, subst}
 use Rattle.capnp_compatible.specs.Holders.{schema_in}
-use Rattle.capnp_compatible.specs.Walks.{Decides, keeps_at}
+use Rattle.capnp_compatible.specs.Walks.{Decides, older_schema, keeps_at}
 use Rattle.capnp_compatible.proofs.AllKept.{begun, walked_on, walked_all, walked_into}
 use Rattle.capnp_compatible.proofs.compatible.all_kept.Goals as goal
 
 pub loop-i-init : goal.loop-i-init
 loop-i-init c =
-    let o = schema_in c.args.versions.now.older in
+    let o = older_schema c.args.versions.now in
     let n = schema_in c.args.versions.now.newer in
     let s = c.new-reached.ensures.sound o n in
     begun c.args.versions.now c.args.levels c.args.older c.args.newer c.new-reached.result c.reach.new.self c.new-reached.ensures.none (c.in_ok-reach.ensures.pairs o n s) (c.in_ok-reach.ensures.sound o n s)
