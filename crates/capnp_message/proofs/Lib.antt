@@ -5,3 +5,4 @@ mod Owning
 mod Building
 mod Blobs
 mod NullRoot
+mod Refused

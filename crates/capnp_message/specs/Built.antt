@@ -1,10 +1,14 @@
 -- What is written of segments that are built.
-use Rattle.std.specs.Prelude.{ℕ, ◌*◌, List, [], ◌∷◌, ◌++◌, map, flat_map, take}
-use Rattle.capnp_model.specs.Segments.{Segments}
+use Rattle.std.specs.Prelude.{◌≡◌, ◌⊎◌, ℕ, ◌*◌, true, false, List, [], ◌∷◌, ◌++◌, map, flat_map, take}
+use Rattle.std.specs.Option.{is_some}
+use Rattle.capnp_model.specs.Segments.{Segments, root, words_at}
+use Rattle.capnp_units.specs.declared.kinds.ErrorKind.TheVariants.{OutOfBounds}
 use Rattle.capnp_units.specs.Segments.{words_in, whole_words}
 use Rattle.capnp_copy.specs.declared.allocator.Allocator.{Ghosts as Allocator}
 use Rattle.capnp_copy.specs.declared.allocator.SegmentBytes.{Ghosts as SegmentBytes}
 use Rattle.capnp_copy.specs.declared.segments.BuilderArenaImpl.{BuilderArenaImpl}
+use Rattle.capnp_copy.specs.Refusals.{IsRefusal, IsSizeOrRefusal, arena_refuses}
+use Rattle.capnp_units.specs.declared.errors.Error.{Error}
 
 -- The bytes of the used words of each segment, by how many are used and what its bytes are.
 abbrev pub used_bytes : {X : Type 0} → (X → ℕ) → (X → List ℕ) → List X → List (List ℕ)
@@ -29,6 +33,22 @@ place_held {allocator = allocator} arena = allocator.place arena.allocator
 -- The slices that were lent to a segment and to the allocator of an arena.
 abbrev pub lent_with : {A S : Type 0} {allocator : Allocator A S} {segment : SegmentBytes S} → S → BuilderArenaImpl A S allocator segment → List ℕ
 lent_with {allocator = allocator} {segment = segment} x arena = segment.loans x ++ allocator.loans arena.allocator
+
+-- Memory was asked for, for such an arena, and refused with the error's very kind.
+abbrev pub IsRefusalOf : {A S : Type 0} {allocator : Allocator A S} {segment : SegmentBytes S} → BuilderArenaImpl A S allocator segment → Error → Type 0
+IsRefusalOf {A = A} {S = S} {allocator = allocator} {segment = segment} arena e = IsRefusal (λ (a : BuilderArenaImpl A S allocator segment) n kind. arena_refuses a n kind) e.kind
+
+-- The same, or a size passes a limit of the format.
+abbrev pub IsSizeOrRefusalOf : {A S : Type 0} {allocator : Allocator A S} {segment : SegmentBytes S} → BuilderArenaImpl A S allocator segment → Error → Type 0
+IsSizeOrRefusalOf {A = A} {S = S} {allocator = allocator} {segment = segment} arena e = IsSizeOrRefusal (λ (a : BuilderArenaImpl A S allocator segment) n kind. arena_refuses a n kind) e
+
+-- The first segment is there and has no word for the root pointer.
+abbrev pub HasNoRootWord : Segments → Error → Type 0
+HasNoRootWord s e = (e.kind ≡ OutOfBounds) × (is_some (words_at s root 0) ≡ true) × (is_some (words_at s root 1) ≡ false)
+
+-- No root pointer is had: the first segment has no word for it, or the arena refuses the one word of a first segment.
+abbrev pub NoRootMade : {A S : Type 0} {allocator : Allocator A S} {segment : SegmentBytes S} → BuilderArenaImpl A S allocator segment → Error → Type 0
+NoRootMade arena e = HasNoRootWord (words_held arena) e ⊎ arena_refuses arena 1 e.kind
 
 -- The segments with a root pointer, which is null where there was none. (Encoding, "Messages")
 abbrev pub rooted : Segments → Segments

@@ -44,6 +44,6 @@ StructFound size s u slot o = StructGot None s u (place_view slot) size o × Str
 abbrev pub NoStructFound : StructSize → Segments → Segments → code.Place → Error → Type 0
 NoStructFound size s u slot = NoStructGot None s u (place_view slot) size
 
--- No root is got: there is no word for it and none was made, and all stands as it was; or what is there is refused, as the handle's type says.
-abbrev pub NoRootFound : (Segments → Segments → code.Place → Error → Type 0) → Segments → Segments → Error → Type 0
-NoRootFound refuses s u e = ((u ≡ s) × (is_some (words_at s root 1) ≡ false)) ⊎ refuses (rooted s) u root_slot e
+-- No root is got: there is no word for it and none was made, as `told` says why, and all stands as it was; or what is there is refused, as the handle's type says.
+abbrev pub NoRootFound : (Segments → Segments → code.Place → Error → Type 0) → (Error → Type 0) → Segments → Segments → Error → Type 0
+NoRootFound refuses told s u e = ((u ≡ s) × (is_some (words_at s root 1) ≡ false) × told e) ⊎ refuses (rooted s) u root_slot e

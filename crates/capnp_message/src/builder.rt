@@ -3,6 +3,7 @@ ghost use Rattle.std.specs.Prelude.{◌≡◌, ◌≢◌, ◌-◌, ◌*◌, ◌^
 ghost use Rattle.std.specs.List.{flat_map};
 ghost use Rattle.capnp_units.specs.declared.kinds.ErrorKind.TheVariants.{OutOfMemory, SizeOverflow};
 ghost use Rattle.capnp_object.specs.Arenas.{words_before};
+ghost use Rattle.capnp_copy.specs.Refusals.{arena_refuses};
 ghost use Rattle.capnp_message.specs.Built.{used_bytes, words_held, place_held, loans_held};
 ghost use Rattle.capnp_allocators.specs.Growth.{suggested_growth};
 
@@ -48,6 +49,7 @@ impl<A: Allocator> Builder<A> {
             ≡ words_held self.old.memory.arena) }
         ensures there { OnErr result (self.old.memory.arena.segments.items ≡ []) }
         ensures kind { IfErr result (λ e. e.kind ≢ SizeOverflow) }
+        ensures cause { IfErr result (λ e. arena_refuses self.old.memory.arena 1 e.kind) }
         ensures place { place_held self.new.memory.arena ≡ place_held self.old.memory.arena }
         ensures loans { loans_held self.new.memory.arena ≡ loans_held self.old.memory.arena }
     {

@@ -1,5 +1,5 @@
 //! Handles that know where their values lie, and are made at a pointer of a message that is built.
-ghost use Rattle.std.specs.Prelude.{◌≡◌, ◌+◌, ◌<◌, ◌^◌, ◌↔◌, ℕ, None, IfOk, IfErr, OnErr};
+ghost use Rattle.std.specs.Prelude.{◌≡◌, ◌⊎◌, ◌+◌, ◌<◌, ◌^◌, ◌↔◌, ℕ, None, IfOk, IfErr, OnErr};
 ghost use Rattle.capnp_model.specs.Segments.{Segments};
 ghost use Rattle.capnp_units.specs.Segments.{words_in};
 ghost use Rattle.capnp_units.specs.declared.errors.Error.{Error};
@@ -7,11 +7,12 @@ ghost use Rattle.capnp_units.specs.declared.kinds.ErrorKind.TheVariants.{SizeOve
 ghost use Rattle.capnp_units.specs.declared.sizes.StructSize.{StructSize};
 ghost use Rattle.capnp_object.specs.declared.place.Place as code;
 ghost use Rattle.capnp_copy.specs.Allocations.{total_words};
+ghost use Rattle.capnp_copy.specs.Refusals.{IsSizeOrRefusal};
 ghost use Rattle.capnp_copy.specs.States.{HasWords};
 ghost use Rattle.capnp_copy.specs.declared.fields.StructPlace.{StructPlace};
 ghost use Rattle.capnp_builders.specs.Blobs.{DataMade, TextMade, DataGot, NoDataGot, TextGot, NoTextGot};
 ghost use Rattle.capnp_builders.specs.Inputs.{IsTooLong};
-ghost use Rattle.capnp_message.specs.Built.{rooted, words_held, place_held, loans_held};
+ghost use Rattle.capnp_message.specs.Built.{rooted, words_held, place_held, loans_held, NoRootMade, IsSizeOrRefusalOf};
 ghost use Rattle.capnp_message.specs.Placed.{root_slot, StructPlaced, StructIsTooLarge, StructFound, NoStructFound, NoRootFound};
 
 use crate::builder::Builder;
@@ -57,7 +58,8 @@ pub trait Placed: Sized {
         ensures kind { IfErr result (λ e.
             (e.kind ≡ SizeOverflow)
             ↔ is_too_large length
-            (total_words (words_in (A.segments memory.old.arena)))) };
+            (total_words (words_in (A.segments memory.old.arena)))) }
+        ensures cause { IfErr result (λ e. IsSizeOrRefusal A.refuses e) };
 
     /// The value that the pointer names.
     ///
@@ -116,6 +118,7 @@ fn init_struct_at<A: BuilderArena>(
         (e.kind ≡ SizeOverflow)
         ↔ StructIsTooLarge size
         (total_words (words_in (A.segments memory.old.arena)))) }
+    ensures cause { IfErr result (λ e. IsSizeOrRefusal A.refuses e) }
 {
     init_struct(&mut memory.arena, place, size)
 }
@@ -229,6 +232,8 @@ impl<A: Allocator> Builder<A> {
             ≡ rooted (words_held self.old.memory.arena)) }
         ensures kind { IfErr result (λ e. e.kind ≡ SizeOverflow
             → T.is_too_large length (total_words (rooted (words_held self.old.memory.arena)))) }
+        ensures cause { IfErr result (λ e.
+            NoRootMade self.old.memory.arena e ⊎ IsSizeOrRefusalOf self.old.memory.arena e) }
         ensures place { place_held self.new.memory.arena ≡ place_held self.old.memory.arena }
         ensures loans { loans_held self.new.memory.arena ≡ loans_held self.old.memory.arena }
     {
@@ -244,6 +249,8 @@ impl<A: Allocator> Builder<A> {
             ≡ rooted (words_held self.old.memory.arena)) }
         ensures kind { IfErr result (λ e. e.kind ≡ SizeOverflow
             → T.is_too_large 0 (total_words (rooted (words_held self.old.memory.arena)))) }
+        ensures cause { IfErr result (λ e.
+            NoRootMade self.old.memory.arena e ⊎ IsSizeOrRefusalOf self.old.memory.arena e) }
         ensures place { place_held self.new.memory.arena ≡ place_held self.old.memory.arena }
         ensures loans { loans_held self.new.memory.arena ≡ loans_held self.old.memory.arena }
     {
@@ -256,7 +263,8 @@ impl<A: Allocator> Builder<A> {
     pub fn get_root<T: Placed>(&mut self) -> Result<T>
         ensures got { IfOk result (T.is_got (rooted (words_held self.old.memory.arena))
             (words_held self.new.memory.arena) root_slot) }
-        ensures refused { IfErr result (NoRootFound T.is_not_got (words_held self.old.memory.arena)
+        ensures refused { IfErr result (NoRootFound T.is_not_got
+            (NoRootMade self.old.memory.arena) (words_held self.old.memory.arena)
             (words_held self.new.memory.arena)) }
         ensures place { place_held self.new.memory.arena ≡ place_held self.old.memory.arena }
         ensures loans { loans_held self.new.memory.arena ≡ loans_held self.old.memory.arena }
@@ -276,6 +284,8 @@ impl<T: OwnedPlaced, A: Allocator> TypedBuilder<T, A> {
             ≡ rooted (words_held self.old.message.memory.arena)) }
         ensures kind { IfErr result (λ e. e.kind ≡ SizeOverflow → T.Builder.is_too_large length
             (total_words (rooted (words_held self.old.message.memory.arena)))) }
+        ensures cause { IfErr result (λ e. NoRootMade self.old.message.memory.arena e
+            ⊎ IsSizeOrRefusalOf self.old.message.memory.arena e) }
         ensures place { place_held self.new.message.memory.arena
             ≡ place_held self.old.message.memory.arena }
         ensures loans { loans_held self.new.message.memory.arena
@@ -293,6 +303,8 @@ impl<T: OwnedPlaced, A: Allocator> TypedBuilder<T, A> {
             ≡ rooted (words_held self.old.message.memory.arena)) }
         ensures kind { IfErr result (λ e. e.kind ≡ SizeOverflow → T.Builder.is_too_large 0
             (total_words (rooted (words_held self.old.message.memory.arena)))) }
+        ensures cause { IfErr result (λ e. NoRootMade self.old.message.memory.arena e
+            ⊎ IsSizeOrRefusalOf self.old.message.memory.arena e) }
         ensures place { place_held self.new.message.memory.arena
             ≡ place_held self.old.message.memory.arena }
         ensures loans { loans_held self.new.message.memory.arena
@@ -307,6 +319,7 @@ impl<T: OwnedPlaced, A: Allocator> TypedBuilder<T, A> {
             (rooted (words_held self.old.message.memory.arena))
             (words_held self.new.message.memory.arena) root_slot) }
         ensures refused { IfErr result (NoRootFound T.Builder.is_not_got
+            (NoRootMade self.old.message.memory.arena)
             (words_held self.old.message.memory.arena) (words_held self.new.message.memory.arena)) }
         ensures place { place_held self.new.message.memory.arena
             ≡ place_held self.old.message.memory.arena }

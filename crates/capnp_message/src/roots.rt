@@ -1,5 +1,5 @@
 //! Roots of messages that are built.
-ghost use Rattle.std.specs.Prelude.{◌≡◌, ◌≢◌, ◌^◌, ◌<◌, ◌++◌, ◌∷◌, [], true, false, pos, length, IfOk, IfErr, OnOk, OnErr};
+ghost use Rattle.std.specs.Prelude.{◌≡◌, ◌≢◌, ◌⊎◌, ◌^◌, ◌<◌, ◌++◌, ◌∷◌, [], true, false, pos, length, IfOk, IfErr, OnOk, OnErr};
 ghost use Rattle.std.specs.Borrow.{sem, RestsIfErr};
 ghost use Rattle.capnp_units.specs.Segments.{words_in};
 ghost use Rattle.capnp_copy.specs.contracts.arena.Memory.{the_row};
@@ -12,7 +12,7 @@ ghost use Rattle.capnp_copy.specs.Allocations.{total_words};
 ghost use Rattle.capnp_copy.specs.States.{HasWords};
 ghost use Rattle.capnp_copy.specs.Values.{Becomes};
 ghost use Rattle.capnp_wire.specs.Reads.{root_of};
-ghost use Rattle.capnp_message.specs.Built.{used_bytes, rooted, words_held, place_held, loans_held};
+ghost use Rattle.capnp_message.specs.Built.{used_bytes, rooted, words_held, place_held, loans_held, HasNoRootWord, NoRootMade, IsSizeOrRefusalOf};
 ghost use Rattle.capnp_message.specs.Options.{boundless};
 ghost use Rattle.capnp_message.specs.Placed.{root_slot};
 ghost use Rattle.capnp_message.specs.Roots.{ReadsRoot};
@@ -48,6 +48,8 @@ pub(crate) fn begin<A: BuilderArena>(arena: &mut A) -> Result<()>
     ensures none { OnErr result
         (is_some (words_at (words_in (A.segments arena.old)) root 1) ≡ false) }
     ensures kind { IfErr result (λ e. e.kind ≢ SizeOverflow) }
+    ensures cause { IfErr result (λ e.
+        HasNoRootWord (words_in (A.segments arena.old)) e ⊎ A.refuses arena.old 1 e.kind) }
     ensures books { A.books arena.new ≡ A.books arena.old }
 {
     if has_words(arena, ROOT, 1) {
@@ -74,6 +76,9 @@ pub fn root_of<A: BuilderArena>(memory: &mut Memory<A>) -> Result<PointerBuilder
     ensures books { IfOk result (λ p. A.books p.memory.now.arena
         ≡ A.books memory.entry.now.arena) }
     ensures kind { IfErr result (λ e. e.kind ≢ SizeOverflow) }
+    ensures cause { IfErr result (λ e.
+        HasNoRootWord (words_in (A.segments memory.entry.now.arena)) e
+        ⊎ A.refuses memory.entry.now.arena 1 e.kind) }
     ensures* refused { sem 𝓛 (RestsIfErr (the_row A.row) memory.entry
         (λ p. p.memory.ghost_name) result (λ n. (A.segments n.arena
         ≡ A.segments memory.entry.now.arena)
@@ -97,6 +102,8 @@ impl<A: Allocator> Builder<A> {
             ≡ rooted (words_held self.old.memory.arena)) }
         ensures kind { IfErr result (λ e. e.kind ≡ SizeOverflow
             → V.is_too_large value (total_words (rooted (words_held self.old.memory.arena)))) }
+        ensures cause { IfErr result (λ e.
+            NoRootMade self.old.memory.arena e ⊎ IsSizeOrRefusalOf self.old.memory.arena e) }
         ensures place { place_held self.new.memory.arena ≡ place_held self.old.memory.arena }
         ensures loans { loans_held self.new.memory.arena ≡ loans_held self.old.memory.arena }
     {

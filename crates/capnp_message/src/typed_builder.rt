@@ -1,5 +1,5 @@
 //! Messages that are built, whose root's type is known.
-ghost use Rattle.std.specs.Prelude.{◌≡◌, ◌++◌, ◌∷◌, [], length, IfErr, OnOk, OnErr};
+ghost use Rattle.std.specs.Prelude.{◌≡◌, ◌⊎◌, ◌++◌, ◌∷◌, [], length, IfErr, OnOk, OnErr};
 ghost use Rattle.std.specs.Borrow.{sem};
 ghost use Rattle.std.specs.List.{flat_map};
 ghost use Rattle.capnp_model.specs.Segments.{root};
@@ -7,7 +7,7 @@ ghost use Rattle.capnp_units.specs.declared.kinds.ErrorKind.TheVariants.{SizeOve
 ghost use Rattle.capnp_copy.specs.Allocations.{total_words};
 ghost use Rattle.capnp_copy.specs.Values.{Becomes};
 ghost use Rattle.capnp_wire.specs.Reads.{root_of};
-ghost use Rattle.capnp_message.specs.Built.{used_bytes, rooted, words_held, place_held, loans_held};
+ghost use Rattle.capnp_message.specs.Built.{used_bytes, rooted, words_held, place_held, loans_held, NoRootMade, IsSizeOrRefusalOf};
 ghost use Rattle.capnp_allocators.specs.Growth.{suggested_growth};
 ghost use Rattle.capnp_message.specs.Options.{boundless};
 ghost use Rattle.capnp_message.specs.Roots.{ReadsRoot};
@@ -52,6 +52,8 @@ impl<T, A: Allocator> TypedBuilder<T, A> {
         ensures kind { IfErr result (λ e. e.kind ≡ SizeOverflow
             → V.is_too_large value (total_words (rooted (words_held
             self.old.message.memory.arena)))) }
+        ensures cause { IfErr result (λ e. NoRootMade self.old.message.memory.arena e
+            ⊎ IsSizeOrRefusalOf self.old.message.memory.arena e) }
         ensures place { place_held self.new.message.memory.arena
             ≡ place_held self.old.message.memory.arena }
         ensures loans { loans_held self.new.message.memory.arena

@@ -1,5 +1,5 @@
 //! Messages that are made of words: canonical ones, and those that stand in a segment.
-ghost use Rattle.std.specs.Prelude.{◌≡◌, ◌≢◌, ◌↔◌, ◌+◌, ◌*◌, ◌^◌, ◌<◌, ◌≤◌, ◌++◌, ◌∷◌, [], length, IfErr, OnOk, OnErr};
+ghost use Rattle.std.specs.Prelude.{◌≡◌, ◌≢◌, ◌↔◌, ◌⊎◌, ◌+◌, ◌*◌, ◌^◌, ◌<◌, ◌≤◌, ◌++◌, ◌∷◌, [], length, Err, IfErr, OnOk, OnErr};
 ghost use Rattle.std.specs.List.{flat_map};
 ghost use Rattle.capnp_model.specs.Answers.{levels};
 ghost use Rattle.capnp_units.specs.Segments.{words_in};
@@ -7,8 +7,9 @@ ghost use Rattle.capnp_units.specs.declared.kinds.ErrorKind.TheVariants.{OutOfMe
 ghost use Rattle.capnp_canonical.specs.Writes.{words_view};
 ghost use Rattle.capnp_copy.specs.Allocations.{words_used};
 ghost use Rattle.capnp_copy.specs.Memory.{ZeroFrom};
-ghost use Rattle.capnp_message.specs.Built.{words_held, place_held, loans_held, lent_with};
-ghost use Rattle.capnp_message.specs.Canonical.{ReplacesRoot, SetsCanonical};
+ghost use Rattle.capnp_copy.specs.Refusals.{arena_refuses};
+ghost use Rattle.capnp_message.specs.Built.{words_held, place_held, loans_held, lent_with, IsRefusalOf};
+ghost use Rattle.capnp_message.specs.Canonical.{GivesCanonical, ReplacesRoot, SetsCanonical};
 
 use crate::builder::Builder;
 use crate::options::DEFAULT_READER_OPTIONS;
@@ -54,6 +55,8 @@ impl<A: Allocator> Builder<A> {
         ensures words { OnOk result (words_held self.new.memory.arena ≡ words_view words.now ∷ []) }
         ensures refused { OnErr result (words_held self.new.memory.arena ≡ []) }
         ensures kind { IfErr result (λ e. (e.kind ≡ SizeOverflow) ↔ (2 ^ 29 ≤ length words.now)) }
+        ensures cause { IfErr result (λ e. (2 ^ 29 ≤ length words.now)
+            ⊎ arena_refuses self.old.memory.arena (length words.now) e.kind) }
         ensures place { place_held self.new.memory.arena ≡ place_held self.old.memory.arena }
         ensures loans { loans_held self.new.memory.arena ≡ A.loans self.old.memory.arena.allocator }
     {
@@ -88,6 +91,10 @@ impl<A: Allocator> Builder<A> {
             source.now.options.traversal_limit_in_words (words_in (S.segments source.now.segments))
             (words_held self.old.memory.arena) (words_held self.new.memory.arena) limiter.old result
             limiter.new }
+        ensures cause { IfErr result (λ e. words_held self.old.memory.arena ≡ []
+            → GivesCanonical (levels source.now.options.nesting_limit)
+            source.now.options.traversal_limit_in_words (words_in (S.segments source.now.segments))
+            limiter.old (Err e) limiter.new ⊎ IsRefusalOf self.old.memory.arena e) }
         ensures place { place_held self.new.memory.arena ≡ place_held self.old.memory.arena }
         ensures loans { loans_held self.new.memory.arena ≡ loans_held self.old.memory.arena }
     {

@@ -1,4 +1,5 @@
-use Rattle.std.proofs.Common.{◌≡◌, ◌/◌, length, ap, arith}
+use Rattle.std.proofs.Common.{◌≡◌, inl, inr, ℕ, ◌*◌, ◌/◌, length, map, take, ap, sym, ◌∙◌, arith}
+use Rattle.capnp_units.specs.Segments.{words_in}
 use Rattle.capnp_message.specs.Built.{used_words}
 use Rattle.capnp_message.proofs.Building.{first_there, first_words, no_words}
 use Rattle.capnp_message.proofs.builder.Builder.set_words.Goals as goal
@@ -19,3 +20,9 @@ returns-in-Err-clause-kind g c =
     let none = no_words _ (ap words c.requires.empty) in
     let kind = c.in-Err.ensures.kind in
     (λ q. let more = kind.0 q in omega (arith, more, none), λ l. kind.1 (omega (arith, l, none)))
+
+pub returns-in-Err-clause-cause : goal.returns-in-Err-clause-cause
+returns-in-Err-clause-cause g c =
+    let words = used_words (λ h. h.used) (λ h. g.A.Segment.SegmentBytes.bytes h.segment) in
+    let none = no_words _ (ap words c.requires.empty) in
+    elim c.in-Err.ensures.cause [ inl l ↦ inl (omega (arith, l, none)) | inr r ↦ inr r ]
