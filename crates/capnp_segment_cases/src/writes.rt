@@ -41,11 +41,15 @@ fn are_segments(segments: &[Vec<u8>]) -> bool
 }
 
 /// Whether segments can be written: there are some, of whole words.
+#[tactic(auto, using(crate::proofs::Writable::writable))]
 fn are_writable(segments: &Vec<Vec<u8>>) -> bool
     ensures { IsTrue result → AreWritable (map (λ v. v.items) segments.now.items) }
 {
     let len = segments.len();
-    len > 0 && len < 0x1_0000_0000 && are_segments(segments)
+    if len == 0 || len >= 0x1_0000_0000 {
+        return false;
+    }
+    are_segments(segments)
 }
 
 /// Writes segments in a form, or `None` where they can't be written.
@@ -106,7 +110,7 @@ fn are_alike(
     let is_whole = match form {
         Form::Packed => true,
         Form::Framed => {
-            8 * compute_serialized_size_in_words(segments) == text.len()
+            compute_serialized_size_in_words(segments) == text.len() / 8
                 && write_message_segments_to_words(alloc, segments).as_ref() == Ok(text)
         }
     };
