@@ -15,7 +15,7 @@ use capnp_units::limiter::ReadLimiter;
 use capnp_values::dynamic_value::{Capability, Enum, Reader};
 use capnp_values::opening::element_size;
 use capnp_values::{any_pointer, dynamic_list, dynamic_struct};
-use capnp_wire::arena::ReaderArenaImpl;
+use capnp_wire::arena::{ReaderArena, ReaderArenaImpl};
 use capnp_wire::pointer::PointerReader;
 use std::alloc::Global;
 use std::str::FromStr;
@@ -187,12 +187,16 @@ fn field_value<'a>(
     Ok(object.get_named(name)?)
 }
 
-/// The value that is set where a type stands. Its bytes are those of `bytes_in`, and the one segment of the arena.
+/// The bytes of the first of segments.
+fn first_segment<'a>(arena: &'a Segments<'a>) -> Result<&'a [u8], Fault> {
+    arena.get_segment(0).ok_or(Fault::Shape)
+}
+
+/// The value that is set where a type stands. The one segment of the arena has the bytes of `bytes_in`.
 pub fn value_of<'a>(
     set: &'a SchemaSet,
     ty: Type,
     value: &str,
-    bytes: &'a [u8],
     arena: &'a Segments<'a>,
 ) -> Result<Reader<'a, Segments<'a>>, Fault>
     requires { is_type_of (nodes_of set.now) ty ≡ true }
@@ -202,8 +206,8 @@ pub fn value_of<'a>(
         "n" => number(ty, rest),
         "b" => Ok(Reader::Bool(rest == "1")),
         "e" => Ok(Reader::Enum(enum_value(set, ty, rest)?)),
-        "t" => Ok(Reader::Text(text::Reader(bytes))),
-        "d" => Ok(Reader::Data(bytes)),
+        "t" => Ok(Reader::Text(text::Reader(first_segment(arena)?))),
+        "d" => Ok(Reader::Data(first_segment(arena)?)),
         "m" => message(set, ty, arena),
         "p" => Ok(Reader::AnyPointer(any_pointer::Reader::new(root_pointer(arena)?))),
         "s" => {

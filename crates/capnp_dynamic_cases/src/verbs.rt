@@ -16,7 +16,7 @@ use capnp_dynamic_gets::{dynamic_list as list_gets, dynamic_struct as struct_get
 use capnp_dynamic_values::placed::{ListPart, Placed};
 use capnp_print::stringify::print;
 use capnp_values::dynamic_value::Reader;
-use capnp_wire::arena::ReaderArenaImpl;
+use capnp_wire::arena::{ReaderArena, ReaderArenaImpl};
 use std::alloc::Global;
 
 /// A call that a line says: `VERB SIZE VALUE STEP..`, or `VERB STEP..` where it takes neither size nor value.
@@ -89,8 +89,29 @@ fn reach_element<A: BuilderArena>(
     Ok(Answer::Text(text))
 }
 
-/// Sets a field of a struct.
-fn set_field<A: BuilderArena>(
+/// Sets a field of a struct to a value.
+fn set_field<A: BuilderArena, B: ReaderArena>(
+    memory: &mut Memory<A>,
+    part: Part<'_>,
+    name: &str,
+    call: Call<'_>,
+    value: Reader<'_, B>,
+) -> Result<Answer, Stop>
+    requires there { IsThere (words_in (A.segments memory.old.arena)) part.place }
+    requires wide { IsWide part.place (shape_of_struct part.schema) }
+{
+    let schema = part.schema;
+    let mut object = struct_at(memory, part);
+    if call.verb == "set_named" {
+        object.set_named(name, value)?;
+    } else {
+        object.set(schema.get_field_by_name(name)?, value)?;
+    }
+    Ok(Answer::Done)
+}
+
+/// Sets a field of a struct to the value that a call gives, whose bytes are these.
+fn give_field<A: BuilderArena>(
     memory: &mut Memory<A>,
     part: Part<'_>,
     name: &str,
@@ -100,18 +121,13 @@ fn set_field<A: BuilderArena>(
     requires there { IsThere (words_in (A.segments memory.old.arena)) part.place }
     requires wide { IsWide part.place (shape_of_struct part.schema) }
 {
-    let schema = part.schema;
-    let field = schema.get_field_by_name(name)?;
+    let field = part.schema.get_field_by_name(name)?;
+    let ty = field.get_type();
+    let set = field.parent().set();
     let segments = [bytes];
     let arena: Segments<'_> = ReaderArenaImpl::new(segments.as_slice(), 64);
-    let value = value_of(schema.set(), field.get_type(), call.value, bytes, &arena)?;
-    let mut object = struct_at(memory, part);
-    if call.verb == "set_named" {
-        object.set_named(name, value)?;
-    } else {
-        object.set(field, value)?;
-    }
-    Ok(Answer::Done)
+    let value = value_of(set, ty, call.value, &arena)?;
+    set_field(memory, part, name, call, value)
 }
 
 /// Begins or clears a field of a struct.
@@ -176,15 +192,32 @@ fn at_field<A: BuilderArena>(
         "reach" => reach_field(alloc, memory, part, name),
         "set" | "set_named" => {
             let bytes = bytes_in(alloc, call.value)?;
-            set_field(memory, part, name, call, &bytes)
+            give_field(memory, part, name, call, &bytes)
         }
         "has" | "has_named" => has_field(alloc, memory, part, name, call),
         _ => edit_field(memory, part, name, call),
     }
 }
 
-/// Sets an element of a list.
-fn set_element<A: BuilderArena>(
+/// Sets an element of a list to a value.
+fn set_element<A: BuilderArena, B: ReaderArena>(
+    memory: &mut Memory<A>,
+    part: ListPart<'_>,
+    index: u32,
+    value: Reader<'_, B>,
+) -> Result<Answer, Stop>
+    requires { IsListPlaced (words_in (A.segments memory.old.arena)) part }
+{
+    let mut list = list_at(memory, part);
+    if index >= list.len() {
+        return Err(Stop::NoCall);
+    }
+    list.set(index, value)?;
+    Ok(Answer::Done)
+}
+
+/// Sets an element of a list to the value that a call gives, whose bytes are these.
+fn give_element<A: BuilderArena>(
     memory: &mut Memory<A>,
     part: ListPart<'_>,
     index: u32,
@@ -193,15 +226,12 @@ fn set_element<A: BuilderArena>(
 ) -> Result<Answer, Stop>
     requires { IsListPlaced (words_in (A.segments memory.old.arena)) part }
 {
+    let set = part.set;
+    let ty = part.element_type;
     let segments = [bytes];
     let arena: Segments<'_> = ReaderArenaImpl::new(segments.as_slice(), 64);
-    let value = value_of(part.set, part.element_type, call.value, bytes, &arena)?;
-    let mut list = list_at(memory, part);
-    if index >= list.len() {
-        return Err(Stop::NoCall);
-    }
-    list.set(index, value)?;
-    Ok(Answer::Done)
+    let value = value_of(set, ty, call.value, &arena)?;
+    set_element(memory, part, index, value)
 }
 
 /// Begins an element of a list.
@@ -235,7 +265,7 @@ fn at_element<A: BuilderArena>(
         "reach" => reach_element(alloc, memory, part, index),
         "set" => {
             let bytes = bytes_in(alloc, call.value)?;
-            set_element(memory, part, index, call, &bytes)
+            give_element(memory, part, index, call, &bytes)
         }
         "initn" => begin_element(memory, part, index, call.size),
         _ => Err(Stop::NoCall),

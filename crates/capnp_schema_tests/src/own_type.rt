@@ -156,12 +156,19 @@ pub(crate) fn begun<A: BuilderArena>(
     Ok(place)
 }
 
-/// Sets the first number of a struct to 7, if it is of the type of P.
-fn write_own<A: BuilderArena>(builder: dynamic_struct::Builder<'_, A>) -> Result<bool> {
+/// Sets the first number of a struct at the root of a new message to 7, if it is of the type of P.
+fn written<A: BuilderArena>(memory: &mut Memory<A>, schema: StructSchema<'_>) -> Result<bool> {
+    let place = begun(memory, schema)?;
+    let builder = dynamic_struct::Builder {
+        memory,
+        place,
+        schema,
+    };
     if !fits_struct::<Own<1>, A>(&builder) {
         return Ok(false);
     }
-    let OwnBuilder { memory, place } = downcast_struct::<A, Own<1>>(builder);
+    let own = downcast_struct::<A, Own<1>>(builder);
+    let OwnBuilder { memory, place } = own;
     let mut fields = StructBuilder { memory, place };
     let words = place.data_words as usize;
     if words == 0 || !has_words(&fields.memory.arena, place.start, words) {
@@ -169,16 +176,6 @@ fn write_own<A: BuilderArena>(builder: dynamic_struct::Builder<'_, A>) -> Result
     }
     fields.set_data_field::<u16>(0, 7);
     Ok(true)
-}
-
-/// The same of a struct at the root of a new message.
-fn written<A: BuilderArena>(memory: &mut Memory<A>, schema: StructSchema<'_>) -> Result<bool> {
-    let place = begun(memory, schema)?;
-    write_own(dynamic_struct::Builder {
-        memory,
-        place,
-        schema,
-    })
 }
 
 /// The used bytes of the first segment.
