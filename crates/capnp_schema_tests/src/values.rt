@@ -12,10 +12,8 @@ use capnp_values::{any_pointer, dynamic_list, dynamic_struct};
 use capnp_wire::arena::ReaderArenaImpl;
 use std::test::Fail;
 
-type Held<'a> = Reader<'a, Segments<'a>>;
-
 /// Of which types a value is, as bits in the order of `values_of_known_types`.
-fn sorts(value: &Held<'_>) -> u32 {
+fn sorts(value: &Reader<'_, Segments<'_>>) -> u32 {
     let told = [
         <()>::fits(value),
         bool::fits(value),
@@ -46,7 +44,7 @@ fn sorts(value: &Held<'_>) -> u32 {
 }
 
 /// A number of each type, by a downcast.
-fn number(value: Held<'_>) -> i128 {
+fn number(value: Reader<'_, Segments<'_>>) -> i128 {
     if bool::fits(&value) {
         let is_set: bool = value.downcast();
         return if is_set { 1 } else { 0 };
@@ -83,7 +81,7 @@ fn number(value: Held<'_>) -> i128 {
 
 #[test]
 fn values_of_known_types(rt: HostRuntime) -> Result<(), Fail> {
-    let values: [(Held<'_>, i128); 10] = [
+    let values: [(Reader<'_, Segments<'_>>, i128); 10] = [
         (Reader::from(()), -1),
         (Reader::from(true), 1),
         (Reader::from(-7i8), -7),
@@ -101,11 +99,11 @@ fn values_of_known_types(rt: HostRuntime) -> Result<(), Fail> {
         assert!(rt; number(value) == expected, "{expected}");
         bit = bit.wrapping_mul(2);
     }
-    let text: Held<'_> = Reader::from("hi");
+    let text: Reader<'_, Segments<'_>> = Reader::from("hi");
     assert!(rt; sorts(&text) == 1 << 11);
-    let bytes: Held<'_> = Reader::Data(&[1, 2]);
+    let bytes: Reader<'_, Segments<'_>> = Reader::Data(&[1, 2]);
     assert!(rt; sorts(&bytes) == 1 << 12);
-    let capability: Held<'_> = Reader::from(Capability);
+    let capability: Reader<'_, Segments<'_>> = Reader::from(Capability);
     assert!(rt; sorts(&capability) == 0);
     Ok(())
 }
@@ -127,7 +125,7 @@ fn handles_of_known_types(rt: HostRuntime) -> Result<(), Fail> {
 fn enums_of_known_types(rt: HostRuntime) -> Result<(), Fail> {
     let set = set_of(rt.alloc(), SCHEMAS)?;
     let colours = EnumSchema::new(&set, set.enum_by_id(7).ok_or("7")?);
-    let value: Held<'_> = Reader::from(Enum::new(1, colours));
+    let value: Reader<'_, Segments<'_>> = Reader::from(Enum::new(1, colours));
     assert!(rt; sorts(&value) == 1 << 10);
     assert!(rt; number(value) == 1);
     Ok(())
@@ -135,14 +133,14 @@ fn enums_of_known_types(rt: HostRuntime) -> Result<(), Fail> {
 
 #[test]
 fn texts_and_data_of_known_types(rt: HostRuntime) -> Result<(), Fail> {
-    let value: Held<'_> = Reader::from("hi");
+    let value: Reader<'_, Segments<'_>> = Reader::from("hi");
     let is_hi = if text::Reader::fits(&value) {
         value.downcast::<text::Reader<'_>>().eq_str("hi")
     } else {
         false
     };
     assert!(rt; is_hi);
-    let value: Held<'_> = Reader::Data(&[1, 2]);
+    let value: Reader<'_, Segments<'_>> = Reader::Data(&[1, 2]);
     let is_two = if data::Reader::fits(&value) {
         value.downcast::<data::Reader<'_>>() == &[1, 2][..]
     } else {
@@ -219,7 +217,7 @@ fn refused_texts(rt: HostRuntime) -> Result<(), Fail> {
     let error = print(value, true, &mut out).err().ok_or("refused")?;
     assert!(rt; error.kind == ErrorKind::TextWithoutZeroByte);
     assert!(rt; out.as_slice() == b">".as_slice());
-    let value: Held<'_> = Reader::from("\"~");
+    let value: Reader<'_, Segments<'_>> = Reader::from("\"~");
     print(value, false, &mut out)?;
     assert!(rt; out.as_slice() == b">\"\\\"~\"".as_slice());
     Ok(())
