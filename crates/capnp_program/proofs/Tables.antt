@@ -1,5 +1,6 @@
 -- Tables of messages, and what lies behind them.
 use Rattle.std.proofs.Common.{◌≡◌, ℕ, suc, Option, ◌+◌, ◌/◌, ◌%◌, ◌^◌, ◌<◌, ◌≤◌, ltb, List, [], ◌∷◌, length, take, drop, sum, Some, Ok, Err, Result, refl, sym, ap, subst, ◌∙◌, arith, length-drop}
+use Rattle.std.specs.Prelude.{min, ◌-◌}
 use Rattle.std.specs.Int.{w64, from_le_bytes}
 use Rattle.std.proofs.lemmas.List.{nil_from_length}
 use Rattle.std.proofs.lemmas.List.Sums.{sum_by-cons, sum_by-take-le}
@@ -55,7 +56,7 @@ sum_of_word w =
 
 -- the device of known bytes doesn't fail, so a refused piece isn't there
 pub none_is_read : (read : Reader) (n : ℕ) (bytes : List ℕ) (k : ErrorKind) → KindCounts k 0 0 → IsPieceFault read n (Some bytes) k → (r : List ℕ × List ℕ) → read n bytes ≡ Ok r → ⊥
-none_is_read read n bytes Device rose fault r e = let no : 0 < 0 = rose (omega arith) in omega (arith, no)
+none_is_read read n bytes Device rose fault r e = let no : 0 ≡ min (0 + 1) (2 ^ 64 - 1) = rose in omega (arith, no)
 none_is_read read n bytes FailedToFillTheWholeBuffer rose fault r e = let no : ◌≡◌ {A = Result (List ℕ × List ℕ) Kind} (Err (kind_of FailedToFillTheWholeBuffer)) (Ok r) = sym fault ∙ e in absurd cc
 none_is_read read n bytes PrematureEndOfPackedInput rose fault r e = let no : ◌≡◌ {A = Result (List ℕ × List ℕ) Kind} (Err (kind_of PrematureEndOfPackedInput)) (Ok r) = sym fault ∙ e in absurd cc
 none_is_read read n bytes PackedInputDidNotEndCleanlyOnASegmentBoundary rose fault r e = let no : ◌≡◌ {A = Result (List ℕ × List ℕ) Kind} (Err (kind_of PackedInputDidNotEndCleanlyOnASegmentBoundary)) (Ok r) = sym fault ∙ e in absurd cc
