@@ -34,7 +34,7 @@ struct Words {
 }
 
 /// The words; none where there is no first.
-fn words(rt: &HostRuntime) -> io::Result<Option<Words>> {
+fn words_given(rt: &HostRuntime) -> io::Result<Option<Words>> {
     let mut given = env::args(rt)?;
     let Some(task) = given.nth(1) else {
         return Ok(None);
@@ -64,7 +64,7 @@ fn text<'a>(word: &'a Option<String>, other: &'a str) -> &'a str {
 }
 
 fn main(rt: HostRuntime) -> io::Result<()> {
-    let Some(words) = words(&rt)? else {
+    let Some(words) = words_given(&rt)? else {
         return reading_bench::read(&rt, STRUCTS);
     };
     let Words {
