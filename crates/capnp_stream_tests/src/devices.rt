@@ -2,10 +2,12 @@
 use capnp_io::adapters::{Sink, Source};
 use capnp_io::traits::{BufRead, Read, Write};
 use capnp_stream::frames::read_message;
-use capnp_units::errors::Error;
+use capnp_units::errors::{Error, Result};
 use capnp_units::kinds::ErrorKind;
 use capnp_units::segments::ReaderSegments;
+use std::alloc::Global;
 use std::io;
+use std::process::Abort;
 use std::test::Fail;
 
 /// What a device does at a call: it moves so many bytes at most, or fails.
@@ -94,24 +96,40 @@ const READS: [(&[Turn], Option<usize>); 8] = [
     (&[Fails(io::ErrorKind::UnexpectedEof)], None),
 ];
 
+/// How many bytes a source shows.
+fn count_shown<R: BufRead>(source: &mut R) -> Result<usize> {
+    Ok(source.fill_buf()?.len())
+}
+
+/// A reader's first turns show so many bytes or fail, and the next calls read all eight.
+fn expect_reads(
+    rt: &impl Abort,
+    alloc: Global,
+    turns: &[Turn],
+    shown: Option<usize>,
+) -> std::result::Result<(), Fail> {
+    let mut calls = 0;
+    let reader = Giving {
+        bytes: &EIGHT,
+        turns: Turns { left: turns },
+        calls: &mut calls,
+    };
+    let mut source = Source::new(alloc, reader)?;
+    let first = count_shown(&mut source);
+    assert!(rt; first == shown.ok_or(Error::from(ErrorKind::Device)));
+    assert!(rt; source.failures() == u64::from(shown.is_none()));
+    let mut all = [0u8; 8];
+    source.read_exact(&mut all)?;
+    assert!(rt; all == EIGHT);
+    assert!(rt; source.fill_buf()?.is_empty());
+    assert!(rt; source.failures() == u64::from(shown.is_none()));
+    Ok(())
+}
+
 #[test]
 fn readers_end_stop_and_fail(rt: HostRuntime) -> std::result::Result<(), Fail> {
     for (turns, shown) in READS {
-        let mut calls = 0;
-        let reader = Giving {
-            bytes: &EIGHT,
-            turns: Turns { left: turns },
-            calls: &mut calls,
-        };
-        let mut source = Source::new(rt.alloc(), reader)?;
-        let first = source.fill_buf().map(|bytes| bytes.len());
-        assert!(rt; first == shown.ok_or(Error::from(ErrorKind::Device)));
-        assert!(rt; source.failures() == u64::from(shown.is_none()));
-        let mut all = [0u8; 8];
-        source.read_exact(&mut all)?;
-        assert!(rt; all == EIGHT);
-        assert!(rt; source.fill_buf()?.is_empty());
-        assert!(rt; source.failures() == u64::from(shown.is_none()));
+        expect_reads(&rt, rt.alloc(), turns, shown)?;
     }
     Ok(())
 }
