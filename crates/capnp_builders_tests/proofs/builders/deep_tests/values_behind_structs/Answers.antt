@@ -3,7 +3,7 @@ use Rattle.capnp_model.specs.Segments.{after}
 use Rattle.capnp_model.specs.Pointers.{a_struct}
 use Rattle.capnp_model.specs.Trees.{Tree}
 use Rattle.capnp_footprints.specs.Footprints.{Owns, OwnsObject}
-use Rattle.capnp_footprints.specs.Changes.{Replaces, ReplacesObject}
+use Rattle.capnp_footprints.specs.Changes.{ReplacesObject}
 use Rattle.capnp_copy.specs.Structs.{struct_at}
 use Rattle.capnp_wire.specs.Places.{place_view}
 use Rattle.capnp_builders_tests.specs.Deep.{behind, with_behind, with_number}
