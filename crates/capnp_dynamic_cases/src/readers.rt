@@ -2,6 +2,7 @@
 use crate::answers::{Answer, told, truth};
 use crate::fault::Stop;
 use crate::steps::{Step, step_of};
+use crate::values::Segments;
 use crate::verbs::Call;
 use capnp_print::stringify::{Printed, print, print_field};
 use capnp_queries::fields::Field;
@@ -30,11 +31,15 @@ fn step_on<'a, A: ReaderArena>(value: Reader<'a, A>, word: &str) -> Result<Reade
 }
 
 /// What a path leads to.
-fn follow<'a, A: ReaderArena>(value: Reader<'a, A>, path: &[&str]) -> Result<Reader<'a, A>, Stop> {
-    match path {
-        [] => Ok(value),
-        [first, rest @ ..] => follow(step_on(value, first)?, rest),
+pub fn follow<'a, A: ReaderArena>(
+    value: Reader<'a, A>,
+    path: &[&str],
+) -> Result<Reader<'a, A>, Stop> {
+    let mut here = value;
+    for word in path {
+        here = step_on(here, word)?;
     }
+    Ok(here)
 }
 
 /// The text of a value.
@@ -49,7 +54,7 @@ fn printed<A: ReaderArena>(
 }
 
 /// The text of a value by `{}`, `{:?}`, `{:#}` and `{:#?}`, each in front of a blank.
-fn formatted<A: ReaderArena>(alloc: Global, value: Reader<'_, A>) -> Result<Answer, Stop> {
+pub fn formatted(alloc: Global, value: Reader<'_, Segments<'_>>) -> Result<Answer, Stop> {
     let shown = Printed::new(alloc, value);
     let text = format!(in alloc; "{shown} {shown:?} {shown:#} {shown:#?}")?;
     told(alloc, text.as_str())
@@ -164,7 +169,6 @@ pub fn answer<A: ReaderArena>(
     match call.verb {
         "get" => printed(alloc, follow(root, call.path)?, false),
         "print" => printed(alloc, follow(root, call.path)?, true),
-        "format" => formatted(alloc, follow(root, call.path)?),
         "get_named" | "has" | "has_named" | "field" | "field_in_lines" => {
             at_end(alloc, root, call)
         }
