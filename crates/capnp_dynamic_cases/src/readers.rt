@@ -12,6 +12,7 @@ use capnp_values::dynamic_value::Reader;
 use capnp_values::{any_pointer, dynamic_list, dynamic_struct};
 use capnp_wire::arena::ReaderArena;
 use std::alloc::Global;
+use std::fmt;
 
 /// What a step leads to.
 fn step_on<'a, A: ReaderArena>(value: Reader<'a, A>, word: &str) -> Result<Reader<'a, A>, Stop> {
@@ -53,9 +54,29 @@ fn printed<A: ReaderArena>(
     Ok(Answer::Text(text))
 }
 
+/// A value that is printed, in segments that live as long as it.
+#[derive(Clone, Copy)]
+struct Shown<'a> {
+    printed: Printed<'a, Segments<'a>>,
+}
+
+impl fmt::Display for Shown<'_> {
+    fn fmt<W: fmt::Write>(&self, f: &mut fmt::Formatter<W>) -> fmt::Result {
+        fmt::Display::fmt(&self.printed, f)
+    }
+}
+
+impl fmt::Debug for Shown<'_> {
+    fn fmt<W: fmt::Write>(&self, f: &mut fmt::Formatter<W>) -> fmt::Result {
+        fmt::Debug::fmt(&self.printed, f)
+    }
+}
+
 /// The text of a value by `{}`, `{:?}`, `{:#}` and `{:#?}`, each in front of a blank.
-pub fn formatted(alloc: Global, value: Reader<'_, Segments<'_>>) -> Result<Answer, Stop> {
-    let shown = Printed::new(alloc, value);
+pub fn formatted<'a>(alloc: Global, value: Reader<'a, Segments<'a>>) -> Result<Answer, Stop> {
+    let shown = Shown {
+        printed: Printed::new(alloc, value),
+    };
     let text = format!(in alloc; "{shown} {shown:?} {shown:#} {shown:#?}")?;
     told(alloc, text.as_str())
 }
