@@ -69,7 +69,11 @@ fn read(alloc: Global, asked: Asked<'_>, call: Call<'_>) -> Result<Answer, Stop>
     let levels = number_in::<i32>(asked.limits)?;
     let arena = ReaderArenaImpl::new(segments.as_slice(), levels);
     let root = root_struct(&arena, schema_of(asked.set, asked.id)?)?;
-    readers::answer(alloc, Reader::Struct(root), call)
+    let root = Reader::Struct(root);
+    if call.verb == "format" {
+        return readers::formatted(alloc, readers::follow(root, call.path)?);
+    }
+    readers::answer(alloc, root, call)
 }
 
 /// The limits of a message that is shown: `LEVELS,WORDS`, or `LEVELS` alone.

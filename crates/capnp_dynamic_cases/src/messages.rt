@@ -14,7 +14,6 @@ use capnp_copy::segments::BuilderArenaImpl;
 use capnp_copy_from::copy::copy_from;
 use capnp_dynamic::dynamic_struct::has_sizes;
 use capnp_dynamic::init::struct_size;
-use capnp_message::builder::Builder;
 use capnp_message::heap::HeapAllocator;
 use capnp_queries::structs::StructSchema;
 use capnp_units::errors::{Error, Result};
@@ -90,13 +89,21 @@ pub fn first_of<L: Allocator>(alloc: Global, arena: &BuilderArenaImpl<L>) -> Res
     Ok(Vec::from_slice(alloc, all[0])?)
 }
 
+/// Gives back the segments of an arena that ends.
+pub fn end_heap(arena: BuilderArenaImpl<HeapAllocator>) {
+    drop(arena.into_allocator());
+}
+
 /// The words of a copy of a source's value in one segment, each object where the last one ends: the same for each two sources of the same tree.
 fn words_of_copy<B: ReaderArena>(alloc: Global, source: &B) -> Result<Vec<u8>> {
     let allocator = HeapAllocator::new(alloc).first_segment_words(0x4000);
-    let mut message = Builder::new(alloc, allocator);
-    let copied = put_copy(&mut message.memory, source);
-    let bytes = first_of(alloc, &message.memory.arena);
-    drop(message.into_allocator());
+    let mut memory = Memory {
+        arena: BuilderArenaImpl::new(alloc, allocator),
+    };
+    let copied = put_copy(&mut memory, source);
+    let Memory { arena } = memory;
+    let bytes = first_of(alloc, &arena);
+    end_heap(arena);
     copied?;
     bytes
 }

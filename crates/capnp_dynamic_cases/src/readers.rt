@@ -2,6 +2,7 @@
 use crate::answers::{Answer, told, truth};
 use crate::fault::Stop;
 use crate::steps::{Step, step_of};
+use crate::values::Segments;
 use crate::verbs::Call;
 use capnp_print::stringify::{Printed, print, print_field};
 use capnp_queries::fields::Field;
@@ -11,6 +12,7 @@ use capnp_values::dynamic_value::Reader;
 use capnp_values::{any_pointer, dynamic_list, dynamic_struct};
 use capnp_wire::arena::ReaderArena;
 use std::alloc::Global;
+use std::fmt;
 
 /// What a step leads to.
 fn step_on<'a, A: ReaderArena>(value: Reader<'a, A>, word: &str) -> Result<Reader<'a, A>, Stop> {
@@ -30,11 +32,15 @@ fn step_on<'a, A: ReaderArena>(value: Reader<'a, A>, word: &str) -> Result<Reade
 }
 
 /// What a path leads to.
-fn follow<'a, A: ReaderArena>(value: Reader<'a, A>, path: &[&str]) -> Result<Reader<'a, A>, Stop> {
-    match path {
-        [] => Ok(value),
-        [first, rest @ ..] => follow(step_on(value, first)?, rest),
+pub fn follow<'a, A: ReaderArena>(
+    value: Reader<'a, A>,
+    path: &[&str],
+) -> Result<Reader<'a, A>, Stop> {
+    let mut here = value;
+    for word in path {
+        here = step_on(here, word)?;
     }
+    Ok(here)
 }
 
 /// The text of a value.
@@ -48,9 +54,29 @@ fn printed<A: ReaderArena>(
     Ok(Answer::Text(text))
 }
 
+/// A value that is printed, in segments that live as long as it.
+#[derive(Clone, Copy)]
+struct Shown<'a> {
+    printed: Printed<'a, Segments<'a>>,
+}
+
+impl fmt::Display for Shown<'_> {
+    fn fmt<W: fmt::Write>(&self, f: &mut fmt::Formatter<W>) -> fmt::Result {
+        fmt::Display::fmt(&self.printed, f)
+    }
+}
+
+impl fmt::Debug for Shown<'_> {
+    fn fmt<W: fmt::Write>(&self, f: &mut fmt::Formatter<W>) -> fmt::Result {
+        fmt::Debug::fmt(&self.printed, f)
+    }
+}
+
 /// The text of a value by `{}`, `{:?}`, `{:#}` and `{:#?}`, each in front of a blank.
-fn formatted<A: ReaderArena>(alloc: Global, value: Reader<'_, A>) -> Result<Answer, Stop> {
-    let shown = Printed::new(alloc, value);
+pub fn formatted<'a>(alloc: Global, value: Reader<'a, Segments<'a>>) -> Result<Answer, Stop> {
+    let shown = Shown {
+        printed: Printed::new(alloc, value),
+    };
     let text = format!(in alloc; "{shown} {shown:?} {shown:#} {shown:#?}")?;
     told(alloc, text.as_str())
 }
@@ -164,7 +190,6 @@ pub fn answer<A: ReaderArena>(
     match call.verb {
         "get" => printed(alloc, follow(root, call.path)?, false),
         "print" => printed(alloc, follow(root, call.path)?, true),
-        "format" => formatted(alloc, follow(root, call.path)?),
         "get_named" | "has" | "has_named" | "field" | "field_in_lines" => {
             at_end(alloc, root, call)
         }

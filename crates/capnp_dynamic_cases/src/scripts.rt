@@ -1,7 +1,7 @@
 //! Scripts of calls at messages that are built.
 use crate::answers::{hex_of, is_wanted};
 use crate::fault::Fault;
-use crate::messages::{first_of, is_tree_of, put_copy, put_words, root_place};
+use crate::messages::{end_heap, first_of, is_tree_of, put_copy, put_words, root_place};
 use crate::room::Room;
 use crate::values::Segments;
 use crate::verbs::{Call, answer, call_of};
@@ -115,8 +115,13 @@ pub fn is_right_on_heap(alloc: Global, words: u32, script: Script<'_>) -> Result
     let answered = copied(alloc, &mut memory, script);
     let Memory { arena } = memory;
     let ends = ends_so(alloc, &arena, script.end);
-    drop(arena.into_allocator());
+    end_heap(arena);
     Ok(answered? && ends?)
+}
+
+/// Gives back the room of an arena that ends.
+fn end_room(arena: BuilderArenaImpl<Room>) {
+    drop(arena.into_allocator());
 }
 
 /// Whether all is as a script says in a message whose one segment has room for so many words.
@@ -127,6 +132,6 @@ pub fn is_right_in_room(alloc: Global, words: u32, script: Script<'_>) -> Result
     let answered = placed(alloc, &mut memory, script);
     let Memory { arena } = memory;
     let ends = ends_so(alloc, &arena, script.end);
-    drop(arena.into_allocator());
+    end_room(arena);
     Ok(answered? && ends?)
 }
