@@ -8,7 +8,7 @@ ghost use Rattle.capnp_dynamic.specs.Edits.{IsThere, IsWide};
 ghost use Rattle.capnp_calls.specs.Roots.{IsRoot};
 
 use crate::fixtures::set_of;
-use crate::own_type::{begun, first_of};
+use crate::own_type::{begun, finish};
 use capnp_allocators::heap::HeapAllocator;
 use capnp_builders::struct_builder::StructBuilder;
 use capnp_calls::reply::Reply;
@@ -90,8 +90,7 @@ fn ran(alloc: Global, id: u64, calls: &[Call]) -> Result<(Vec<Reply>, Vec<u8>), 
     };
     let done = answered(alloc, &mut memory, StructSchema::new(&set, raw), calls);
     let Memory { arena } = memory;
-    let bytes = first_of(alloc, &arena);
-    drop(arena.into_allocator());
+    let bytes = finish(alloc, arena);
     match done {
         Ok(replies) => Ok((replies, bytes?)),
         Err(_) => Err(Fail::from("the calls aren't answered")),

@@ -179,15 +179,19 @@ fn written<A: BuilderArena>(memory: &mut Memory<A>, schema: StructSchema<'_>) ->
 }
 
 /// The used bytes of the first segment.
-pub(crate) fn first_of<A: Allocator>(
-    alloc: Global,
-    arena: &BuilderArenaImpl<A>,
-) -> Result<Vec<u8>> {
+fn first_of<A: Allocator>(alloc: Global, arena: &BuilderArenaImpl<A>) -> Result<Vec<u8>> {
     let all = arena.get_segments_for_output(alloc)?;
     if all.is_empty() {
         return Err(Error::from(ErrorKind::OutOfBounds));
     }
     Ok(Vec::from_slice(alloc, all[0])?)
+}
+
+/// The same of an arena on the heap, which ends.
+pub(crate) fn finish(alloc: Global, arena: BuilderArenaImpl<HeapAllocator>) -> Result<Vec<u8>> {
+    let bytes = first_of(alloc, &arena);
+    drop(arena.into_allocator());
+    bytes
 }
 
 /// A struct of P is written as a caller's type, another isn't.
@@ -206,8 +210,7 @@ fn structs_are_written_as_callers_types(rt: HostRuntime) -> std::result::Result<
         };
         let done = written(&mut memory, schema);
         let Memory { arena } = memory;
-        let left = first_of(alloc, &arena);
-        drop(arena.into_allocator());
+        let left = finish(alloc, arena);
         assert!(rt; done? == is_own, "at {id}");
         assert!(rt; left?.as_slice() == bytes, "at {id}");
     }

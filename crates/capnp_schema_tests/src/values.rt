@@ -163,7 +163,7 @@ fn values_of_annotations(rt: HostRuntime) -> Result<(), Fail> {
             .ok_or("a number")?;
         assert!(rt; matches!(value, Reader::UInt16(7)));
         assert!(rt; Reader::<Segments<'_>>::new(&set, &wide, small).is_err());
-        read += 1;
+        read = read.saturating_add(1);
     }
     let any = Type::from(TypeVariant::AnyPointer);
     let untyped = Value::AnyPointer;
@@ -175,7 +175,7 @@ fn values_of_annotations(rt: HostRuntime) -> Result<(), Fail> {
             return Ok(None.ok_or("untyped")?);
         };
         assert!(rt; pointer.is_null());
-        read += 1;
+        read = read.saturating_add(1);
     }
     let p = Type::from(TypeVariant::Struct(set.struct_by_id(1).ok_or("known")?));
     let words = [0, 0, 0, 0, 1, 0, 0, 0, 7, 0, 0, 0, 0, 0, 0, 0];
@@ -189,7 +189,7 @@ fn values_of_annotations(rt: HostRuntime) -> Result<(), Fail> {
         };
         let field = held.get_named("a").ok().ok_or("a")?;
         assert!(rt; matches!(field, Reader::UInt16(7)));
-        read += 1;
+        read = read.saturating_add(1);
     }
     let text = Type::from(TypeVariant::Text);
     if set.holds(text) {
@@ -197,7 +197,7 @@ fn values_of_annotations(rt: HostRuntime) -> Result<(), Fail> {
             .err()
             .ok_or("refused")?;
         assert!(rt; refused.kind == ErrorKind::TypeMismatch);
-        read += 1;
+        read = read.saturating_add(1);
     }
     assert!(rt; read == 4);
     Ok(())
