@@ -15,7 +15,7 @@ fn tell(rt: &HostRuntime, what: &str, bytes: usize, start: Instant) -> io::Resul
 }
 
 fn read_structs(rt: &HostRuntime, count: u32) -> io::Result<()> {
-    let bytes = reading_samples::structs(rt.alloc(), count)?;
+    let bytes = reading_samples::structs(rt.alloc(), count.min(MOST))?;
     let start = Instant::now(rt)?;
     let read = sum_of_structs(&bytes);
     tell(rt, "structs", bytes.len(), start)?;
@@ -26,7 +26,7 @@ fn read_structs(rt: &HostRuntime, count: u32) -> io::Result<()> {
 }
 
 fn read_text(rt: &HostRuntime, len: u32) -> io::Result<()> {
-    let bytes = reading_samples::text(rt.alloc(), len)?;
+    let bytes = reading_samples::text(rt.alloc(), len.min(16 * MOST))?;
     let start = Instant::now(rt)?;
     let read = letters_of_text(&bytes);
     tell(rt, "text", bytes.len(), start)?;
