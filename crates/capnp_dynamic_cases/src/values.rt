@@ -158,7 +158,7 @@ fn sorted<'a>(sort: &str, word: &str) -> Result<Reader<'a, Segments<'a>>, Fault>
     })
 }
 
-/// The root of segments, as a list or a struct of the type; under a type of another sort as a struct of any schema.
+/// The root of segments, as a list or a struct of the type; under a type of another sort as a struct of any schema, or as an untyped pointer where it is no struct.
 fn message<'a>(
     set: &'a SchemaSet,
     ty: Type,
@@ -169,11 +169,13 @@ fn message<'a>(
     if let TypeVariant::List(element) = ty.which() {
         return Ok(Reader::List(root_list(arena, set, element)?));
     }
-    let schema = match struct_of_type(set, ty) {
-        Some(schema) => schema,
-        None => first_struct(set)?,
-    };
-    Ok(Reader::Struct(root_struct(arena, schema)?))
+    if let Some(schema) = struct_of_type(set, ty) {
+        return Ok(Reader::Struct(root_struct(arena, schema)?));
+    }
+    match root_struct(arena, first_struct(set)?) {
+        Ok(object) => Ok(Reader::Struct(object)),
+        Err(_) => Ok(Reader::AnyPointer(any_pointer::Reader::new(root_pointer(arena)?))),
+    }
 }
 
 /// A field of the root of segments, by the id of its schema and its name.
