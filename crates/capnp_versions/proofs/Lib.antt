@@ -42,3 +42,12 @@ mod BareContents
 mod BareCells
 mod BareEdits
 mod BareSchemas
+mod RenamedTwins
+mod RenamedWrites
+mod RenamedEdits
+mod RenamedReadings
+mod RenamedFaults
+mod RenamedEnds
+mod RenamedSteps
+mod RenamedPaths
+mod RenamedAdmission
