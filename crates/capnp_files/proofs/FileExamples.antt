@@ -6,6 +6,7 @@ use Rattle.serde_json.specs.Data.{number, string, array, object, unsigned, item,
 use Rattle.capnp_calls.specs.declared.call.Verb.TheVariants as verb
 use Rattle.capnp_files.specs.SchemaFiles.{type_in, type_of_members, field_in, no_list}
 use Rattle.capnp_files.specs.CallsFiles.{call_in, given_number}
+use Rattle.capnp_files.specs.RenamesFiles.{renaming_in}
 
 -- {"name": "a", "offset": 0, "type": "UInt16"}
 number_field : field_in (object (member (codes "name") (string (codes "a")) (member (codes "offset") (number (unsigned 0)) (member (codes "type") (string (codes "UInt16")) no_members))))
@@ -28,3 +29,12 @@ other_field = refl
 number_call : call_in (object (member (codes "path") (array (item (string (codes "items")) (item (number (unsigned 0)) (item (string (codes "a")) no_items)))) (member (codes "value") (object (member (codes "number") (number (unsigned 7)) no_members)) (member (codes "verb") (string (codes "set")) no_members))))
     ≡ Some (record { path = name (codes "items") ∷ index 0 ∷ name (codes "a") ∷ []; verb = verb.Set; value = Some (given_number (pos 7)) })
 number_call = refl
+
+-- {"from": "a", "node": 1, "to": "c"}
+one_renaming : renaming_in (object (member (codes "from") (string (codes "a")) (member (codes "node") (number (unsigned 1)) (member (codes "to") (string (codes "c")) no_members))))
+    ≡ Some (record { node = 1; older = codes "a"; newer = codes "c" })
+one_renaming = refl
+
+-- {"from": "a", "node": 1} lacks a key.
+no_newer_name : renaming_in (object (member (codes "from") (string (codes "a")) (member (codes "node") (number (unsigned 1)) no_members))) ≡ None
+no_newer_name = refl

@@ -3,3 +3,4 @@ pub mod Faults
 pub mod SchemaFiles
 pub mod CallsFiles
 pub mod CallViews
+pub mod RenamesFiles

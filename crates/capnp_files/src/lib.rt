@@ -1,4 +1,4 @@
-//! The files of the relay's program: schemas and calls as JSON.
+//! The files of the relay's program: schemas, calls and renamed fields as JSON.
 #![tactic(auto)]
 
 mod calls;
@@ -8,5 +8,6 @@ pub mod fault;
 mod fields;
 mod json;
 mod nodes;
+pub mod renames_file;
 pub mod schema_file;
 mod types;
