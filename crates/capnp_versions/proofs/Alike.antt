@@ -1,8 +1,8 @@
 -- Values of one trimmed value, and cells that hold the same.
-use Rattle.std.proofs.Common.{◌≡◌, ℕ, zero, suc, ◌*◌, ◌+◌, ◌^◌, ◌<◌, ◌≤◌, refl, sym, ◌∙◌, ap, subst, arith}
-use Rattle.capnp_model.specs.Trees.{Tree, null, capability, structure, plain_list, pointer_list, struct_list, Trees, none, ◌▸◌, child}
+use Rattle.std.proofs.Common.{◌≡◌, ℕ, ◌*◌, ◌+◌, ◌^◌, ◌<◌, ◌≤◌, refl, sym, ◌∙◌, ap, subst, arith}
+use Rattle.capnp_model.specs.Trees.{Tree, null, capability, structure, plain_list, pointer_list, struct_list, Trees, child}
 use Rattle.capnp_model.specs.Sections.{with_bits}
-use Rattle.capnp_model.specs.Trimming.{after_stripping, stripped, trim, trim_each}
+use Rattle.capnp_model.specs.Trimming.{trim, trim_each}
 use Rattle.capnp_model.specs.Edits.{Cell, put_bits, put_child}
 use Rattle.capnp_model.proofs.lemmas.Bounds.{with_bits_lt}
 use Rattle.capnp_model.proofs.lemmas.Stripping.{child-stripped, child-trim_each}

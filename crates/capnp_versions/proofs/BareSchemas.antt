@@ -1,5 +1,5 @@
 -- Node records have no default with a capability, so that calls put none into a value.
-use Rattle.std.proofs.Common.{◌≡◌, ℕ, zero, suc, ◌/◌, ◌&&◌, Bool, true, false, not, length, Option, Some, None, List, [], ◌∷◌, refl, subst}
+use Rattle.std.proofs.Common.{◌≡◌, ℕ, zero, suc, ◌/◌, ◌&&◌, false, not, length, Option, Some, None, List, [], ◌∷◌, refl, subst}
 use Rattle.std.specs.List.{AllByRecursion}
 use Rattle.std.specs.Str.{bytes_eq}
 use Rattle.capnp_model.specs.Chains.{◌>>=◌, ◌provided◌}

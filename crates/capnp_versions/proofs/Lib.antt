@@ -54,4 +54,6 @@ mod RenamedPaths
 mod RenamedAdmission
 mod RenamedShapes
 mod RenamedCalls
+mod OlderNames
+mod PlainViews
 mod RenamedVersions

@@ -4,15 +4,14 @@ use Rattle.std.specs.Prelude.{pos, negsuc}
 use Rattle.capnp_model.specs.Kinds.{Kind, TypeMismatch, InitnIsOnlyValidForListTextOrDataFields, ExpectedAListOrBlob}
 use Rattle.capnp_model.specs.Trees.{Tree, null, plain_list, pointer_list, struct_list, none, Elements, resized}
 use Rattle.capnp_model.specs.Schemas.{PlainType, Ty, void, plain, text, blob, untyped, interface, struct, list, Shape, shape, void_slot, plain_slot, pointer_slot, Schema, default_or_null}
-use Rattle.capnp_model.specs.Readings.{Reading, null_pointer, record_as, ◌▹◌, Children, whole_words, shape_record, read, read_child, struct_elements, is_list_of, list_reading, have_room}
+use Rattle.capnp_model.specs.Readings.{Reading, record_as, ◌▹◌, Children, whole_words, shape_record, read, read_child, struct_elements, is_list_of, list_reading, have_room}
 use Rattle.capnp_model.specs.Printing.{as_type, as_body}
 use Rattle.capnp_model.specs.Projection.{project}
 use Rattle.capnp_model.specs.Calls.{CallValue, whole_number, truth, enumerant, text_value, blob_value, message, Verb, get, set_to, init, initn, clear, Content, refused_by, bits_of, object, plain_content, value_content, empty_struct, empty_elements, empty_structs, new_list, init_content, initn_content, element_content}
 use Rattle.capnp_model.specs.Steps.{done, outcome_map, reading_after, at_field, at_element}
 use Rattle.capnp_model.proofs.lemmas.OlderReading.{SamePlain, same_bool, same_int, same_uint, same_enum, Related, related_void, related_plain', related_text, related_blob, related_untyped, related_interface, related_struct, related_list, KeptShape, read-project}
-use Rattle.capnp_model.proofs.lemmas.Paths.{read_child-is, nothing_in}
+use Rattle.capnp_model.proofs.lemmas.Paths.{nothing_in}
 use Rattle.capnp_versions.specs.SameReplies.{IsWrite}
-use Rattle.capnp_versions.proofs.Wrote.{reads-nothing}
 
 plain_is : (p q : PlainType) (v : CallValue) → SamePlain p q → plain_content p v ≡ plain_content q v
 plain_is p q v same_bool = refl

@@ -1,22 +1,22 @@
 -- A call that is admitted beside a compatible newer schema, with renamed fields, is admitted in the newer's words, and its names find the same fields in both.
-use Rattle.std.proofs.Common.{◌≡◌, ℕ, Bool, true, false, not, ◌&&◌, ◌==◌, nat_le, List, [], ◌∷◌, Option, Some, None, refl, sym, ◌∙◌, ap, subst}
+use Rattle.std.proofs.Common.{◌≡◌, ℕ, Bool, true, false, not, ◌&&◌, ◌==◌, nat_le, List, [], ◌∷◌, Option, refl, sym, ◌∙◌, ap}
 use Rattle.std.specs.Str.{bytes_eq}
 use Rattle.capnp_model.specs.Trees.{Tree}
 use Rattle.capnp_model.specs.Schemas.{Ty, void, plain, text, blob, untyped, interface, struct, list, Shape, shape, id_of_shape, Fields, no_fields, field, Body, void_slot, plain_slot, pointer_slot, group_slot, Schema}
-use Rattle.capnp_model.specs.Partners.{Renaming, partner_name, renamed_shape, renamed_fields, renamed_body, in_newer_words, renamed}
+use Rattle.capnp_model.specs.Partners.{Renaming, partner_name, renamed_shape, renamed_fields, renamed_body, renamed}
 use Rattle.capnp_model.specs.RenamedCalls.{renamed_path, renamed_step, node_at}
-use Rattle.capnp_model.specs.InKindCalls.{at_slot, at_value, end_at, step_into, next_end}
+use Rattle.capnp_model.specs.InKindCalls.{at_slot, at_value, end_at, step_into}
 use Rattle.capnp_model.specs.Printing.{fields_in}
 use Rattle.capnp_model.specs.Calls.{Step, name, index, Verb}
 use Rattle.capnp_model.specs.Steps.{Target, no_target, target, target_if, target_of}
 use Rattle.capnp_model.specs.Compatible.{Pairs, has_pair, related, member_count, keeps_union, same_default, keeps, keeps_fields, keeps_body}
-use Rattle.capnp_model.specs.Admitted.{is_extended, is_group_write, At, at_body, at_element, nowhere, into_fields, into_type, into_at, is_admitted_end, is_admitted_from}
+use Rattle.capnp_model.specs.Admitted.{is_extended, is_group_write, At, at_body, at_element, nowhere, into_fields, into_type, into_at, is_admitted_from}
 use Rattle.capnp_model.proofs.lemmas.KeptRules.{and_three, and_four}
 use Rattle.capnp_model.proofs.lemmas.FineShapes.{IsNewName, IsGood, AreGood, IsGoodBody}
 use Rattle.capnp_model.proofs.lemmas.NewerWords.{newer-words}
 use Rattle.capnp_versions.proofs.Partners.{not_found, absent, partner}
 use Rattle.capnp_versions.proofs.SelfFollows.{AllFields, all-found}
-use Rattle.capnp_versions.proofs.RenamedTwins.{NameTwin, ValueTwin, ThroughTwin, FieldTwin, ElementTwin}
+use Rattle.capnp_versions.proofs.RenamedTwins.{NameTwin, ValueTwin, FieldTwin, ElementTwin}
 use Rattle.capnp_versions.proofs.RenamedPaths.{found-renamed, kept-apart}
 
 -- a name that finds nothing is new

@@ -1,13 +1,12 @@
 -- A call under an older schema and the same call in a newer one's words, under the older in these words: they end alike and leave one value.
 use Rattle.std.proofs.Common.{◌≡◌, ℕ, false, List, [], ◌∷◌, map, refl, sym, ◌∙◌, ap, subst}
 use Rattle.std.specs.List.{AllByRecursion}
-use Rattle.capnp_model.specs.Kinds.{Kind}
 use Rattle.capnp_model.specs.Trees.{Tree, null, capability, structure, plain_list, pointer_list, struct_list, child}
 use Rattle.capnp_model.specs.Schemas.{struct, Shape, id_of_shape, Fields, Schema}
 use Rattle.capnp_model.specs.Partners.{Renaming, partner_name, renamed}
 use Rattle.capnp_model.specs.RenamedCalls.{renamed_path, renamed_call}
 use Rattle.capnp_model.specs.InKindCalls.{at_value, end_at}
-use Rattle.capnp_model.specs.Readings.{Record, Children, Extent, whole_words, no_children, read_child, shape_record, record_by_shape, record_of}
+use Rattle.capnp_model.specs.Readings.{Record, Children, Extent, whole_words, no_children, shape_record, record_by_shape, record_of}
 use Rattle.capnp_model.specs.Printing.{fields_in}
 use Rattle.capnp_model.specs.Calls.{Step, name, index, Verb, get, set_to, init, initn, clear, Call}
 use Rattle.capnp_model.specs.Steps.{Outcome, refused, shown, done, target_of, on_name, step_field, step_path, step}
@@ -17,7 +16,7 @@ use Rattle.capnp_versions.specs.SameReplies.{IsWrite, SameUnlessGet, SameReplies
 use Rattle.capnp_versions.proofs.RenamedTwins.{ElementTwin}
 use Rattle.capnp_versions.proofs.RenamedWrites.{shape-is}
 use Rattle.capnp_versions.proofs.RenamedReadings.{kids_at, child_at, nothing_at}
-use Rattle.capnp_versions.proofs.RenamedEnds.{End, is_refused, is_shown, is_done, end_is}
+use Rattle.capnp_versions.proofs.RenamedEnds.{end_is}
 use Rattle.capnp_versions.proofs.RenamedSteps.{ends-alike}
 use Rattle.capnp_versions.proofs.RenamedEdits.{path-same}
 use Rattle.capnp_versions.proofs.WriteOnly.{Sees, not-seen}

@@ -1,15 +1,15 @@
 -- An edit along a path is the same along the path in a newer schema's words.
-use Rattle.std.proofs.Common.{◌≡◌, ℕ, List, [], ◌∷◌, Option, Some, None, refl, sym, ◌∙◌, ap}
-use Rattle.capnp_model.specs.Trees.{Tree, structure, child, widened}
+use Rattle.std.proofs.Common.{◌≡◌, ℕ, List, [], ◌∷◌, Option, refl, sym, ◌∙◌, ap}
+use Rattle.capnp_model.specs.Trees.{Tree, child, widened}
 use Rattle.capnp_model.specs.Schemas.{Ty, void, plain, text, blob, untyped, interface, struct, list, Shape, shape, id_of_shape, Fields, Body, void_slot, plain_slot, pointer_slot, group_slot, Schema, default_or_null}
 use Rattle.capnp_model.specs.Partners.{Renaming, partner_name, renamed_shape, renamed_fields, renamed_body, renamed}
 use Rattle.capnp_model.specs.RenamedCalls.{renamed_path, renamed_step, node_at}
-use Rattle.capnp_model.specs.InKindCalls.{PathEnd, at_slot, at_value, end_at, step_into, next_end}
+use Rattle.capnp_model.specs.InKindCalls.{at_slot, at_value, end_at, step_into}
 use Rattle.capnp_model.specs.Printing.{fields_in}
 use Rattle.capnp_model.specs.Calls.{Step, name, index, Verb}
-use Rattle.capnp_model.specs.Steps.{Target, target, target_of}
+use Rattle.capnp_model.specs.Steps.{Target, target_of}
 use Rattle.capnp_model.specs.Edits.{Cell, Edit, put_child, mark, opened_tree, edit_target, edit_named, in_struct, edit_struct, edit_list, as_list, edit_value, edit_through, edit_through_element, edit_field, edit_element, put_in_element}
-use Rattle.capnp_versions.proofs.RenamedTwins.{NameTwin, ValueTwin, ThroughTwin, FieldTwin, ElementTwin}
+use Rattle.capnp_versions.proofs.RenamedTwins.{NameTwin, ValueTwin, FieldTwin, ElementTwin}
 use Rattle.capnp_versions.proofs.RenamedWrites.{shape-is, as-list-same, element-content-same, put-same}
 
 module _ (rs : List Renaming) (o : Schema) (verb : Verb) where

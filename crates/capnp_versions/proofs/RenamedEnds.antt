@@ -1,20 +1,14 @@
 -- A call ends alike under an older schema and, along the path in the newer's words, under the same schema in these words.
-use Rattle.std.proofs.Common.{◌≡◌, ℕ, zero, suc, Bool, true, false, List, [], ◌∷◌, Option, Some, None, refl, sym, ◌∙◌, ap}
+use Rattle.std.proofs.Common.{◌≡◌, ℕ, List, Option, refl, sym, ◌∙◌, ap}
 use Rattle.capnp_model.specs.Kinds.{Kind, InactiveMember, WrongStep}
-use Rattle.capnp_model.specs.Trees.{Tree, null, capability, structure, plain_list, pointer_list, struct_list, child}
-use Rattle.capnp_model.specs.Schemas.{Ty, void, plain, text, blob, untyped, interface, struct, list, Shape, shape, id_of_shape, Fields, no_fields, field, Body, void_slot, plain_slot, pointer_slot, group_slot, Schema, default_or_null}
-use Rattle.capnp_model.specs.Partners.{Renaming, partner_name, renamed_shape, renamed_fields, renamed_body, renamed}
-use Rattle.capnp_model.specs.RenamedCalls.{renamed_path, renamed_step, node_at}
-use Rattle.capnp_model.specs.InKindCalls.{PathEnd, at_slot, at_value, end_at, step_into, next_end}
-use Rattle.capnp_model.specs.Readings.{Reading, inactive, null_pointer, fault, number, text_of, blob_of, list_of, record_as, opaque, Readings, no_readings, ◌▹◌, Record, Children, Extent, whole_words, discriminant, is_active, only_if, shape_record, fields_of, body_of, element_as, read, read_child, record_by_shape}
-use Rattle.capnp_model.specs.Printing.{As, as_type, as_body, fields_in}
-use Rattle.capnp_model.specs.Calls.{Step, name, index, Verb, get, set_to, init, initn, clear, CallValue, whole_number, truth, enumerant, text_value, blob_value, message, message_root, Content, refused_by, bits_of, object, slot_content, element_content}
-use Rattle.capnp_model.specs.Groups.{or_else, pointer_fault, field_fault, is_turn, group_fault, fields_fault, body_fault}
-use Rattle.capnp_model.specs.Steps.{Outcome, refused, shown, done, outcome_map, Target, target, target_of, entry_of, at_target, on_name, on_index, got, reading_after, copied_or_refused, set_group_from, set_group, at_field, at_element, opened, through_value, through_field, step_field, step_element}
-use Rattle.capnp_model.proofs.lemmas.Paths.{entry_of-fields_of}
-use Rattle.capnp_versions.proofs.RenamedTwins.{NameTwin, ValueTwin, ThroughTwin, FieldTwin, ElementTwin}
-use Rattle.capnp_versions.proofs.RenamedWrites.{shape-is, slot-content-same, element-content-same}
-use Rattle.capnp_versions.proofs.RenamedReadings.{Head, no_value, one_null, some, fault_head, head, kids_at, child_at, nothing_at, Like, like_null, like_fault, like_number, like_text, like_blob, like_opaque, like_struct, like_list, BothItem, both_item, BothItems, heads-like, read-like, element-like, opened-like}
+use Rattle.capnp_model.specs.Trees.{Tree}
+use Rattle.capnp_model.specs.Schemas.{Ty, void, plain, text, blob, untyped, interface, struct, list, Body, pointer_slot, Schema, default_or_null}
+use Rattle.capnp_model.specs.Partners.{Renaming}
+use Rattle.capnp_model.specs.Readings.{Reading, inactive, null_pointer, fault, number, text_of, blob_of, list_of, record_as, opaque}
+use Rattle.capnp_model.specs.Printing.{As}
+use Rattle.capnp_model.specs.Calls.{Step, name, index, Content, refused_by, bits_of, object}
+use Rattle.capnp_model.specs.Steps.{Outcome, refused, shown, done, outcome_map, got, reading_after, opened, through_value, through_field}
+use Rattle.capnp_versions.proofs.RenamedReadings.{Head, no_value, one_null, some, fault_head, head, Like, like_null, like_fault, like_number, like_text, like_blob, like_opaque, like_struct, like_list}
 
 -- ---- ends
 

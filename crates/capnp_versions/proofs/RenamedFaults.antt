@@ -4,8 +4,8 @@ use Rattle.capnp_model.specs.Kinds.{Kind}
 use Rattle.capnp_model.specs.Trees.{Tree}
 use Rattle.capnp_model.specs.Schemas.{Ty, Shape, shape, Fields, no_fields, field, Body, void_slot, plain_slot, pointer_slot, group_slot, Schema}
 use Rattle.capnp_model.specs.Partners.{Renaming, renamed_shape, renamed_fields, renamed_body, renamed}
-use Rattle.capnp_model.specs.Readings.{Reading, record_as, Extent, discriminant, is_active, only_if, shape_record, fields_of, body_of, read}
-use Rattle.capnp_model.specs.Groups.{or_else, field_fault, is_turn, group_fault, fields_fault, body_fault}
+use Rattle.capnp_model.specs.Readings.{Reading, Extent, discriminant, is_active, only_if, shape_record, fields_of, body_of, read}
+use Rattle.capnp_model.specs.Groups.{or_else, is_turn, group_fault, fields_fault, body_fault}
 use Rattle.capnp_versions.proofs.RenamedReadings.{kids_at, Like, like_null, like_fault, like_number, like_text, like_blob, like_opaque, like_struct, like_list, read-like}
 
 module _ (rs : List Renaming) (o : Schema) where

@@ -1,22 +1,15 @@
 -- What a compatible newer schema keeps of an older one in its words: names stay apart, and the paths of admitted calls find the same fields.
-use Rattle.std.proofs.Common.{◌≡◌, ℕ, Bool, true, false, not, ◌&&◌, ◌==◌, nat_le, List, [], ◌∷◌, Option, Some, None, refl, sym, ◌∙◌, ap, subst}
+use Rattle.std.proofs.Common.{◌≡◌, ℕ, Bool, true, false, ◌&&◌, List, Option, refl, sym, ◌∙◌, ap, subst}
 use Rattle.std.specs.Str.{bytes_eq}
 use Rattle.std.proofs.lemmas.Slice.Eq.{bytes_eq-Decides}
-use Rattle.capnp_model.specs.Trees.{Tree}
-use Rattle.capnp_model.specs.Schemas.{Ty, void, plain, text, blob, untyped, interface, struct, list, Shape, shape, id_of_shape, Fields, no_fields, field, Body, void_slot, plain_slot, pointer_slot, group_slot, Schema}
-use Rattle.capnp_model.specs.Partners.{Renaming, partner_name, renamed_shape, renamed_fields, renamed_body, in_newer_words, renamed}
-use Rattle.capnp_model.specs.Printing.{fields_in}
-use Rattle.capnp_model.specs.Calls.{Step, name, index, Verb}
-use Rattle.capnp_model.specs.Steps.{Target, no_target, target, target_if, target_of}
-use Rattle.capnp_model.specs.Compatible.{Pairs, has_pair, related, same_option, is_new, member_count, keeps_union, same_default, keeps, keeps_fields, keeps_body}
-use Rattle.capnp_model.specs.Admitted.{is_extended, is_group_write, At, at_body, at_element, nowhere, into_fields, into_type, is_admitted_end, is_admitted_from}
-use Rattle.capnp_model.proofs.lemmas.KeptRules.{and_three, and_four}
-use Rattle.capnp_model.proofs.lemmas.FineShapes.{IsNewName, IsGood, AreGood, IsGoodBody, IsGoodMember, IsNewMember}
-use Rattle.capnp_model.proofs.lemmas.FitCalls.{IsGoodSlot}
-use Rattle.capnp_model.proofs.lemmas.NewerWords.{newer-words}
-use Rattle.capnp_model.proofs.lemmas.Tests.{and_left, and_right}
+use Rattle.capnp_model.specs.Schemas.{Fields, no_fields, field, Body, Schema}
+use Rattle.capnp_model.specs.Partners.{Renaming, partner_name, renamed_fields, renamed_body}
+use Rattle.capnp_model.specs.Steps.{target, target_if, target_of}
+use Rattle.capnp_model.specs.Compatible.{Pairs, same_option, is_new, keeps, keeps_fields, keeps_body}
+use Rattle.capnp_model.proofs.lemmas.KeptRules.{and_three}
+use Rattle.capnp_model.proofs.lemmas.FineShapes.{IsNewName, AreGood}
+use Rattle.capnp_model.proofs.lemmas.Tests.{and_right}
 use Rattle.capnp_versions.proofs.Partners.{not_found, absent}
-use Rattle.capnp_versions.proofs.RenamedTwins.{NameTwin, ValueTwin, ThroughTwin, FieldTwin, ElementTwin}
 
 -- ---- names that stay apart
 

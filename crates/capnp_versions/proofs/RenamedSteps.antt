@@ -5,18 +5,18 @@ use Rattle.capnp_model.specs.Trees.{Tree, null, capability, structure, plain_lis
 use Rattle.capnp_model.specs.Schemas.{Ty, void, plain, text, blob, untyped, interface, struct, list, Shape, shape, id_of_shape, Fields, Body, void_slot, plain_slot, pointer_slot, group_slot, Schema, default_or_null}
 use Rattle.capnp_model.specs.Partners.{Renaming, partner_name, renamed_shape, renamed_fields, renamed_body, renamed}
 use Rattle.capnp_model.specs.RenamedCalls.{renamed_path, renamed_step, node_at}
-use Rattle.capnp_model.specs.InKindCalls.{at_slot, at_value, end_at, step_into, next_end}
+use Rattle.capnp_model.specs.InKindCalls.{at_slot, at_value, end_at, step_into}
 use Rattle.capnp_model.specs.Readings.{Reading, null_pointer, number, text_of, blob_of, opaque, list_of, record_as, Readings, no_readings, ◌▹◌, Record, Children, Extent, whole_words, discriminant, is_active, only_if, shape_record, fields_of, body_of, element_as, read, read_child, record_by_shape}
 use Rattle.capnp_model.specs.Printing.{as_type, as_body, fields_in}
 use Rattle.capnp_model.specs.Calls.{Step, name, index, Verb, get, set_to, init, initn, clear, CallValue, whole_number, truth, enumerant, text_value, blob_value, message, message_root, slot_content, element_content}
 use Rattle.capnp_model.specs.Groups.{group_fault}
-use Rattle.capnp_model.specs.Steps.{Outcome, reading_after, Target, target, target_of, entry_of, replaced, at_target, on_name, on_index, copied_or_refused, set_group_from, set_group, slot_type, at_field, at_element, opened, through_value, through_field, step_field, step_element}
+use Rattle.capnp_model.specs.Steps.{Outcome, reading_after, Target, target_of, entry_of, replaced, at_target, on_name, on_index, copied_or_refused, set_group_from, set_group, slot_type, at_field, at_element, opened, through_value, through_field, step_field, step_element}
 use Rattle.capnp_model.proofs.lemmas.Paths.{entry_of-fields_of}
-use Rattle.capnp_versions.proofs.RenamedTwins.{NameTwin, ValueTwin, ThroughTwin, FieldTwin, ElementTwin}
+use Rattle.capnp_versions.proofs.RenamedTwins.{NameTwin, ValueTwin, FieldTwin, ElementTwin}
 use Rattle.capnp_versions.proofs.RenamedWrites.{shape-is, slot-content-same, element-content-same}
 use Rattle.capnp_versions.proofs.RenamedReadings.{head, kids_at, child_at, Like, like_null, like_fault, like_number, like_text, like_blob, like_opaque, like_struct, like_list, BothItem, both_item, BothItems, heads-like, read-like, element-like, opened-like}
 use Rattle.capnp_versions.proofs.RenamedFaults.{group-fault-same}
-use Rattle.capnp_versions.proofs.RenamedEnds.{End, is_refused, is_shown, is_done, end_is, end-mapped, both_mapped, content_end, after_end, got_alike, wrong_step, like-here, passes}
+use Rattle.capnp_versions.proofs.RenamedEnds.{End, is_refused, is_done, end_is, end-mapped, both_mapped, content_end, after_end, got_alike, wrong_step, like-here, passes}
 
 abbrev fault_end : Option Kind → End
 fault_end (Some k) = is_refused k

@@ -1,10 +1,11 @@
 -- Calls under an older schema and, in the newer's words, under a newer one that is compatible with renamed fields.
-use Rattle.std.proofs.Common.{◌≡◌, ℕ, ◌*◌, true, List, [], ◌∷◌, map, refl, sym, ◌∙◌, ap, subst}
+use Rattle.std.proofs.Common.{◌≡◌, ℕ, ◌*◌, true, List, [], ◌∷◌, map, sym, ◌∙◌, ap, subst}
 use Rattle.std.specs.List.{AllByRecursion}
 use Rattle.capnp_model.specs.Trees.{Tree}
 use Rattle.capnp_model.specs.Trimming.{trim}
 use Rattle.capnp_model.specs.Schemas.{Node, Shape, Schema, words_of_shape}
 use Rattle.capnp_model.specs.Readings.{record_of}
+use Rattle.capnp_model.specs.Printing.{fields_in}
 use Rattle.capnp_model.specs.Calls.{Call}
 use Rattle.capnp_model.specs.Accepted.{schema_of, IsAccepted}
 use Rattle.capnp_model.specs.Partners.{Renaming, renamed_shape, renamed}
@@ -19,11 +20,14 @@ use Rattle.capnp_model.proofs.lemmas.FineShapes.{IsGood}
 use Rattle.capnp_versions.specs.Whole.{IsWhole, IsWholeVerb}
 use Rattle.capnp_versions.specs.SameReplies.{SameReplies}
 use Rattle.capnp_versions.specs.TwoVersions.{TwoVersions, older, newer, newer_record, CanRun}
-use Rattle.capnp_versions.specs.RenamedVersions.{newer_calls, IsAdmittedWith, CanRunWith}
+use Rattle.capnp_versions.specs.RenamedViews.{projected_with, older_view_with}
+use Rattle.capnp_versions.specs.RenamedVersions.{newer_calls, AreCompatibleWith, CanRunWith}
 use Rattle.capnp_versions.proofs.Within.{IsWithin, accepted-within}
 use Rattle.capnp_versions.proofs.RenamedWrites.{shape-is}
 use Rattle.capnp_versions.proofs.RenamedShapes.{words-renamed, within-renamed, good-renamed}
 use Rattle.capnp_versions.proofs.RenamedAdmission.{admitted-twins}
+use Rattle.capnp_versions.proofs.OlderNames.{named_fields, named-view, named-record}
+use Rattle.capnp_versions.proofs.OlderRecords.{older-record}
 use Rattle.capnp_versions.proofs.RenamedCalls.{IsTwin, edits-same, replies-same}
 use Rattle.capnp_versions.proofs.Versions.{IsOlderOf, calls-across, records-across, replies-across, values-across-versions, records-across-versions, replies-across-versions}
 
@@ -57,6 +61,12 @@ module _ (rs : List Renaming) (nodes nodes' : List Node) (accepted : IsAccepted 
     within = λ id. subst (λ (g : Shape). IsWithin (64 * words_of_shape g) g) (sym (shape-is rs o id)) (within id);
     good = λ i j h. subst (λ (g : Shape). IsGood o' g) (sym (shape-is rs o i)) (good i j h);
   }
+
+  -- the older record is the older view of the newer
+  pub renamed-view : (t : Tree) → record_of o older t ≡ projected_with rs o older (record_of n newer t)
+  renamed-view t =
+      sym (named-record rs o older t) ∙ ap (named_fields o (fields_in (o.shape_of older))) (older-record o' n older newer renamed-older.compatible renamed-older.good t)
+      ∙ named-view rs o older (record_of n newer t)
 
   -- ---- calls
 
@@ -130,3 +140,6 @@ pub replies-across-renamed : (rs : List Renaming) (v : TwoVersions) (calls : Lis
 replies-across-renamed [] v calls t quoted h = replies-across-versions v calls t quoted (unrenamed v calls t h)
 replies-across-renamed (r ∷ rs) v calls t quoted h =
     renamed-replies (r ∷ rs) v.older_nodes v.newer_nodes h.versions.older_accepted h.versions.newer_accepted v.older_root v.newer_root h.versions.compatible calls h.admitted h.whole_verbs t h.whole h.start quoted
+
+pub view-across-renamed : (rs : List Renaming) (v : TwoVersions) (t : Tree) → AreCompatibleWith rs v → record_of (older v) v.older_root t ≡ older_view_with rs v (newer_record v t)
+view-across-renamed rs v t h = renamed-view rs v.older_nodes v.newer_nodes h.older_accepted h.newer_accepted v.older_root v.newer_root h.compatible t

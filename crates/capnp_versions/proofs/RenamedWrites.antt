@@ -1,11 +1,11 @@
 -- What is written at the end of a path has no names in it.
-use Rattle.std.proofs.Common.{◌≡◌, ℕ, Bool, true, false, List, [], ◌∷◌, ◌++◌, Option, Some, None, refl, sym, ◌∙◌, ap}
+use Rattle.std.proofs.Common.{◌≡◌, ℕ, Bool, true, false, List, [], ◌∷◌, ◌++◌, Option, Some, None, refl, ◌∙◌, ap}
 use Rattle.capnp_model.specs.Trees.{Tree, null, capability, structure, plain_list, pointer_list, struct_list, child}
 use Rattle.capnp_model.specs.Schemas.{Ty, void, plain, text, blob, untyped, interface, struct, list, Shape, shape, Fields, no_fields, field, Body, void_slot, plain_slot, pointer_slot, group_slot, Schema, default_or_null}
 use Rattle.capnp_model.specs.Partners.{Renaming, renamed_shape, renamed_fields, renamed_body, renamed}
 use Rattle.capnp_model.specs.Readings.{whole_words, discriminant}
 use Rattle.capnp_model.specs.Kinds.{Kind, InitnIsOnlyValidForListTextOrDataFields, ExpectedAListOrBlob}
-use Rattle.capnp_model.specs.Calls.{Verb, get, set_to, init, initn, clear, CallValue, whole_number, truth, enumerant, text_value, blob_value, message, message_root, Content, object, new_list, empty_struct, empty_structs, init_content, initn_content, slot_content, element_content}
+use Rattle.capnp_model.specs.Calls.{Verb, get, set_to, init, initn, clear, whole_number, truth, enumerant, text_value, blob_value, message, message_root, object, new_list, empty_struct, empty_structs, init_content, initn_content, slot_content, element_content}
 use Rattle.capnp_model.specs.Groups.{empty_tree, source_tree}
 use Rattle.capnp_model.specs.Edits.{Cell, Edit, put_child, put_content, mark, is_kept, edit_if, cleared, cleared_fields, cleared_body, pointer_writes, has_turn, group_writes, field_writes, body_writes, after_writes, from_message, put_group, put_field, widened_list, as_list}
 use Rattle.capnp_model.proofs.lemmas.NewerWords.{newer-words}

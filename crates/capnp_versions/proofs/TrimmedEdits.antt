@@ -12,8 +12,6 @@ use Rattle.capnp_model.specs.Accepted.{schema_of, IsAccepted}
 use Rattle.capnp_model.specs.InKindCalls.{at_value, end_of}
 use Rattle.capnp_model.specs.Admitted.{is_set}
 use Rattle.capnp_model.specs.NamedPaths.{IsOpen}
-use Rattle.capnp_model.proofs.lemmas.FineShapes.{IsGood}
-use Rattle.capnp_model.proofs.lemmas.SoundRules.{rules_kept, good_shape}
 use Rattle.capnp_model.proofs.lemmas.TrimmedAnswers.{trimmed_record}
 use Rattle.capnp_model.proofs.lemmas.TrimTwice.{trim-trim}
 use Rattle.capnp_model.proofs.lemmas.TrimmedKinds.{trim_open}

@@ -4,6 +4,7 @@ pub mod Roots
 pub mod SameReplies
 pub mod TwoVersions
 pub mod RenamedVersions
+pub mod RenamedViews
 pub mod Fitting
 pub mod OwnOutput
 pub mod TwoRelays

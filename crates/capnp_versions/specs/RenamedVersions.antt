@@ -1,5 +1,5 @@
 -- Two versions of a schema, of which the newer has fields of the older by other names.
-use Rattle.std.specs.Prelude.{ℕ, IsTrue, List}
+use Rattle.std.specs.Prelude.{IsTrue, List}
 use Rattle.std.specs.List.{AllByRecursion}
 use Rattle.capnp_model.specs.Trees.{Tree}
 use Rattle.capnp_model.specs.Calls.{Call}

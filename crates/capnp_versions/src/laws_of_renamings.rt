@@ -3,13 +3,15 @@
 ghost use Rattle.std.specs.Prelude.{◌≡◌, ℕ, List, []};
 ghost use Rattle.capnp_model.specs.Trees.{Tree};
 ghost use Rattle.capnp_model.specs.Trimming.{trim};
+ghost use Rattle.capnp_model.specs.Readings.{Record, record_of};
 ghost use Rattle.capnp_model.specs.Calls.{Call};
 ghost use Rattle.capnp_model.specs.Partners.{Renaming};
 ghost use Rattle.capnp_model.specs.CallRuns.{records_after, record_replies};
 ghost use Rattle.capnp_model.specs.Answers.{edits, replies};
 ghost use Rattle.capnp_versions.specs.SameReplies.{SameReplies};
-ghost use Rattle.capnp_versions.specs.TwoVersions.{TwoVersions, older, newer, newer_record, CanRun};
-ghost use Rattle.capnp_versions.specs.RenamedVersions.{newer_calls, CanRunWith};
+ghost use Rattle.capnp_versions.specs.TwoVersions.{TwoVersions, older, newer, newer_record, older_view, CanRun};
+ghost use Rattle.capnp_versions.specs.RenamedVersions.{newer_calls, AreCompatibleWith, CanRunWith};
+ghost use Rattle.capnp_versions.specs.RenamedViews.{older_view_with};
 
 /// Editing under an older schema commutes with reading under a newer one that is compatible with renamed fields: admitted calls leave one trimmed value under the older and, in the newer's words, under the newer; its newer record is what the newer machine makes of the newer record on the calls in these words, and the replies to calls other than `get` are the same.
 pub fn calls_across_renamed_versions()
@@ -25,9 +27,16 @@ pub fn calls_across_renamed_versions()
         (record_replies (newer v) quoted v.newer_root (newer_calls rs v calls) (newer_record v t)) }
 {}
 
-/// Where no field is renamed the newer's words are the calls' own, and the same versions, calls and values are asked of as without renamings.
+/// The older record of a value is the older view of its newer record, each field by its older name.
+pub fn records_by_older_names()
+    ensures { (rs : List Renaming) (v : TwoVersions) (t : Tree) → AreCompatibleWith rs v
+        → record_of (older v) v.older_root t ≡ older_view_with rs v (newer_record v t) }
+{}
+
+/// Where no field is renamed the newer's words are the calls' own, the older view is that without renamings, and the same versions, calls and values are asked of.
 pub fn calls_without_renamings()
     ensures words { (v : TwoVersions) (calls : List Call) → newer_calls [] v calls ≡ calls }
+    ensures views { (v : TwoVersions) (r : Record) → older_view_with [] v r ≡ older_view v r }
     ensures plain { (v : TwoVersions) (calls : List Call) (t : Tree)
         → CanRun v calls t → CanRunWith [] v calls t }
     ensures renamed { (v : TwoVersions) (calls : List Call) (t : Tree)
