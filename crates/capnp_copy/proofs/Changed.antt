@@ -1,10 +1,10 @@
 -- Segments that were changed in place, and stand in their list again.
-use Rattle.std.proofs.Common.{◌≡◌, ℕ, ◌+◌, ◌^◌, ◌<◌, ◌++◌, List, length, take, drop, ap, sym, ◌∙◌, subst}
+use Rattle.std.proofs.Common.{◌≡◌, ℕ, ◌+◌, ◌^◌, ◌<◌, ◌++◌, List, length, take, drop, get_or, ap, sym, ◌∙◌, subst}
 use Rattle.capnp_footprints.specs.Writes.{with_zeros}
 use Rattle.capnp_copy.specs.declared.allocator.SegmentBytes.{Ghosts}
 use Rattle.capnp_copy.specs.declared.held.Held.{Held}
-use Rattle.capnp_copy.specs.Allocations.{total_of}
-use Rattle.capnp_copy.specs.Holding.{held_words, held_loans, UsesMore}
+use Rattle.capnp_copy.specs.Allocations.{total_of, UsesRoom}
+use Rattle.capnp_copy.specs.Holding.{held_words, free_words, held_loans, UsesMore}
 use Rattle.capnp_copy.proofs.HeldWords.{written_back}
 
 module _ {S : Type 0} {g : Ghosts S} (n : ℕ) (xs zs ys : List (Held S g)) (same : zs ≡ xs) (whole : length zs ≡ n) (kept : length ys ≡ length zs) where
@@ -41,3 +41,11 @@ module _ {S : Type 0} {g : Ghosts S} (n : ℕ) (xs zs ys : List (Held S g)) (sam
   -- all are as they were
   pub unchanged : ys ≡ zs → take n (ys ++ drop (length ys) xs) ≡ xs
   unchanged none = changed_back ∙ none ∙ same
+
+  -- and the free words
+  pub kept_room : free_words ys ≡ free_words zs → free_words (take n (ys ++ drop (length ys) xs)) ≡ free_words xs
+  kept_room room = ap (λ (us : List (Held S g)). free_words us) changed_back ∙ room ∙ ap (λ (us : List (Held S g)). free_words us) same
+
+  -- so many fewer of one of them
+  pub changed_room : (i more : ℕ) → UsesRoom (free_words zs) (free_words ys) i more → UsesRoom (free_words xs) (free_words (take n (ys ++ drop (length ys) xs))) i more
+  changed_room i more used = ap (λ (us : List (Held S g)). get_or (free_words us) i 0) (sym same) ∙ used ∙ ap (λ (us : List (Held S g)). get_or (free_words us) i 0 + more) (sym changed_back)

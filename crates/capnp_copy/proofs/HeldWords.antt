@@ -68,6 +68,16 @@ flat_map_set_same f [] i y d e = refl
 flat_map_set_same f (x ∷ xs) zero y d e = ap (λ (z : List ℕ). z ++ flat_map f xs) e
 flat_map_set_same f (x ∷ xs) (suc i) y d e = ap (λ (zs : List ℕ). f x ++ zs) (flat_map_set_same f xs i y d e)
 
+pub map_set_same : {X : Type 0} (f : X → ℕ) (xs : List X) (i : ℕ) (y d : X) → f y ≡ f (get_or xs i d) → map f (set xs i y) ≡ map f xs
+map_set_same f [] i y d e = refl
+map_set_same f (x ∷ xs) zero y d e = ap (λ (z : ℕ). z ∷ map f xs) e
+map_set_same f (x ∷ xs) (suc i) y d e = ap (λ (zs : List ℕ). f x ∷ zs) (map_set_same f xs i y d e)
+
+pub told_of_set : {X : Type 0} (f : X → ℕ) (xs : List X) (i : ℕ) (y : X) → i < length xs → get_or (map f (set xs i y)) i 0 ≡ f y
+told_of_set f [] i y l = absurd (omega (arith, l))
+told_of_set f (x ∷ xs) zero y l = refl
+told_of_set f (x ∷ xs) (suc i) y l = told_of_set f xs i y (omega (arith, l))
+
 pub splice_map : {X : Type 0} (f : X → List ℕ) (xs : List X) (i k : ℕ) (vs : List ℕ) (y d : X) → f y ≡ spliced k vs (f (get_or xs i d)) → map f (set xs i y) ≡ spliced_in (map f xs) i k vs
 splice_map f [] i k vs y d e = refl
 splice_map f (x ∷ xs) zero k vs y d e = ap (λ (z : List ℕ). z ∷ map f xs) e

@@ -36,6 +36,10 @@ TakesJust s free u i n = HasRoom s free i n → map length u ≡ map length (wit
 abbrev pub TakesAtMost : Segments → Segments → ℕ → ℕ → Type 0
 TakesAtMost s u n pads = (total_words u ≤ total_words s + (n + pads)) × (n ≡ 0 → total_words u ≤ total_words s)
 
+-- So many words fewer of the ith segment are free. The lists tell the free words of each segment.
+abbrev pub UsesRoom : List ℕ → List ℕ → ℕ → ℕ → Type 0
+UsesRoom old new i n = get_or old i 0 ≡ get_or new i 0 + n
+
 -- Words are wanted, and the ith segment has no room for so many, nor has the last for these and a pad's. The list tells the free words of each segment.
 abbrev pub NoRoom : Segments → List ℕ → ℕ → ℕ → Type 0
 NoRoom s free i n = (0 < n) × (HasRoom s free i n → ⊥) × (HasRoom s free (length s - 1) (n + 1) → ⊥)

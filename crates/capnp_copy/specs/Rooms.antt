@@ -6,7 +6,7 @@ use Rattle.capnp_units.specs.Segments.{words_in}
 use Rattle.capnp_object.specs.declared.place.Place as code
 use Rattle.capnp_wire.specs.Places.{place_view}
 use Rattle.capnp_footprints.specs.Writes.{with_words}
-use Rattle.capnp_copy.specs.Allocations.{Allocates, HasRoom}
+use Rattle.capnp_copy.specs.Allocations.{Allocates, HasRoom, UsesRoom}
 use Rattle.capnp_copy.specs.declared.room.Room.{Room}
 use Rattle.capnp_copy.specs.declared.room.Room.TheVariants.{Here, Near, Far}
 
@@ -25,6 +25,12 @@ abbrev pub IsNearWhereRoom : Segments → List ℕ → ℕ → ℕ → Room → 
 IsNearWhereRoom s free i n Here = Unit {0}
 IsNearWhereRoom s free i n (Near offset) = HasRoom s free i n
 IsNearWhereRoom s free i n (Far pad) = HasRoom s free i n → ⊥
+
+-- So many words fewer of the ith segment are free, where there is no pad.
+abbrev pub UsesRoomNear : List ℕ → List ℕ → ℕ → ℕ → Room → Type 0
+UsesRoomNear old new i n Here = UsesRoom old new i n
+UsesRoomNear old new i n (Near offset) = UsesRoom old new i n
+UsesRoomNear old new i n (Far pad) = Unit {0}
 
 -- A pointer can tell it: an offset has thirty bits with its sign, a pad's position 29.
 abbrev pub IsAddressed : Room → Type 0

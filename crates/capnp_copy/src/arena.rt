@@ -8,7 +8,7 @@ ghost use Rattle.capnp_units.specs.declared.kinds.ErrorKind.{ErrorKind};
 ghost use Rattle.capnp_units.specs.declared.kinds.ErrorKind.TheVariants.{SizeOverflow};
 ghost use Rattle.capnp_wire.specs.Places.{place_view};
 ghost use Rattle.capnp_footprints.specs.Writes.{with_words};
-ghost use Rattle.capnp_copy.specs.Allocations.{Allocates, HasRoom, LastIsFull, PassesLimit};
+ghost use Rattle.capnp_copy.specs.Allocations.{Allocates, HasRoom, LastIsFull, PassesLimit, UsesRoom};
 
 use capnp_units::errors::Result;
 use capnp_units::sizes::SegmentId;
@@ -38,6 +38,7 @@ pub trait BuilderArena: ReaderArena {
             (HasRoom (words_in (Self.segments self.old)) (room self.old) segment words → ⊥) }
         ensures none { IfNone result (Self.segments self.new ≡ Self.segments self.old) }
         ensures kept { IfNone result (room self.new ≡ room self.old) }
+        ensures left { OnSome result (UsesRoom (room self.old) (room self.new) segment words) }
         ensures unasked { IfNone result
             ((n : ℕ) (kind : ErrorKind) → refuses self.new n kind → refuses self.old n kind) }
         ensures books { books self.new ≡ books self.old };
@@ -52,6 +53,7 @@ pub trait BuilderArena: ReaderArena {
             Allocates (words_in (Self.segments self.old)) (words_in (Self.segments self.new)) p.0
             p.1 words) }
         ensures refused { OnErr result (Self.segments self.new ≡ Self.segments self.old) }
+        ensures kept { OnErr result (room self.new ≡ room self.old) }
         ensures kind { IfErr result (λ e.
             (e.kind ≡ SizeOverflow) ↔ PassesLimit (Self.segments self.old) words) }
         ensures cause { IfErr result (λ e.
@@ -64,6 +66,7 @@ pub trait BuilderArena: ReaderArena {
             ≡ true }
         ensures words { words_in (Self.segments self.new)
             ≡ with_words (words_in (Self.segments self.old)) (place_view place) (word ∷ []) }
+        ensures room { room self.new ≡ room self.old }
         ensures books { books self.new ≡ books self.old };
 
     /// Writes whole words in place of as many from a place on.
@@ -74,6 +77,7 @@ pub trait BuilderArena: ReaderArena {
         ensures words { words_in (Self.segments self.new)
             ≡ with_words (words_in (Self.segments self.old)) (place_view place)
             (words_in_bytes (length words.now / 8) words.now) }
+        ensures room { room self.new ≡ room self.old }
         ensures books { books self.new ≡ books self.old };
 
     /// Writes zeros in place of so many words from a place on.
@@ -83,6 +87,7 @@ pub trait BuilderArena: ReaderArena {
         ensures words { words_in (Self.segments self.new)
             ≡ with_words (words_in (Self.segments self.old)) (place_view place)
             (replicate count 0) }
+        ensures room { room self.new ≡ room self.old }
         ensures books { books self.new ≡ books self.old };
 }
 

@@ -38,6 +38,7 @@ pub fn write_bytes<A: BuilderArena>(arena: &mut A, start: Place, words: usize, b
     requires fill { (whole_of bytes.now ≤ words) × (words ≤ whole_of bytes.now + 1) }
     ensures words { words_in (A.segments arena.new)
         ≡ with_bytes (words_in (A.segments arena.old)) (place_view start) words bytes.now }
+    ensures room { A.room arena.new ≡ A.room arena.old }
     ensures books { A.books arena.new ≡ A.books arena.old }
 {
     let whole = bytes.len() / 8;

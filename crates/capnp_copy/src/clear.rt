@@ -23,6 +23,7 @@ fn zero_there<A: BuilderArena>(arena: &mut A, place: Place, count: usize)
         ≡ map length (words_in (A.segments arena.old)) }
     ensures nonzero { nonzero_words (words_in (A.segments arena.new)) ≤ nonzero_words
         (words_in (A.segments arena.old)) }
+    ensures room { A.room arena.new ≡ A.room arena.old }
     ensures books { A.books arena.new ≡ A.books arena.old }
 {
     if has_words(arena, place, count) {
@@ -39,6 +40,7 @@ fn clear_plain<A: BuilderArena>(arena: &mut A, start: Place, size: ElementSize, 
         ≡ map length (words_in (A.segments arena.old)) }
     ensures nonzero { nonzero_words (words_in (A.segments arena.new)) ≤ nonzero_words
         (words_in (A.segments arena.old)) }
+    ensures room { A.room arena.new ≡ A.room arena.old }
     ensures books { A.books arena.new ≡ A.books arena.old }
 {
     let words = words_of_elements(size, count) as usize;
@@ -54,6 +56,7 @@ fn write_null<A: BuilderArena>(arena: &mut A, slot: Place)
         ≡ map length (words_in (A.segments arena.old)) }
     ensures fewer { nonzero_words (words_in (A.segments arena.new)) < nonzero_words
         (words_in (A.segments arena.old)) }
+    ensures room { A.room arena.new ≡ A.room arena.old }
     ensures books { A.books arena.new ≡ A.books arena.old }
 {
     arena.write_word(slot, 0);
@@ -71,6 +74,7 @@ pub fn clear<A: BuilderArena>(arena: &mut A, slot: Place)
         ≡ map length (words_in (A.segments arena.old)) }
     ensures nonzero { nonzero_words (words_in (A.segments arena.new)) ≤ nonzero_words
         (words_in (A.segments arena.old)) }
+    ensures room { A.room arena.new ≡ A.room arena.old }
     ensures books { A.books arena.new ≡ A.books arena.old }
 {
     let word = word_at(arena, slot).unwrap_or(0);
@@ -92,6 +96,7 @@ fn clear_there<A: BuilderArena>(arena: &mut A, slot: Place, word: u64)
         ≡ map length (words_in (A.segments arena.old)) }
     ensures nonzero { nonzero_words (words_in (A.segments arena.new)) ≤ nonzero_words
         (words_in (A.segments arena.old)) }
+    ensures room { A.room arena.new ≡ A.room arena.old }
     ensures books { A.books arena.new ≡ A.books arena.old }
 {
     let found = found_at(arena, slot);
@@ -111,6 +116,7 @@ pub fn clear_object<A: BuilderArena>(arena: &mut A, object: NamedObject)
         ≡ map length (words_in (A.segments arena.old)) }
     ensures nonzero { nonzero_words (words_in (A.segments arena.new)) ≤ nonzero_words
         (words_in (A.segments arena.old)) }
+    ensures room { A.room arena.new ≡ A.room arena.old }
     ensures books { A.books arena.new ≡ A.books arena.old }
 {
     match object {
@@ -137,6 +143,7 @@ fn clear_list<A: BuilderArena>(arena: &mut A, start: Place, size: ElementSize, c
         ≡ map length (words_in (A.segments arena.old)) }
     ensures nonzero { nonzero_words (words_in (A.segments arena.new)) ≤ nonzero_words
         (words_in (A.segments arena.old)) }
+    ensures room { A.room arena.new ≡ A.room arena.old }
     ensures books { A.books arena.new ≡ A.books arena.old }
 {
     match size {
@@ -166,6 +173,7 @@ fn clear_kids<A: BuilderArena>(arena: &mut A, start: Place, data_words: u16, poi
         ≡ map length (words_in (A.segments arena.old)) }
     ensures nonzero { nonzero_words (words_in (A.segments arena.new)) ≤ nonzero_words
         (words_in (A.segments arena.old)) }
+    ensures room { A.room arena.new ≡ A.room arena.old }
     ensures books { A.books arena.new ≡ A.books arena.old }
 {
     if pointers == 0 {
@@ -192,6 +200,7 @@ fn clear_elements<A: BuilderArena>(arena: &mut A, start: Place, words: u32)
         ≡ map length (words_in (A.segments arena.old)) }
     ensures nonzero { nonzero_words (words_in (A.segments arena.new)) ≤ nonzero_words
         (words_in (A.segments arena.old)) }
+    ensures room { A.room arena.new ≡ A.room arena.old }
     ensures books { A.books arena.new ≡ A.books arena.old }
 {
     let list = NamedObject::List {

@@ -6,7 +6,7 @@ ghost use Rattle.capnp_model.specs.Bytes.{words_in_bytes};
 ghost use Rattle.capnp_model.specs.Segments.{words_at};
 ghost use Rattle.capnp_wire.specs.Places.{place_view};
 ghost use Rattle.capnp_footprints.specs.Writes.{with_words, with_zeros, segment_end};
-ghost use Rattle.capnp_copy.specs.Allocations.{total_of};
+ghost use Rattle.capnp_copy.specs.Allocations.{total_of, UsesRoom};
 ghost use Rattle.capnp_copy.specs.Holding.{held_words, free_words, held_loans, EndsAt, UsesMore};
 
 use crate::allocator::SegmentBytes;
@@ -22,6 +22,8 @@ pub(crate) fn grow_in<S: SegmentBytes>(all: &mut [Held<S>], index: usize, words:
     ensures total { IfSome result (λ at.
         total_of (λ h. h.used) all.new ≡ total_of (λ h. h.used) all.old + words) }
     ensures room { OnSome result (words ≤ get_or (free_words all.old) index 0) }
+    ensures left { OnSome result
+        (UsesRoom (free_words all.old) (free_words all.new) index words) }
     ensures full { IfNone result
         ((length all.old ≤ index)
         ⊎ (get_or (free_words all.old) index 0 < words)
@@ -47,6 +49,7 @@ pub(crate) fn write_in_segment<S: SegmentBytes>(all: &mut [Held<S>], place: Plac
         (words_in_bytes (length from.now / 8) from.now) }
     ensures total { total_of (λ h. h.used) all.new ≡ total_of (λ h. h.used) all.old }
     ensures len { length all.new ≡ length all.old }
+    ensures room { free_words all.new ≡ free_words all.old }
     ensures loans { held_loans all.new ≡ held_loans all.old }
 {
     let index = place.segment as usize;
@@ -65,6 +68,7 @@ pub(crate) fn zero_in_segment<S: SegmentBytes>(all: &mut [Held<S>], place: Place
         (replicate count 0) }
     ensures total { total_of (λ h. h.used) all.new ≡ total_of (λ h. h.used) all.old }
     ensures len { length all.new ≡ length all.old }
+    ensures room { free_words all.new ≡ free_words all.old }
     ensures loans { held_loans all.new ≡ held_loans all.old }
 {
     let index = place.segment as usize;

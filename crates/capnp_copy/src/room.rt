@@ -8,7 +8,7 @@ ghost use Rattle.capnp_units.specs.Sizes.{size_number};
 ghost use Rattle.capnp_units.specs.declared.kinds.ErrorKind.TheVariants.{SizeOverflow};
 ghost use Rattle.capnp_wire.specs.Places.{place_view};
 ghost use Rattle.capnp_copy.specs.Allocations.{PassesLimit, NoRoom};
-ghost use Rattle.capnp_copy.specs.Rooms.{MakesRoom, IsNearWhereRoom, IsAddressed, HasPad, begin_of, slot_word, with_pad, linked};
+ghost use Rattle.capnp_copy.specs.Rooms.{MakesRoom, IsNearWhereRoom, UsesRoomNear, IsAddressed, HasPad, begin_of, slot_word, with_pad, linked};
 
 use crate::arena::BuilderArena;
 use capnp_units::errors::Result;
@@ -68,7 +68,10 @@ pub fn allocate_near<A: BuilderArena>(arena: &mut A, slot: Place, words: u32) ->
     ensures ok { IfOk result (MakesRoom (A.segments arena.old) (A.segments arena.new) slot words) }
     ensures near { IfOk result
         (IsNearWhereRoom (words_in (A.segments arena.old)) (A.room arena.old) slot.segment words) }
+    ensures left { IfOk result
+        (UsesRoomNear (A.room arena.old) (A.room arena.new) slot.segment words) }
     ensures refused { OnErr result (A.segments arena.new ≡ A.segments arena.old) }
+    ensures kept { OnErr result (A.room arena.new ≡ A.room arena.old) }
     ensures kind { IfErr result (λ e.
         (0 < words) × ((e.kind ≡ SizeOverflow) ↔ PassesLimit (A.segments arena.old) (words + 1))) }
     ensures cause { IfErr result (λ e.
@@ -132,6 +135,7 @@ fn write_pad<A: BuilderArena>(arena: &mut A, room: Room, pointer: u64)
     requires { HasPad (words_in (A.segments arena.old)) room }
     ensures words { words_in (A.segments arena.new)
         ≡ with_pad (words_in (A.segments arena.old)) room pointer }
+    ensures room { A.room arena.new ≡ A.room arena.old }
     ensures books { A.books arena.new ≡ A.books arena.old }
 {
     if let Room::Far { pad } = room {
@@ -148,6 +152,7 @@ pub fn link<A: BuilderArena>(arena: &mut A, slot: Place, room: Room, pointer: u6
     requires offset { pointer < 2 ^ 64 - 2 ^ 32 + 4 }
     ensures words { words_in (A.segments arena.new)
         ≡ linked (words_in (A.segments arena.old)) (place_view slot) room pointer }
+    ensures room { A.room arena.new ≡ A.room arena.old }
     ensures books { A.books arena.new ≡ A.books arena.old }
 {
     write_pad(arena, room, pointer);

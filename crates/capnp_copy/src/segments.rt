@@ -2,7 +2,7 @@
 ghost use Rattle.std.specs.Prelude.{◌≡◌, ◌≢◌, ◌⊎◌, ◌+◌, ◌-◌, ◌*◌, ◌/◌, ◌<◌, ◌≤◌, ◌^◌, ◌++◌, ◌∷◌, [], ℕ, List, length, map, take, get_or, pos, vec_capacity, OnSome, IfSome, IfNone, IfOk, IfErr, OnOk, OnErr};
 ghost use Rattle.std.specs.List.{flat_map};
 ghost use Rattle.capnp_footprints.specs.Writes.{with_zeros, segment_end};
-ghost use Rattle.capnp_copy.specs.Allocations.{total_of, words_used};
+ghost use Rattle.capnp_copy.specs.Allocations.{total_of, words_used, UsesRoom};
 ghost use Rattle.capnp_copy.specs.Holding.{held_words, free_words, held_loans, EndsAt, UsesMore, IsFull};
 ghost use Rattle.capnp_copy.specs.Memory.{ZeroFrom};
 ghost use Rattle.capnp_units.specs.declared.kinds.ErrorKind.TheVariants.{SizeOverflow, OutOfMemory};
@@ -153,6 +153,8 @@ impl<A: Allocator> BuilderArenaImpl<A> {
             UsesMore self.old.segments.items self.new.segments.items segment words) }
         ensures room { OnSome result
             (words ≤ get_or (free_words self.old.segments.items) segment 0) }
+        ensures left { OnSome result (UsesRoom (free_words self.old.segments.items)
+            (free_words self.new.segments.items) segment words) }
         ensures full { IfNone result (IsFull self.old.segments.items segment words) }
         ensures none { IfNone result (self.new.segments.items ≡ self.old.segments.items) }
         ensures capacity { vec_capacity self.new.segments ≡ vec_capacity self.old.segments }

@@ -37,7 +37,7 @@ clear_there-returns-in_default-clause-clears g t c =
 pub clear_kids-loop-i-init : goal.clear_kids-loop-i-init
 clear_kids-loop-i-init g t c =
     let s = words_in (g.A.ReaderArena.segments c.args.arena.now) in
-    (kids_none s (place_view c.args.start) c.args.data_words c.args.pointers, refl, omega arith, refl)
+    (kids_none s (place_view c.args.start) c.args.data_words c.args.pointers, refl, omega arith, refl, refl)
 
 pub clear_kids-loop-i-preserved : goal.clear_kids-loop-i-preserved
 clear_kids-loop-i-preserved g t c =
@@ -47,7 +47,7 @@ clear_kids-loop-i-preserved g t c =
     let u = words_in (g.A.ReaderArena.segments c.clear.new.arena) in
     let one : suc c.loop-i.i ≡ c.loop-i.i + 1 = omega arith in
     let kids = kids_next s (words_in (g.A.ReaderArena.segments c.loop-i.arena)) u (place_view c.args.start) c.args.data_words c.args.pointers c.loop-i.i next i.0 c.clear.ensures.clears in
-    (subst (λ (n : ℕ). KidsSoFar s u (place_view c.args.start) c.args.data_words c.args.pointers n) one kids, c.clear.ensures.sizes ∙ i.1, omega (arith, c.clear.ensures.nonzero, i.2), c.clear.ensures.books ∙ i.3)
+    (subst (λ (n : ℕ). KidsSoFar s u (place_view c.args.start) c.args.data_words c.args.pointers n) one kids, c.clear.ensures.sizes ∙ i.1, omega (arith, c.clear.ensures.nonzero, i.2), c.clear.ensures.books ∙ i.3, c.clear.ensures.room ∙ i.4)
 
 pub clear_kids-returns-clause-clears : goal.clear_kids-returns-clause-clears
 clear_kids-returns-clause-clears g t c =
@@ -65,7 +65,7 @@ clear_elements-returns-then-pointers-eq0-clause-clears g t c =
 pub clear_elements-loop-i-init : goal.clear_elements-loop-i-init
 clear_elements-loop-i-init g t c =
     let s = words_in (g.A.ReaderArena.segments c.args.arena.now) in
-    (elements_none s (place_view c.args.start) c.args.words c.in-Ok-StructList.data_words c.in-Ok-StructList.pointers, refl, omega arith, refl)
+    (elements_none s (place_view c.args.start) c.args.words c.in-Ok-StructList.data_words c.in-Ok-StructList.pointers, refl, omega arith, refl, refl)
 
 pub clear_elements-loop-i-preserved : goal.clear_elements-loop-i-preserved
 clear_elements-loop-i-preserved g t c =
@@ -80,7 +80,7 @@ clear_elements-loop-i-preserved g t c =
     let known = list_first s p c.args.words x.first x.field-0-1 x.count x.data_words x.pointers is in
     let clears : ClearsKids (words_in (g.A.ReaderArena.segments c.loop-i.arena)) u (after (after p 1) (c.loop-i.i * (x.data_words + x.pointers))) x.data_words x.pointers = subst (λ (q : model.Place). ClearsKids (words_in (g.A.ReaderArena.segments c.loop-i.arena)) u (after q (c.loop-i.i * (x.data_words + x.pointers))) x.data_words x.pointers) known c.clear_kids.ensures.clears in
     let elements = elements_next s (words_in (g.A.ReaderArena.segments c.loop-i.arena)) u p c.args.words x.first x.field-0-1 x.count x.data_words x.pointers c.loop-i.i is next i.0 clears in
-    (subst (λ (n : ℕ). ElementsSoFar s u p c.args.words x.data_words x.pointers n) one elements, c.clear_kids.ensures.sizes ∙ i.1, omega (arith, c.clear_kids.ensures.nonzero, i.2), c.clear_kids.ensures.books ∙ i.3)
+    (subst (λ (n : ℕ). ElementsSoFar s u p c.args.words x.data_words x.pointers n) one elements, c.clear_kids.ensures.sizes ∙ i.1, omega (arith, c.clear_kids.ensures.nonzero, i.2), c.clear_kids.ensures.books ∙ i.3, c.clear_kids.ensures.room ∙ i.4)
 
 pub clear_elements-returns-clause-clears : goal.clear_elements-returns-clause-clears
 clear_elements-returns-clause-clears g t c =

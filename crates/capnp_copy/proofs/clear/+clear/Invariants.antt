@@ -30,11 +30,11 @@ abbrev pub invariant-clear_elements-loop-i : goal.invariant-clear_elements-loop-
 invariant-clear_elements-loop-i g l =
     let s = words_in (g.A.ReaderArena.segments l.fn.arena) in
     let u = words_in (g.A.ReaderArena.segments l.arena) in
-    ElementsSoFar s u (place_view l.fn.start) l.fn.words l.data_words l.pointers l.i × (map length u ≡ map length s) × (nonzero_words u ≤ nonzero_words s) × (g.A.BuilderArena.books l.arena ≡ g.A.BuilderArena.books l.fn.arena)
+    ElementsSoFar s u (place_view l.fn.start) l.fn.words l.data_words l.pointers l.i × (map length u ≡ map length s) × (nonzero_words u ≤ nonzero_words s) × (g.A.BuilderArena.books l.arena ≡ g.A.BuilderArena.books l.fn.arena) × (g.A.BuilderArena.room l.arena ≡ g.A.BuilderArena.room l.fn.arena)
 
 -- the first i are null
 abbrev pub invariant-clear_kids-loop-i : goal.invariant-clear_kids-loop-i
 invariant-clear_kids-loop-i g l =
     let s = words_in (g.A.ReaderArena.segments l.fn.arena) in
     let u = words_in (g.A.ReaderArena.segments l.arena) in
-    KidsSoFar s u (place_view l.start) l.data_words l.pointers l.i × (map length u ≡ map length s) × (nonzero_words u ≤ nonzero_words s) × (g.A.BuilderArena.books l.arena ≡ g.A.BuilderArena.books l.fn.arena)
+    KidsSoFar s u (place_view l.start) l.data_words l.pointers l.i × (map length u ≡ map length s) × (nonzero_words u ≤ nonzero_words s) × (g.A.BuilderArena.books l.arena ≡ g.A.BuilderArena.books l.fn.arena) × (g.A.BuilderArena.room l.arena ≡ g.A.BuilderArena.room l.fn.arena)

@@ -2,7 +2,7 @@ use Rattle.std.proofs.Common.{◌≡◌, ℕ, ◌+◌, ◌-◌, ◌/◌, ◌<◌
 use Rattle.std.proofs.lemmas.List.{get_or-map}
 use Rattle.std.proofs.lemmas.Option.{IfSome_then}
 use Rattle.capnp_copy.specs.Allocations.{words_used}
-use Rattle.capnp_copy.proofs.HeldWords.{zeros_map, end_map, total_set, used_length, used_more, total_at, if_none, on_some}
+use Rattle.capnp_copy.proofs.HeldWords.{zeros_map, end_map, total_set, used_length, used_more, total_at, if_none, on_some, told_of_set}
 use Rattle.capnp_copy.proofs.grown.grow_in.Goals as goal
 
 pub returns-clause-at : goal.returns-clause-at
@@ -50,3 +50,14 @@ returns-clause-full g c =
     let is = get_or-map (λ h. length (bytes h.segment) / 8 - h.used) c.args.all.now c.args.index d 0 c.if-index-all.false in
     let t = total_at (λ h. h.used) c.args.all.now c.args.index d c.if-index-all.false in
     if_none c.grow.result c.grow.ensures.full (elim [ inl l ↦ inr (inl (omega (arith, is, old.inside, l))) | inr l ↦ inr (inr (omega (arith, t, l))) ])
+
+pub returns-clause-left : goal.returns-clause-left
+returns-clause-left g c =
+    let d = c.index-all-index.result in
+    let old = get_or c.args.all.now c.args.index c.index-all-index.result in
+    let new = c.grow.new.self in
+    let bytes = g.S.SegmentBytes.bytes in
+    let long : length (bytes new.segment) ≡ length (bytes old.segment) = ap (λ s. length (bytes s)) c.grow.ensures.segment in
+    let is = get_or-map (λ h. length (bytes h.segment) / 8 - h.used) c.args.all.now c.args.index d 0 c.if-index-all.false in
+    let now = told_of_set (λ h. length (bytes h.segment) / 8 - h.used) c.args.all.now c.args.index c.grow.new.self c.if-index-all.false in
+    on_some c.grow.result c.grow.ensures.some (λ at e. omega (arith, is, now, long, new.inside, e.1))

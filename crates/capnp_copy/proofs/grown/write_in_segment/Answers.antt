@@ -1,7 +1,8 @@
-use Rattle.std.proofs.Common.{◌≡◌, ℕ, ◌*◌, ◌/◌, List, length, get_or, ap, sym, ◌∙◌, arith}
+use Rattle.std.proofs.Common.{◌≡◌, ℕ, ◌+◌, ◌-◌, ◌*◌, ◌/◌, ◌≤◌, List, length, get_or, ap, sym, ◌∙◌, arith}
 use Rattle.capnp_copy.specs.Memory.{overwritten}
 use Rattle.capnp_copy.specs.Allocations.{words_used}
-use Rattle.capnp_copy.proofs.HeldWords.{written_map, total_set, in_range, in_words, used_length, used_overwritten}
+use Rattle.capnp_copy.proofs.HeldWords.{written_map, total_set, in_range, in_words, used_length, used_overwritten, map_set_same}
+use Rattle.capnp_copy.proofs.Zeros.{overwritten_length}
 use Rattle.capnp_copy.proofs.grown.write_in_segment.Goals as goal
 
 pub write-requires : goal.write-requires
@@ -30,3 +31,15 @@ returns-then-index-all-clause-total g c =
 pub returns-else-index-all-clause-words : goal.returns-else-index-all-clause-words
 returns-else-index-all-clause-words g c =
     absurd (omega (arith, c.if-index-all.false, in_range (λ h. words_used h.used (g.S.SegmentBytes.bytes h.segment)) c.args.all.now c.args.place.segment c.args.place.position (length c.args.from.now / 8) c.requires.there))
+
+pub returns-then-index-all-clause-room : goal.returns-then-index-all-clause-room
+returns-then-index-all-clause-room g c =
+    let d = c.index-all-index.result in
+    let old = get_or c.args.all.now c.args.place.segment d in
+    let new = c.write.new.self in
+    let bytes = g.S.SegmentBytes.bytes in
+    let inside = in_words (λ h. words_used h.used (g.S.SegmentBytes.bytes h.segment)) c.args.all.now c.args.place.segment c.args.place.position (length c.args.from.now / 8) d c.requires.there in
+    let within : 8 * c.args.place.position + length (c.args.from.now) ≤ length (bytes old.segment) = omega (arith, c.requires.whole, inside, used_length old.used (bytes old.segment) old.inside, old.inside) in
+    let long : length (bytes new.segment) ≡ length (bytes old.segment) = ap length c.write.ensures.bytes ∙ overwritten_length (8 * c.args.place.position) (c.args.from.now) (bytes old.segment) within in
+    let same : length (bytes new.segment) / 8 - new.used ≡ length (bytes old.segment) / 8 - old.used = omega (arith, long, c.write.ensures.used) in
+    map_set_same (λ h. length (bytes h.segment) / 8 - h.used) c.args.all.now c.args.place.segment new d same

@@ -1,10 +1,11 @@
-use Rattle.std.proofs.Common.{◌≡◌, ℕ, ◌*◌, List, replicate, get_or, ap, ◌∙◌, arith}
+use Rattle.std.proofs.Common.{◌≡◌, ℕ, ◌+◌, ◌-◌, ◌*◌, ◌/◌, ◌≤◌, List, length, replicate, get_or, ap, ◌∙◌, arith}
 use Rattle.std.proofs.lemmas.List.{length-replicate}
 use Rattle.capnp_footprints.specs.Writes.{spliced}
 use Rattle.capnp_model.proofs.lemmas.WordsInBytes.{words_in_bytes-zeros}
 use Rattle.capnp_copy.specs.Memory.{overwritten}
 use Rattle.capnp_copy.specs.Allocations.{words_used}
-use Rattle.capnp_copy.proofs.HeldWords.{written_map, total_set, in_range, in_words, used_length, used_overwritten}
+use Rattle.capnp_copy.proofs.HeldWords.{written_map, total_set, in_range, in_words, used_length, used_overwritten, map_set_same}
+use Rattle.capnp_copy.proofs.Zeros.{overwritten_length}
 use Rattle.capnp_copy.proofs.grown.zero_in_segment.Goals as goal
 
 pub zero-requires : goal.zero-requires
@@ -33,3 +34,15 @@ returns-then-index-all-clause-total g c =
 pub returns-else-index-all-clause-words : goal.returns-else-index-all-clause-words
 returns-else-index-all-clause-words g c =
     absurd (omega (arith, c.if-index-all.false, in_range (λ h. words_used h.used (g.S.SegmentBytes.bytes h.segment)) c.args.all.now c.args.place.segment c.args.place.position (c.args.count) c.requires.there))
+
+pub returns-then-index-all-clause-room : goal.returns-then-index-all-clause-room
+returns-then-index-all-clause-room g c =
+    let d = c.index-all-index.result in
+    let old = get_or c.args.all.now c.args.place.segment d in
+    let new = c.zero.new.self in
+    let bytes = g.S.SegmentBytes.bytes in
+    let inside = in_words (λ h. words_used h.used (g.S.SegmentBytes.bytes h.segment)) c.args.all.now c.args.place.segment c.args.place.position (c.args.count) d c.requires.there in
+    let within : 8 * c.args.place.position + length (replicate {A = ℕ} (8 * c.args.count) 0) ≤ length (bytes old.segment) = omega (arith, length-replicate {A = ℕ} (8 * c.args.count) 0, inside, used_length old.used (bytes old.segment) old.inside, old.inside) in
+    let long : length (bytes new.segment) ≡ length (bytes old.segment) = ap length c.zero.ensures.bytes ∙ overwritten_length (8 * c.args.place.position) (replicate {A = ℕ} (8 * c.args.count) 0) (bytes old.segment) within in
+    let same : length (bytes new.segment) / 8 - new.used ≡ length (bytes old.segment) / 8 - old.used = omega (arith, long, c.zero.ensures.used) in
+    map_set_same (λ h. length (bytes h.segment) / 8 - h.used) c.args.all.now c.args.place.segment new d same

@@ -5,7 +5,7 @@ use Rattle.capnp_copy.specs.declared.allocator.SegmentBytes.{Ghosts}
 use Rattle.capnp_copy.specs.declared.held.Held.{Held}
 use Rattle.capnp_copy.specs.Allocations.{total_of}
 use Rattle.capnp_copy.specs.Holding.{free_words, EndsAt, IsFull}
-use Rattle.capnp_copy.proofs.Changed.{changed_number, changed_sum, kept_sum, kept_loans, changed_words, unchanged}
+use Rattle.capnp_copy.proofs.Changed.{changed_number, changed_sum, kept_sum, kept_loans, changed_words, changed_room, unchanged}
 use Rattle.capnp_copy.proofs.segments.BuilderArenaImpl.use_in.Goals as goal
 
 not_some : {X : Type 0} (o : Option X) (P : X → Type 0) → o ≡ None → IfSome o P
@@ -57,6 +57,7 @@ returns-in_err-at g c =
       at = not_some o _ e;
       words = not_some o _ e;
       room = never_some o _ e;
+      left = never_some o _ e;
       full = if_none o _ e (full_before a.segments.items zs c.args.segment c.args.words a.words same a.sum c.requires c.in_err-at.ensures.full);
       none = if_none o _ e (unchanged a.segments.len a.segments.items zs c.grow_in.new.all same whole kept c.in_err-at.ensures.none);
       capacity = refl;
@@ -89,6 +90,7 @@ returns g c =
       at = ends_before a.segments.items zs c.args.segment c.in_ok-at.at same c.in_ok-at.ensures.at;
       words = changed_words a.segments.len a.segments.items zs c.grow_in.new.all same whole kept c.args.segment c.args.words c.in_ok-at.ensures.words;
       room = room_before a.segments.items zs c.args.segment c.args.words same c.in_ok-at.ensures.room;
+      left = changed_room a.segments.len a.segments.items zs c.grow_in.new.all same whole kept c.args.segment c.args.words c.in_ok-at.ensures.left;
       full = tt;
       none = tt;
       capacity = refl;

@@ -5,7 +5,7 @@ use Rattle.capnp_footprints.specs.Writes.{with_words}
 use Rattle.capnp_wire.specs.Places.{place_view}
 use Rattle.capnp_copy.specs.Allocations.{words_used}
 use Rattle.capnp_copy.proofs.HeldWords.{used_length, written_of, there_of, written_back, one_word}
-use Rattle.capnp_copy.proofs.Changed.{changed_number, kept_sum, kept_loans}
+use Rattle.capnp_copy.proofs.Changed.{changed_number, kept_sum, kept_loans, kept_room}
 use Rattle.capnp_copy.proofs.segments.BuilderArenaImplBuilderArena.write_word.Goals as goal
 
 pub write_in_segment-requires-clause-there : goal.write_in_segment-requires-clause-there
@@ -37,3 +37,8 @@ returns-clause-books g c =
     let a = c.args.self.now in
     let loans = kept_loans a.segments.len a.segments.items c.as_mut_slice.result.now c.write_in_segment.new.all c.as_mut_slice.ensures.value c.as_mut_slice.ensures.len c.write_in_segment.ensures.len c.write_in_segment.ensures.loans in
     ap (λ (names : List ℕ). g.A.Allocator.place a.allocator ∷ (names ++ g.A.Allocator.loans a.allocator) ∷ []) loans
+
+pub returns-clause-room : goal.returns-clause-room
+returns-clause-room g c =
+    let a = c.args.self.now in
+    kept_room a.segments.len a.segments.items c.as_mut_slice.result.now c.write_in_segment.new.all c.as_mut_slice.ensures.value c.as_mut_slice.ensures.len c.write_in_segment.ensures.len c.write_in_segment.ensures.room
