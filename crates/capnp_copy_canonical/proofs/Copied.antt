@@ -15,8 +15,12 @@ use Rattle.capnp_units.specs.Limits.{IsFree}
 use Rattle.capnp_object.specs.Walks.{Walked, Stopped}
 use Rattle.capnp_footprints.proofs.lemmas.Algebra.{changes_nothing}
 use Rattle.capnp_canonical.specs.Copies.{copy_visits, Halted, Unwritten, Written, Filled, room_of}
-use Rattle.capnp_copy_from.specs.Copies.{BecomesCopy, CopiesValue, FollowsFew, Unplaced}
-use Rattle.capnp_copy_canonical.specs.Canonical.{IsRead, IsTooShort, canonical_message, CopiesCanonical, HasNoRoom}
+use Rattle.capnp_model.specs.Sizes.{object_words}
+use Rattle.capnp_units.specs.declared.kinds.ErrorKind.TheVariants.{SizeOverflow}
+use Rattle.capnp_copy.specs.States.{ArenaState}
+use Rattle.capnp_copy_from.specs.Copies.{BecomesCopy, CopiesValue, FollowsFew, Unplaced, IsStoppedOr}
+use Rattle.capnp_copy_from.specs.Fits.{HasRoomIn, TakesIn, HasLongList, FitsWhereRoom}
+use Rattle.capnp_copy_canonical.specs.Canonical.{IsRead, IsTooShort, canonical_message, CopiesCanonical, CanonicalTold, HasNoRoom}
 use Rattle.capnp_object.proofs.lemmas.Walks.{free_left, unstopped}
 
 -- ---- what is written
@@ -63,3 +67,35 @@ copied n from q lent s u p old new start stop (Err e) t cost read means costs fr
     by : Stopped (visits n (canonical_message t) root) start e stop ⊎ Unplaced (canonical_message t) (visits n (canonical_message t) root) u start e stop → HasNoRoom n from q s u old e new
     by (inl x) = absurd (unstopped (visits n (canonical_message t) root) cost start stop e costs (free_left start free) x)
     by (inr x) = record { value = t; read = read; start = start; end = stop; free = free; unplaced = x; takes = g.takes }
+
+-- ---- what it takes, and why it is refused
+
+pub halted_told : (n : ℕ) (from : Segments) (q : Place) (lent : List (List ℕ)) (s u : ArenaState) (i : ℕ) (told : Error → Type 0) (old : ReadLimiter) (e : Error) (into : List (List ℕ)) (new : ReadLimiter) (r : Result ⊤ Error) (d : Error) → r ≡ Err d → d ≡ e → Unwritten (tree_at n from q) (λ t words. canonical_words (trim t)) (copy_visits n from q) 1 1 lent old e into new → CanonicalTold n from q lent s u i told old r new
+halted_told n from q lent s u i told old e into new r d is same h =
+    subst (λ (y : Result ⊤ Error). CanonicalTold n from q lent s u i told old y new) (sym (is ∙ ap (λ (y : Error). Err y) same)) (inl (by h.halted.why))
+  where
+    by : Stopped (copy_visits n from q) old e new ⊎ Filled (copy_visits n from q) (room_of lent) 1 old e new → Stopped (copy_visits n from q) old e new ⊎ IsTooShort n from q lent old e new
+    by (inl stop) = inl stop
+    by (inr few) = inr (few, h.full few.why)
+
+pub copied_told : (n : ℕ) (from : Segments) (q : Place) (lent : List (List ℕ)) (s u : ArenaState) (i : ℕ) (told : Error → Type 0) (old new start stop : ReadLimiter) (r : Result ⊤ Error) (t : Tree) (cost : ℕ) → tree_at n from q ≡ Some t → tree_at n (canonical_message t) root ≡ Some (trim t) → visits_cost (visits n (canonical_message t) root) ≡ Some cost → IsFree start
+    → FitsWhereRoom object_words (tree_at n (canonical_message t) root) (visits n (canonical_message t) root) (HasLongList (canonical_message t)) i s u start r stop → IsStoppedOr (visits n (canonical_message t) root) start stop told r → CanonicalTold n from q lent s u i told old r new
+copied_told n from q lent s u i told old new start stop (Ok x) t cost there means costs free fits why = λ v is h. (
+    let same : t ≡ v = some_is _ _ (sym there ∙ is) in
+    subst (λ (y : Tree). TakesIn s u i (object_words (trim y))) same (fits (trim t) means (subst (λ (y : Tree). HasRoomIn s i (object_words (trim y))) (sym same) h))
+    )
+copied_told n from q lent s u i told old new start stop (Err e) t cost there means costs free fits why = inr (
+  by why,
+  λ v is h. (
+      let same : t ≡ v = some_is _ _ (sym there ∙ is) in
+      subst (λ (y : Tree). (e.kind ≡ SizeOverflow) × HasLongList (canonical_message y)) same (long (fits (trim t) means (subst (λ (y : Tree). HasRoomIn s i (object_words (trim y))) (sym same) h)))
+      ),
+)
+  where
+    by : Stopped (visits n (canonical_message t) root) start e stop ⊎ told e → told e
+    by (inl x) = absurd (unstopped (visits n (canonical_message t) root) cost start stop e costs (free_left start free) x)
+    by (inr y) = y
+
+    long : Stopped (visits n (canonical_message t) root) start e stop ⊎ ((e.kind ≡ SizeOverflow) × HasLongList (canonical_message t)) → (e.kind ≡ SizeOverflow) × HasLongList (canonical_message t)
+    long (inl x) = absurd (unstopped (visits n (canonical_message t) root) cost start stop e costs (free_left start free) x)
+    long (inr y) = y

@@ -12,7 +12,11 @@ use Rattle.capnp_units.specs.declared.limiter.ReadLimiter.{ReadLimiter}
 use Rattle.capnp_units.specs.Limits.{Spends, IsFree}
 use Rattle.capnp_object.specs.Walks.{Walked, Stopped}
 use Rattle.capnp_canonical.specs.Copies.{copy_visits, Behind, Filled, HasNoRoomFor, room_of}
+use Rattle.capnp_model.specs.Sizes.{object_words}
+use Rattle.capnp_units.specs.declared.kinds.ErrorKind.TheVariants.{SizeOverflow}
+use Rattle.capnp_copy.specs.States.{ArenaState}
 use Rattle.capnp_copy_from.specs.Copies.{BecomesCopy, GrowsByZeros, TakesFew, Unplaced}
+use Rattle.capnp_copy_from.specs.Fits.{HasRoomIn, TakesIn, HasLongList}
 
 -- A value without a capability is there, and the visits of a canonical copy were made.
 pub record IsRead (n : ℕ) (from : Segments) (q : Place) (t : Tree) (old new : ReadLimiter) : Type 0 where
@@ -71,3 +75,10 @@ pub record WritesFew (old new : ReadLimiter) (lent after : List (List ℕ)) : Ty
   pub written : ℕ
   pub few : written ≤ granted + 1
   pub behind : Behind written lent after
+
+-- Where the ith segment has room for the words of the trimmed value, just these are taken, in it. The copy is refused as the value is that is written over lent words; or `told` says why, and there was no such room, or a list is too long.
+abbrev pub CanonicalTold : ℕ → Segments → Place → List (List ℕ) → ArenaState → ArenaState → ℕ → (Error → Type 0) → ReadLimiter → Result ⊤ Error → ReadLimiter → Type 0
+CanonicalTold n from q lent s u i told old (Ok _) new = (t : Tree) → tree_at n from q ≡ Some t → HasRoomIn s i (object_words (trim t)) → TakesIn s u i (object_words (trim t))
+CanonicalTold n from q lent s u i told old (Err e) new =
+    (Stopped (copy_visits n from q) old e new ⊎ IsTooShort n from q lent old e new)
+    ⊎ (told e × ((t : Tree) → tree_at n from q ≡ Some t → HasRoomIn s i (object_words (trim t)) → (e.kind ≡ SizeOverflow) × HasLongList (canonical_message t)))

@@ -5,7 +5,9 @@ ghost use Rattle.capnp_model.specs.Segments.{words_at};
 ghost use Rattle.capnp_units.specs.Segments.{words_in};
 ghost use Rattle.capnp_object.specs.Places.{place_view};
 ghost use Rattle.capnp_copy_from.specs.Copies.{FollowsFew};
-ghost use Rattle.capnp_copy_canonical.specs.Canonical.{CopiesCanonical, WritesFew};
+ghost use Rattle.capnp_copy.specs.Refusals.{IsSizeOrRefusal};
+ghost use Rattle.capnp_copy.specs.States.{state_in};
+ghost use Rattle.capnp_copy_canonical.specs.Canonical.{CopiesCanonical, CanonicalTold, WritesFew};
 
 use capnp_canonical::copy::write_canonical;
 use capnp_canonical::laws::{copies_follow_few, segments_of_words};
@@ -43,6 +45,10 @@ pub fn copy_canonical_from<A: BuilderArena, B: ReaderArena>(
         (place_view slot) limiter.old result limiter.new }
     ensures few { FollowsFew limiter.old limiter.new }
     ensures lent { WritesFew limiter.old limiter.new lent.old lent.new }
+    ensures told { let at = state_in A.segments A.room A.books in
+        CanonicalTold levels (words_in (B.segments source.now)) (place_view place) lent.old
+        (at arena.old) (at arena.new) slot.segment (IsSizeOrRefusal A.refuses) limiter.old result
+        limiter.new }
     ensures books { A.books arena.new ≡ A.books arena.old }
 {
     values_that_are_read();

@@ -16,3 +16,5 @@ mod TakenContent
 mod Counting
 mod Taking
 mod SectionBytes
+mod Fitting
+mod FittingRows

@@ -6,7 +6,12 @@ use Rattle.capnp_units.specs.declared.errors.Error.{Error}
 use Rattle.capnp_units.specs.declared.limiter.ReadLimiter.{ReadLimiter}
 use Rattle.capnp_units.specs.Limits.{limit_of, granted_of}
 use Rattle.capnp_units.specs.Segments.{words_in}
-use Rattle.capnp_copy_from.specs.Copies.{CopiesValue}
+use Rattle.capnp_model.specs.Sizes.{object_words}
+use Rattle.capnp_model.specs.Traversal.{tree_at}
+use Rattle.capnp_model.specs.Visits.{visits}
+use Rattle.capnp_copy.specs.States.{ArenaState}
+use Rattle.capnp_copy_from.specs.Copies.{CopiesValue, IsStoppedOr}
+use Rattle.capnp_copy_from.specs.Fits.{FitsWhereRoom, HasLongList}
 
 -- The one segment that has these words.
 abbrev pub default_segments : List (List ℕ) → Segments
@@ -28,3 +33,16 @@ pub record CopiesDefault (default s u : Segments) (p : Place) (result : Result �
 pub record WritesDefault (default s u : Segments) (p : Place) (result : Result ⊤ Error) : Type 0 where
   pub written : is_null_at s p ≡ true → is_null_at default root ≡ false → CopiesDefault default s u p result
   pub kept : (not (is_null_at s p) || is_null_at default root) ≡ true → (u ≡ s) × (result ≡ Ok tt)
+
+-- The same copy, with what it takes where the ith segment has room, and why it is refused, of which `told` tells what comes of no fault in the default.
+pub record DefaultFits (default : Segments) (i : ℕ) (s u : ArenaState) (result : Result ⊤ Error) (told : Error → Type 0) : Type 0 where
+  pub old : ReadLimiter
+  pub new : ReadLimiter
+  pub endless : limit_of old ≡ None
+  pub fits : FitsWhereRoom object_words (tree_at 64 default root) (visits 64 default root) (HasLongList default) i s u old result new
+  pub cause : IsStoppedOr (visits 64 default root) old new told result
+
+-- It is made just where there was null, and the default's root isn't; else all stands, and nothing is refused.
+pub record TellsDefault (default : Segments) (p : Place) (s u : ArenaState) (result : Result ⊤ Error) (told : Error → Type 0) : Type 0 where
+  pub written : is_null_at (words_in s.segments) p ≡ true → is_null_at default root ≡ false → DefaultFits default p.segment s u result told
+  pub kept : (not (is_null_at (words_in s.segments) p) || is_null_at default root) ≡ true → (u.room ≡ s.room) × (result ≡ Ok tt)

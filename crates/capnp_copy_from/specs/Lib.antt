@@ -3,3 +3,4 @@ pub mod Objects
 pub mod Defaults
 pub mod Contents
 pub mod Lists
+pub mod Fits

@@ -3,11 +3,15 @@ ghost use Rattle.std.specs.Prelude.{min, ◌≡◌, ◌+◌, ◌*◌, ◌^◌, �
 ghost use Rattle.std.specs.Option.{is_some};
 ghost use Rattle.capnp_model.specs.Sections.{number_of};
 ghost use Rattle.capnp_model.specs.Segments.{words_at};
+ghost use Rattle.capnp_model.specs.Sizes.{each_object_words};
+ghost use Rattle.capnp_model.specs.Traversal.{tree_at, each};
 ghost use Rattle.capnp_model.specs.Coverage.{from_each};
 ghost use Rattle.capnp_model.specs.Visits.{visits};
 ghost use Rattle.capnp_units.specs.Segments.{words_in};
 ghost use Rattle.capnp_object.specs.Places.{place_view};
 ghost use Rattle.capnp_copy.specs.Refusals.{IsSizeOrRefusal};
+ghost use Rattle.capnp_copy.specs.States.{state_in};
+ghost use Rattle.capnp_copy_from.specs.Fits.{FitsWhereRoom, HasLongList};
 ghost use Rattle.capnp_copy_from.specs.Copies.{IsStoppedOr, struct_source};
 ghost use Rattle.capnp_copy_from.specs.Contents.{CopiesContent, ClearsRest, SetsSection};
 
@@ -31,6 +35,7 @@ fn write_data<A: BuilderArena>(arena: &mut A, object: StructPlace, bytes: &[u8])
         (words_in (A.segments arena.new)) object (number_of 8 bytes.now) }
     ensures sizes { map length (words_in (A.segments arena.new))
         ≡ map length (words_in (A.segments arena.old)) }
+    ensures room { A.room arena.new ≡ A.room arena.old }
     ensures books { A.books arena.new ≡ A.books arena.old }
 {
     let words = (bytes.len() + 7) / 8;
@@ -50,6 +55,7 @@ fn clear_rest<A: BuilderArena>(arena: &mut A, object: StructPlace, kept: u16)
         object kept }
     ensures sizes { map length (words_in (A.segments arena.new))
         ≡ map length (words_in (A.segments arena.old)) }
+    ensures room { A.room arena.new ≡ A.room arena.old }
     ensures books { A.books arena.new ≡ A.books arena.old }
 {
     for i in kept..object.pointers {
@@ -63,7 +69,7 @@ fn clear_rest<A: BuilderArena>(arena: &mut A, object: StructPlace, kept: u16)
 
 /// Puts the content of a struct of a source into a struct that lies in an arena: as many bytes of its data section as fit, with zeros behind them, and copies of the values of as many pointers as it has a place for, in place of the old values, which are cleared; the struct's further pointers become null. The source's pointers stand in a row, and so many levels may be followed from each. Those that the struct has no place for aren't followed.
 ///
-/// The source's own words were paid for already: its pointers are followed, nulls too, and refused as by `copy_from`. After a refusal the data are the source's, and of the pointers the first ones have the copies and the others their old values; all else stands, and the words that old values left are zero, as are new ones that have no use. Refused or not, it allocates no more words than twice those that it grants.
+/// The source's own words were paid for already: its pointers are followed, nulls too, and refused as by `copy_from`. After a refusal the data are the source's, and of the pointers the first ones have the copies and the others their old values; all else stands, and the words that old values left are zero, as are new ones that have no use. Refused or not, it allocates no more words than twice those that it grants. Where the struct's segment has room for all words of the copies, it takes just these, and there is no want of room.
 pub fn copy_content_from<A: BuilderArena, B: ReaderArena>(
     arena: &mut A,
     object: StructPlace,
@@ -85,6 +91,12 @@ pub fn copy_content_from<A: BuilderArena, B: ReaderArena>(
     ensures cause { IsStoppedOr (from_each (visits levels (words_in (B.segments source.now)))
         (place_view first) (min pointers object.pointers)) limiter.old limiter.new
         (IsSizeOrRefusal A.refuses) result }
+    ensures fits { let at = state_in A.segments A.room A.books in
+        let from = words_in (B.segments source.now) in let p = place_view first in
+        let k = min pointers object.pointers in
+        FitsWhereRoom each_object_words (each (tree_at levels from) p k)
+        (from_each (visits levels from) p k) (HasLongList from) object.start.segment (at arena.old)
+        (at arena.new) limiter.old result limiter.new }
     ensures books { A.books arena.new ≡ A.books arena.old }
 {
     let bytes = section.len().min(8 * object.data_words as usize);

@@ -2,7 +2,8 @@
 ghost use Rattle.std.specs.Prelude.{◌≡◌, ℕ, ◌+◌, ◌*◌, ◌^◌, ◌<◌, ◌≤◌, true, length, map};
 ghost use Rattle.std.specs.Option.{is_some};
 ghost use Rattle.capnp_model.specs.Segments.{after, words_at};
-ghost use Rattle.capnp_model.specs.Traversal.{tree_at, each};
+ghost use Rattle.capnp_model.specs.Sizes.{object_words, each_object_words};
+ghost use Rattle.capnp_model.specs.Traversal.{tree_at, each, each_element};
 ghost use Rattle.capnp_model.specs.Coverage.{from_each, from_elements};
 ghost use Rattle.capnp_model.specs.Visits.{visits};
 ghost use Rattle.capnp_units.specs.Segments.{words_in};
@@ -10,7 +11,9 @@ ghost use Rattle.capnp_object.specs.Places.{place_view};
 ghost use Rattle.capnp_object.specs.Objects.{AreThere, IsInside};
 ghost use Rattle.capnp_object.specs.Inside.{tree_in, met_in, section_at, words_there};
 ghost use Rattle.capnp_copy.specs.Refusals.{IsSizeOrRefusal};
+ghost use Rattle.capnp_copy.specs.States.{state_in};
 ghost use Rattle.capnp_copy_from.specs.Copies.{BecomesCopy, CopyGives, IsStoppedOr, CopiesValue, CopiesObject, FollowsFew, FillsRow, LeavesRow, HasZeros, FillsObject, CopiesOverStruct, CopiesOverElements};
+ghost use Rattle.capnp_copy_from.specs.Fits.{FitsWhereRoom, HasLongList, IsLong, words_behind, elements_behind};
 ghost use Rattle.capnp_copy_from.specs.Objects.{copied_words, most_counted, is_leaf, leaf_value};
 
 use crate::objects::{copy_at, pointer_word, room_for, tag_word};
@@ -27,7 +30,7 @@ use capnp_wire::place::Place;
 
 /// Puts a copy of the value of a pointer in a source in place of the value of the pointer at a place, which is cleared: the whole tree, with its capabilities' indices as they are.
 ///
-/// The source's pointers are followed in the order of reading, nulls too, and its objects are paid for, as by `size_at`. At the first fault within so many levels it is refused by that kind, and with `ReadLimitExceeded` at the first object that costs more words than are left; with `SizeOverflow` just where a count, or the message's words with the next object and a pad, would pass 2^29 - 1; else as the allocator refuses. After a refusal all words stand as they were, and those that were allocated are zero. Refused or not, it allocates no more words than twice those that it grants.
+/// The source's pointers are followed in the order of reading, nulls too, and its objects are paid for, as by `size_at`. At the first fault within so many levels it is refused by that kind, and with `ReadLimitExceeded` at the first object that costs more words than are left; with `SizeOverflow` just where a count, or the message's words with the next object and a pad, would pass 2^29 - 1; else as the allocator refuses. After a refusal all words stand as they were, and those that were allocated are zero. Refused or not, it allocates no more words than twice those that it grants. Where the pointer's segment has room for all words of the copy, it takes just these, and there is no want of room.
 ///
 /// It takes a step for each pointer that it follows, which are no more than the words that it grants, and one, and goes over data by whole slices. New words are filled first, the old value is cleared then, and the pointer is written last. Each level takes a few hundred bytes of stack.
 #[cycle(copy)]
@@ -48,6 +51,11 @@ pub fn copy_from<A: BuilderArena, B: ReaderArena>(
     ensures few { FollowsFew limiter.old limiter.new }
     ensures cause { IsStoppedOr (visits levels (words_in (B.segments source.now))
         (place_view place)) limiter.old limiter.new (IsSizeOrRefusal A.refuses) result }
+    ensures fits { let at = state_in A.segments A.room A.books in
+        let from = words_in (B.segments source.now) in
+        FitsWhereRoom object_words (tree_at levels from (place_view place))
+        (visits levels from (place_view place)) (HasLongList from) slot.segment (at arena.old)
+        (at arena.new) limiter.old result limiter.new }
     ensures books { A.books arena.new ≡ A.books arena.old }
 {
     let object = follow_within(source, limiter, place, levels)?;
@@ -67,6 +75,7 @@ fn put_leaf<A: BuilderArena>(arena: &mut A, slot: Place, object: Object)
         (words_in (A.segments arena.new)) (place_view slot) (leaf_value object) }
     ensures sizes { map length (words_in (A.segments arena.new))
         ≡ map length (words_in (A.segments arena.old)) }
+    ensures room { A.room arena.new ≡ A.room arena.old }
     ensures books { A.books arena.new ≡ A.books arena.old }
 {
     clear(arena, slot);
@@ -77,7 +86,7 @@ fn put_leaf<A: BuilderArena>(arena: &mut A, slot: Place, object: Object)
 
 /// Puts a copy of an object of a source in place of the value of the pointer at a place, which is cleared: of a struct or a list that a reader stands on, as `set_struct` and `set_list` copy it. So many levels may be followed from each of its pointers. A list is copied as it lies, its structs with all their words, however it was read.
 ///
-/// The object's own words were paid for already: it is refused as by `copy_from` behind it, with `SizeOverflow` just where its counts, or the message's words with it and a pad, would pass 2^29 - 1, else as the allocator refuses. After a refusal all words stand as they were, and those that were allocated are zero. Refused or not, it allocates no more words than twice those of the copy and those that it grants.
+/// The object's own words were paid for already: it is refused as by `copy_from` behind it, with `SizeOverflow` just where its counts, or the message's words with it and a pad, would pass 2^29 - 1, else as the allocator refuses. After a refusal all words stand as they were, and those that were allocated are zero. Refused or not, it allocates no more words than twice those of the copy and those that it grants. Where the pointer's segment has room for all words of the copy, it takes just these, and there is no want of room.
 ///
 /// Each pointer in the object is followed, and from there on it takes the steps of `copy_from`. Lists of plain elements and of structs without pointers take one step, whatever they count.
 #[cycle(copy)]
@@ -98,6 +107,11 @@ pub fn copy_object<A: BuilderArena, B: ReaderArena>(
         (words_in (A.segments arena.new)) (place_view slot) limiter.old result limiter.new }
     ensures cause { IsStoppedOr (met_in (visits levels (words_in (B.segments source.now))) object)
         limiter.old limiter.new (IsSizeOrRefusal A.refuses) result }
+    ensures fits { let at = state_in A.segments A.room A.books in
+        let from = words_in (B.segments source.now) in
+        FitsWhereRoom object_words (tree_in from (tree_at levels from) object)
+        (met_in (visits levels from) object) (IsLong from object) slot.segment (at arena.old)
+        (at arena.new) limiter.old result limiter.new }
     ensures books { A.books arena.new ≡ A.books arena.old }
 {
     if let Object::Null | Object::Capability { .. } = object {
@@ -139,6 +153,11 @@ fn fill<A: BuilderArena, B: ReaderArena>(
         limiter.old result limiter.new }
     ensures cause { IsStoppedOr (met_in (visits levels (words_in (B.segments source.now))) object)
         limiter.old limiter.new (IsSizeOrRefusal A.refuses) result }
+    ensures fits { let at = state_in A.segments A.room A.books in
+        let from = words_in (B.segments source.now) in
+        FitsWhereRoom words_behind (tree_in from (tree_at levels from) object)
+        (met_in (visits levels from) object) (HasLongList from) start.segment (at arena.old)
+        (at arena.new) limiter.old result limiter.new }
     ensures books { A.books arena.new ≡ A.books arena.old }
 {
     match object {
@@ -201,6 +220,11 @@ pub(crate) fn fill_row<A: BuilderArena, B: ReaderArena>(
         (LeavesRow levels from p s u r data_words count) s u limiter.old result limiter.new }
     ensures cause { IsStoppedOr (from_each (visits levels (words_in (B.segments source.now)))
         (place_view first) count) limiter.old limiter.new (IsSizeOrRefusal A.refuses) result }
+    ensures fits { let at = state_in A.segments A.room A.books in
+        let from = words_in (B.segments source.now) in let p = place_view first in
+        FitsWhereRoom each_object_words (each (tree_at levels from) p count)
+        (from_each (visits levels from) p count) (HasLongList from) start.segment (at arena.old)
+        (at arena.new) limiter.old result limiter.new }
     ensures books { A.books arena.new ≡ A.books arena.old }
 {
     for i in 0..count {
@@ -241,6 +265,11 @@ fn fill_struct<A: BuilderArena, B: ReaderArena>(
     ensures cause { IsStoppedOr (from_each (visits levels (words_in (B.segments source.now)))
         (after (place_view from) data_words) pointers) limiter.old limiter.new
         (IsSizeOrRefusal A.refuses) result }
+    ensures fits { let at = state_in A.segments A.room A.books in
+        let b = words_in (B.segments source.now) in let p = after (place_view from) data_words in
+        FitsWhereRoom each_object_words (each (tree_at levels b) p pointers)
+        (from_each (visits levels b) p pointers) (HasLongList b) start.segment (at arena.old)
+        (at arena.new) limiter.old result limiter.new }
     ensures books { A.books arena.new ≡ A.books arena.old }
 {
     copy_words(arena, start, source, from, data_words as usize);
@@ -286,6 +315,11 @@ fn fill_elements<A: BuilderArena, B: ReaderArena>(
     ensures cause { IsStoppedOr (from_elements (visits levels (words_in (B.segments source.now)))
         (place_view from) data_words pointers count) limiter.old limiter.new
         (IsSizeOrRefusal A.refuses) result }
+    ensures fits { let at = state_in A.segments A.room A.books in
+        let b = words_in (B.segments source.now) in let p = place_view from in FitsWhereRoom
+        elements_behind (each_element (tree_at levels b) p (words_there b p words) data_words
+        pointers count) (from_elements (visits levels b) p data_words pointers count)
+        (HasLongList b) start.segment (at arena.old) (at arena.new) limiter.old result limiter.new }
     ensures books { A.books arena.new ≡ A.books arena.old }
 {
     if pointers == 0 {

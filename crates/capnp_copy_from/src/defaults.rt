@@ -4,7 +4,9 @@ ghost use Rattle.std.specs.Option.{is_some};
 ghost use Rattle.capnp_model.specs.Segments.{words_at};
 ghost use Rattle.capnp_units.specs.Segments.{words_in};
 ghost use Rattle.capnp_object.specs.Places.{place_view};
-ghost use Rattle.capnp_copy_from.specs.Defaults.{WritesDefault, default_segments, is_null_at};
+ghost use Rattle.capnp_copy.specs.Refusals.{IsSizeOrRefusal};
+ghost use Rattle.capnp_copy.specs.States.{state_in};
+ghost use Rattle.capnp_copy_from.specs.Defaults.{WritesDefault, TellsDefault, default_segments, is_null_at};
 
 use crate::copy::copy_from;
 use capnp_copy::arena::BuilderArena;
@@ -27,13 +29,16 @@ fn is_null_at<A: ReaderArena>(arena: &A, place: Place) -> bool
 
 /// Puts a copy of a default in place of null: the root of the one segment that has these words. Nothing happens where the pointer isn't null, or the default's root is.
 ///
-/// The default is read 64 levels deep, and costs nothing. It is refused as `copy_from` is; a default that can be read within its levels only for want of room, with `SizeOverflow` or as the allocator refuses. Then all words stand as they were, and those that were allocated are zero.
+/// The default is read 64 levels deep, and costs nothing. It is refused as `copy_from` is; a default that can be read within its levels only for want of room, with `SizeOverflow` or as the allocator refuses, and not where the pointer's segment has room for its words. Then all words stand as they were, and those that were allocated are zero.
 pub fn write_default<A: BuilderArena>(arena: &mut A, slot: Place, default: &[Word]) -> Result<()>
     requires there { is_some (words_at (words_in (A.segments arena.old)) (place_view slot) 1)
         ≡ true }
     requires near { slot.position < 2 ^ 61 }
     ensures default { WritesDefault (default_segments default.now) (words_in (A.segments arena.old))
         (words_in (A.segments arena.new)) (place_view slot) result }
+    ensures told { let at = state_in A.segments A.room A.books in
+        TellsDefault (default_segments default.now) (place_view slot) (at arena.old) (at arena.new)
+        result (IsSizeOrRefusal A.refuses) }
     ensures books { A.books arena.new ≡ A.books arena.old }
 {
     let source: Backing<NullArena> = default_backing(default);

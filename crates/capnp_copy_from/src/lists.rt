@@ -5,7 +5,8 @@ ghost use Rattle.capnp_model.specs.Sections.{number_of, words_for, words_of};
 ghost use Rattle.capnp_model.specs.Segments.{words_at};
 ghost use Rattle.capnp_model.specs.Pointers.{a_list};
 ghost use Rattle.capnp_model.specs.Trees.{plain_list};
-ghost use Rattle.capnp_model.specs.Traversal.{tree_at};
+ghost use Rattle.capnp_model.specs.Sizes.{object_words, each_object_words};
+ghost use Rattle.capnp_model.specs.Traversal.{tree_at, each, each_element};
 ghost use Rattle.capnp_model.specs.Coverage.{from_each, from_elements};
 ghost use Rattle.capnp_model.specs.Visits.{visits};
 ghost use Rattle.capnp_units.specs.Segments.{words_in};
@@ -14,7 +15,8 @@ ghost use Rattle.capnp_object.specs.Places.{place_view};
 ghost use Rattle.capnp_object.specs.Inside.{met_in};
 ghost use Rattle.capnp_wire.specs.Elements.{step_bits, step_words};
 ghost use Rattle.capnp_copy.specs.Refusals.{IsSizeOrRefusal};
-ghost use Rattle.capnp_copy.specs.States.{KeepsSizes};
+ghost use Rattle.capnp_copy.specs.States.{KeepsSizes, state_in};
+ghost use Rattle.capnp_copy_from.specs.Fits.{FitsWhereRoom, HasLongList, IsLong, words_behind, elements_behind};
 ghost use Rattle.capnp_copy_from.specs.Copies.{IsStoppedOr, Fills, HasZeros, FillsObject, CopiesOverStruct, CopiesOverElements};
 ghost use Rattle.capnp_copy_from.specs.Objects.{copied_words, most_counted};
 ghost use Rattle.capnp_copy_from.specs.Lists.{CopiesList, listed_object, listed_tree, listed_bits, listed_words};
@@ -80,6 +82,7 @@ fn write_elements<A: BuilderArena>(
         (place_view start) (words_for bits) (a_list (place_view start) (size_number size) count)
         (plain_list (size_number size) count (number_of 8 bytes.now % 2 ^ bits)) }
     ensures sizes { KeepsSizes (A.segments arena.old) (A.segments arena.new) }
+    ensures room { A.room arena.new ≡ A.room arena.old }
     ensures books { A.books arena.new ≡ A.books arena.old }
 {
     let words = words_of_elements(size, count) as usize;
@@ -109,6 +112,11 @@ fn fill_element<A: BuilderArena, B: ReaderArena>(
     ensures cause { IsStoppedOr (from_each (visits levels (words_in (B.segments source.now)))
         (place_view first) pointers) limiter.old limiter.new
         (IsSizeOrRefusal A.refuses) result }
+    ensures fits { let at = state_in A.segments A.room A.books in
+        let from = words_in (B.segments source.now) in let p = place_view first in
+        FitsWhereRoom each_object_words (each (tree_at levels from) p pointers)
+        (from_each (visits levels from) p pointers) (HasLongList from) start.segment (at arena.old)
+        (at arena.new) limiter.old result limiter.new }
     ensures books { A.books arena.new ≡ A.books arena.old }
 {
     arena.write_words(start, section);
@@ -142,6 +150,14 @@ fn fill_structs<A: BuilderArena, B: ReaderArena>(
     ensures cause { IsStoppedOr (from_elements (visits levels (words_in (B.segments source.now)))
         (place_view list.start) list.data_words list.pointers list.count) limiter.old limiter.new
         (IsSizeOrRefusal A.refuses) result }
+    ensures fits { let at = state_in A.segments A.room A.books in
+        let from = words_in (B.segments source.now) in let p = place_view list.start in
+        let n = list.count * (list.data_words + list.pointers) in FitsWhereRoom elements_behind
+        (each_element (tree_at levels from) p (words_of n (number_of 8 bytes.now))
+        list.data_words list.pointers list.count)
+        (from_elements (visits levels from) p list.data_words list.pointers list.count)
+        (HasLongList from) start.segment (at arena.old) (at arena.new) limiter.old result
+        limiter.new }
     ensures books { A.books arena.new ≡ A.books arena.old }
 {
     if list.pointers == 0 {
@@ -200,6 +216,11 @@ fn fill_list<A: BuilderArena, B: ReaderArena>(
         (words_in (A.segments arena.new)) (place_view start) limiter.old result limiter.new }
     ensures cause { IsStoppedOr (met_in (visits levels (words_in (B.segments source.now)))
         (listed_object list)) limiter.old limiter.new (IsSizeOrRefusal A.refuses) result }
+    ensures fits { let at = state_in A.segments A.room A.books in
+        let from = words_in (B.segments source.now) in FitsWhereRoom words_behind
+        (listed_tree (tree_at levels from) list bytes.now)
+        (met_in (visits levels from) (listed_object list)) (HasLongList from) start.segment
+        (at arena.old) (at arena.new) limiter.old result limiter.new }
     ensures books { A.books arena.new ≡ A.books arena.old }
 {
     match list.size {
@@ -222,7 +243,7 @@ fn fill_list<A: BuilderArena, B: ReaderArena>(
 
 /// Puts a copy of a list of a source in place of the value of the pointer at a place, which is cleared: of these bytes, which are its plain elements or the words of its structs, and of the values of its pointers, by where they stand. A list of structs is copied whole, however it was read. So many levels may be followed from each pointer.
 ///
-/// The list's own words were paid for already: its pointers are followed, nulls too, and refused as by `copy_from`; it is refused with `SizeOverflow` just where the count, the words of structs, or the message's words with it and a pad would pass 2^29 - 1, else as the allocator refuses. After a refusal all words stand as they were, and those that were allocated are zero. Refused or not, it allocates no more words than twice the list's and those that it grants.
+/// The list's own words were paid for already: its pointers are followed, nulls too, and refused as by `copy_from`; it is refused with `SizeOverflow` just where the count, the words of structs, or the message's words with it and a pad would pass 2^29 - 1, else as the allocator refuses. After a refusal all words stand as they were, and those that were allocated are zero. Refused or not, it allocates no more words than twice the list's and those that it grants. Where the pointer's segment has room for all words of the copy, it takes just these, and there is no want of room.
 ///
 /// Lists of plain elements and of structs without pointers take one step, whatever they count.
 pub fn set_list<A: BuilderArena, B: ReaderArena>(
@@ -246,6 +267,11 @@ pub fn set_list<A: BuilderArena, B: ReaderArena>(
         (words_in (A.segments arena.new)) (place_view slot) limiter.old result limiter.new }
     ensures cause { IsStoppedOr (met_in (visits levels (words_in (B.segments source.now)))
         (listed_object list)) limiter.old limiter.new (IsSizeOrRefusal A.refuses) result }
+    ensures fits { let at = state_in A.segments A.room A.books in
+        let from = words_in (B.segments source.now) in FitsWhereRoom object_words
+        (listed_tree (tree_at levels from) list bytes.now)
+        (met_in (visits levels from) (listed_object list)) (IsLong from (listed_object list))
+        slot.segment (at arena.old) (at arena.new) limiter.old result limiter.new }
     ensures books { A.books arena.new ≡ A.books arena.old }
 {
     let object = object_of(list);

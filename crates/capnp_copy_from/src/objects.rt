@@ -10,7 +10,7 @@ ghost use Rattle.capnp_object.specs.Places.{place_view};
 ghost use Rattle.capnp_object.specs.Named.{named_view};
 ghost use Rattle.capnp_copy.specs.Allocations.{total_words, NoRoom};
 ghost use Rattle.capnp_copy.specs.Refusals.{IsSizeOrRefusal};
-ghost use Rattle.capnp_copy.specs.Rooms.{RoomFor, IsNearWhereRoom};
+ghost use Rattle.capnp_copy.specs.Rooms.{RoomFor, IsNearWhereRoom, UsesRoomNear};
 ghost use Rattle.capnp_copy_from.specs.Objects.{copied_words, most_counted, copied_at, copied_pointer, IsTooLarge, IsSpelled};
 
 use capnp_copy::arena::BuilderArena;
@@ -81,6 +81,8 @@ pub(crate) fn room_for<A: BuilderArena>(arena: &mut A, slot: Place, object: Obje
     ensures near { IfOk result
         (IsNearWhereRoom (words_in (A.segments arena.old)) (A.room arena.old) slot.segment
         (copied_words object)) }
+    ensures left { IfOk result
+        (UsesRoomNear (A.room arena.old) (A.room arena.new) slot.segment (copied_words object)) }
     ensures full { OnErr result ((2 ^ 29 ≤ most_counted object)
         ⊎ NoRoom (words_in (A.segments arena.old)) (A.room arena.old) slot.segment
         (copied_words object)) }

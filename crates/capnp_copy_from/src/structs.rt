@@ -2,11 +2,15 @@
 ghost use Rattle.std.specs.Prelude.{◌≡◌, ◌+◌, ◌-◌, ◌*◌, ◌^◌, ◌<◌, ◌≤◌, true, length};
 ghost use Rattle.std.specs.Option.{is_some};
 ghost use Rattle.capnp_model.specs.Segments.{words_at};
+ghost use Rattle.capnp_model.specs.Sizes.{object_words};
+ghost use Rattle.capnp_model.specs.Traversal.{tree_at};
 ghost use Rattle.capnp_model.specs.Coverage.{from_each};
 ghost use Rattle.capnp_model.specs.Visits.{visits};
 ghost use Rattle.capnp_units.specs.Segments.{words_in};
 ghost use Rattle.capnp_object.specs.Places.{place_view};
 ghost use Rattle.capnp_copy.specs.Refusals.{IsSizeOrRefusal};
+ghost use Rattle.capnp_copy.specs.States.{state_in};
+ghost use Rattle.capnp_copy_from.specs.Fits.{FitsWhereRoom, HasLongList, struct_tree};
 ghost use Rattle.capnp_copy_from.specs.Copies.{CopiesStruct, IsStoppedOr, struct_source};
 
 use crate::copy::fill_row;
@@ -23,7 +27,7 @@ use capnp_wire::place::Place;
 
 /// Puts a copy of a struct of a source in place of the value of the pointer at a place, which is cleared: of its data section's bytes, in as many words as they need, and of the values of so many pointers in a row. So many levels may be followed from each pointer.
 ///
-/// The struct's own words were paid for already: its pointers are followed, nulls too, and refused as by `copy_from`; it is refused with `SizeOverflow` just where the message's words with it and a pad would pass 2^29 - 1, else as the allocator refuses. After a refusal all words stand as they were, and those that were allocated are zero. Refused or not, it allocates no more words than twice the struct's and those that it grants.
+/// The struct's own words were paid for already: its pointers are followed, nulls too, and refused as by `copy_from`; it is refused with `SizeOverflow` just where the message's words with it and a pad would pass 2^29 - 1, else as the allocator refuses. After a refusal all words stand as they were, and those that were allocated are zero. Refused or not, it allocates no more words than twice the struct's and those that it grants. Where the pointer's segment has room for all words of the copy, it takes just these, and there is no want of room.
 pub fn set_struct<A: BuilderArena, B: ReaderArena>(
     arena: &mut A,
     slot: Place,
@@ -45,6 +49,11 @@ pub fn set_struct<A: BuilderArena, B: ReaderArena>(
     ensures cause { IsStoppedOr (from_each (visits levels (words_in (B.segments source.now)))
         (place_view first) pointers) limiter.old limiter.new
         (IsSizeOrRefusal A.refuses) result }
+    ensures fits { let at = state_in A.segments A.room A.books in
+        let from = words_in (B.segments source.now) in FitsWhereRoom object_words
+        (struct_tree (tree_at levels from) (struct_source section.now first pointers))
+        (from_each (visits levels from) (place_view first) pointers) (HasLongList from)
+        slot.segment (at arena.old) (at arena.new) limiter.old result limiter.new }
     ensures books { A.books arena.new ≡ A.books arena.old }
 {
     let data_words = ((section.len() + 7) / 8) as u16;

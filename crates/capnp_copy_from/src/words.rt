@@ -26,6 +26,7 @@ pub(crate) fn copy_words<A: BuilderArena, B: ReaderArena>(
     ensures words { words_in (A.segments arena.new)
         ≡ with_words (words_in (A.segments arena.old)) (place_view to)
         (words_there (words_in (B.segments source.now)) (place_view from) count) }
+    ensures room { A.room arena.new ≡ A.room arena.old }
     ensures books { A.books arena.new ≡ A.books arena.old }
 {
     if let Some(bytes) = source.get_segment(from.segment) {

@@ -7,7 +7,7 @@ use Rattle.capnp_copy_from.proofs.contents.clear_rest.Goals as goal
 pub loop-i-init : goal.loop-i-init
 loop-i-init g c =
     let s = words_in (g.A.ReaderArena.segments c.args.arena.now) in
-    (rest_begun s (place_view c.args.object.start) c.args.object.data_words c.args.object.pointers c.args.kept c.requires.few, omega arith, refl, refl)
+    (rest_begun s (place_view c.args.object.start) c.args.object.data_words c.args.object.pointers c.args.kept c.requires.few, omega arith, refl, refl, refl)
 
 pub loop-i-preserved : goal.loop-i-preserved
 loop-i-preserved g c =
@@ -17,7 +17,7 @@ loop-i-preserved g c =
     let i = c.loop-i.invariant in
     let low = i.1 in
     let next : c.loop-i.i < c.args.object.pointers = search rules in
-    (rest_next s u v (place_view c.args.object.start) c.args.object.data_words c.args.object.pointers c.args.kept c.loop-i.i low next i.0 c.clear.ensures.clears, omega (arith, low), c.clear.ensures.sizes ∙ i.2, c.clear.ensures.books ∙ i.3)
+    (rest_next s u v (place_view c.args.object.start) c.args.object.data_words c.args.object.pointers c.args.kept c.loop-i.i low next i.0 c.clear.ensures.clears, omega (arith, low), c.clear.ensures.sizes ∙ i.2, c.clear.ensures.books ∙ i.3, c.clear.ensures.room ∙ i.4)
 
 pub returns-clause-rest : goal.returns-clause-rest
 returns-clause-rest g c =

@@ -1,4 +1,4 @@
-use Rattle.std.proofs.Common.{◌+◌, ℕ, Err, min, take, ap, ◌∙◌, subst, arith}
+use Rattle.std.proofs.Common.{◌+◌, ℕ, Ok, Err, min, take, ap, ◌∙◌, subst, arith}
 use Rattle.std.proofs.lemmas.Result.{err_from_is_err_and}
 use Rattle.capnp_model.specs.Sections.{number_of}
 use Rattle.capnp_model.specs.Segments.{Segments, Place}
@@ -15,6 +15,10 @@ use Rattle.capnp_copy_from.proofs.Refusals.{refused_is}
 use Rattle.capnp_copy_from.proofs.TakenContent.{bytes_fit, content_refused, content_copied}
 use Rattle.capnp_copy.specs.Refusals.{IsSizeOrRefusal}
 use Rattle.capnp_copy_from.proofs.Told.{told_err}
+use Rattle.capnp_model.specs.Sizes.{each_object_words}
+use Rattle.capnp_copy.specs.States.{state_in}
+use Rattle.capnp_copy_from.specs.Fits.{FitsWhereRoom, HasLongList}
+use Rattle.capnp_copy_from.proofs.Fitting.{fits_err, fits_after, fits_kept}
 use Rattle.capnp_copy_from.proofs.contents.copy_content_from.Goals as goal
 
 pub fill_row-requires-clause-there : goal.fill_row-requires-clause-there
@@ -55,3 +59,27 @@ returns-in_err-fill_row-clause-cause g c =
     let e = c.in_err-fill_row.field-0.0 in
     let told : IsStoppedOr (from_each (visits c.args.levels from) (place_view c.args.first) (min c.args.pointers c.args.object.pointers)) c.args.limiter.now c.fill_row.new.limiter (IsSizeOrRefusal g.A.BuilderArena.refuses) (Err e) = subst (λ (k : ℕ). IsStoppedOr (from_each (visits c.args.levels from) (place_view c.args.first) k) c.args.limiter.now c.fill_row.new.limiter (IsSizeOrRefusal g.A.BuilderArena.refuses) (Err e)) c.min-shared.ensures c.in_err-fill_row.ensures.cause in
     told_err (from_each (visits c.args.levels from) (place_view c.args.first) (min c.args.pointers c.args.object.pointers)) c.args.limiter.now c.fill_row.new.limiter (IsSizeOrRefusal g.A.BuilderArena.refuses) c.from_residual.result r.0 e r.1 r.2 told
+
+pub returns-in_err-fill_row-clause-fits : goal.returns-in_err-fill_row-clause-fits
+returns-in_err-fill_row-clause-fits g c =
+    let from : Segments = words_in (g.B.ReaderArena.segments c.args.source.now) in
+    let n = c.args.levels in
+    let q : Place = place_view c.args.first in
+    let r = err_from_is_err_and c.from_residual.result c.from_residual.ensures.1 in
+    let e = c.in_err-fill_row.field-0.0 in
+    let seg = c.args.object.start.segment in
+    let fits = subst (λ (k : ℕ). FitsWhereRoom each_object_words (each (tree_at n from) q k) (from_each (visits n from) q k) (HasLongList from) seg (state_in g.A.ReaderArena.segments g.A.BuilderArena.room g.A.BuilderArena.books c.write_data.new.arena) (state_in g.A.ReaderArena.segments g.A.BuilderArena.room g.A.BuilderArena.books c.fill_row.new.arena) c.args.limiter.now (Err e) c.fill_row.new.limiter) c.min-shared.ensures c.in_err-fill_row.ensures.fits in
+    fits_err each_object_words (each (tree_at n from) q (min c.args.pointers c.args.object.pointers)) (from_each (visits n from) q (min c.args.pointers c.args.object.pointers)) (HasLongList from) seg (state_in g.A.ReaderArena.segments g.A.BuilderArena.room g.A.BuilderArena.books c.args.arena.now) (state_in g.A.ReaderArena.segments g.A.BuilderArena.room g.A.BuilderArena.books c.fill_row.new.arena) c.args.limiter.now c.fill_row.new.limiter c.from_residual.result r.0 e r.1 r.2
+    (fits_after each_object_words (each (tree_at n from) q (min c.args.pointers c.args.object.pointers)) (from_each (visits n from) q (min c.args.pointers c.args.object.pointers)) (HasLongList from) seg (state_in g.A.ReaderArena.segments g.A.BuilderArena.room g.A.BuilderArena.books c.args.arena.now) (state_in g.A.ReaderArena.segments g.A.BuilderArena.room g.A.BuilderArena.books c.write_data.new.arena) (state_in g.A.ReaderArena.segments g.A.BuilderArena.room g.A.BuilderArena.books c.fill_row.new.arena) c.args.limiter.now c.fill_row.new.limiter (Err e) c.write_data.ensures.sizes c.write_data.ensures.room fits)
+
+pub returns-clause-fits : goal.returns-clause-fits
+returns-clause-fits g c =
+    let from : Segments = words_in (g.B.ReaderArena.segments c.args.source.now) in
+    let n = c.args.levels in
+    let q : Place = place_view c.args.first in
+    let seg = c.args.object.start.segment in
+    let there = each (tree_at n from) q (min c.args.pointers c.args.object.pointers) in
+    let path = from_each (visits n from) q (min c.args.pointers c.args.object.pointers) in
+    let fits = subst (λ (k : ℕ). FitsWhereRoom each_object_words (each (tree_at n from) q k) (from_each (visits n from) q k) (HasLongList from) seg (state_in g.A.ReaderArena.segments g.A.BuilderArena.room g.A.BuilderArena.books c.write_data.new.arena) (state_in g.A.ReaderArena.segments g.A.BuilderArena.room g.A.BuilderArena.books c.fill_row.new.arena) c.args.limiter.now (Ok tt) c.fill_row.new.limiter) c.min-shared.ensures c.in_ok-fill_row.ensures.fits in
+    fits_kept each_object_words there path (HasLongList from) seg (state_in g.A.ReaderArena.segments g.A.BuilderArena.room g.A.BuilderArena.books c.args.arena.now) (state_in g.A.ReaderArena.segments g.A.BuilderArena.room g.A.BuilderArena.books c.fill_row.new.arena) (state_in g.A.ReaderArena.segments g.A.BuilderArena.room g.A.BuilderArena.books c.clear_rest.new.arena) c.args.limiter.now c.fill_row.new.limiter c.clear_rest.ensures.sizes c.clear_rest.ensures.room
+    (fits_after each_object_words there path (HasLongList from) seg (state_in g.A.ReaderArena.segments g.A.BuilderArena.room g.A.BuilderArena.books c.args.arena.now) (state_in g.A.ReaderArena.segments g.A.BuilderArena.room g.A.BuilderArena.books c.write_data.new.arena) (state_in g.A.ReaderArena.segments g.A.BuilderArena.room g.A.BuilderArena.books c.fill_row.new.arena) c.args.limiter.now c.fill_row.new.limiter (Ok tt) c.write_data.ensures.sizes c.write_data.ensures.room fits)

@@ -1,10 +1,10 @@
 -- What each step makes, keeps and pays.
-use Rattle.std.proofs.Common.{◌≡◌, ℕ, ◌+◌, ◌-◌, ◌*◌, ◌%◌, ◌^◌, ◌<◌, ◌≤◌, true, [], ◌∷◌, replicate, Some, Ok, refl, ap, sym, ◌∙◌, subst, inl, inr, arith, rules}
+use Rattle.std.proofs.Common.{◌≡◌, ℕ, ◌+◌, ◌-◌, ◌*◌, ◌%◌, ◌^◌, ◌<◌, ◌≤◌, true, [], ◌∷◌, length, map, replicate, Some, Ok, Err, refl, ap, sym, ◌∙◌, subst, inl, inr, arith, rules}
 use Rattle.std.specs.Option.{is_some}
 use Rattle.std.proofs.lemmas.Result.{err_from_is_err_and}
 use Rattle.capnp_model.specs.Sections.{section_of, words_for}
 use Rattle.capnp_model.specs.Segments.{Segments, Place, after, words_at}
-use Rattle.capnp_model.specs.Trees.{Tree, plain_list}
+use Rattle.capnp_model.specs.Trees.{Tree, structure, plain_list, pointer_list, struct_list}
 use Rattle.capnp_model.specs.Traversal.{tree_at, each, each_element}
 use Rattle.capnp_model.specs.Coverage.{Grows, from_each, from_elements}
 use Rattle.capnp_model.specs.Encoding.{struct_pointer}
@@ -39,6 +39,13 @@ use Rattle.capnp_copy_from.proofs.Placed.{stopped_gives, copied_object, refused_
 use Rattle.capnp_copy.specs.Refusals.{IsSizeOrRefusal}
 use Rattle.capnp_copy_from.specs.Copies.{IsStoppedOr}
 use Rattle.capnp_copy_from.proofs.Told.{told_err, deep_told, row_told, elements_told}
+use Rattle.capnp_model.specs.Sizes.{object_words, each_object_words}
+use Rattle.capnp_copy.specs.States.{state_in}
+use Rattle.capnp_copy.proofs.lemmas.Taken.{linked_sizes}
+use Rattle.capnp_copy.proofs.lemmas.ZeroedWords.{written_sizes}
+use Rattle.capnp_copy_from.specs.Fits.{FitsWhereRoom, HasLongList, IsLong, words_behind, elements_behind, HasRoomIn, TakesIn}
+use Rattle.capnp_copy_from.proofs.Fitting.{fits_err, fits_after, fits_made, fits_kept, fits_long, leaf_at_fits, leaf_fits, leaf_behind, list_fits, object_own, plain_inside, object_fits, object_lacks, deep_fits, takes_stays}
+use Rattle.capnp_copy_from.proofs.FittingRows.{row_fits_begun, row_fits_next, row_fits_stopped, row_fits_ended, elements_fit_begun, elements_fit_next, elements_fit_stopped, elements_fit_ended, plain_elements_fit}
 use Rattle.capnp_copy_from.proofs.copy.+copy.Goals as goal
 
 pub copy_from-returns-in_err-object-clause-copy : goal.copy_from-returns-in_err-object-clause-copy
@@ -106,6 +113,8 @@ copy_object-returns-in_err-room g t c =
       copy = object_refused n from o (tree_in from (tree_at n from) o) (met_in (visits n from) o) s u (place_view c.args.slot) c.args.limiter.now c.args.limiter.now c.from_residual.result r.0 e r.1 r.2
           (no_room from s u o (met_in (visits n from) o) c.args.limiter.now e (ap words_in c.in_err-room.ensures.refused) c.in_err-room.ensures.kind);
       cause = told_err (met_in (visits n from) o) c.args.limiter.now c.args.limiter.now (IsSizeOrRefusal g.A.BuilderArena.refuses) c.from_residual.result r.0 e r.1 r.2 (inr c.in_err-room.ensures.cause);
+      fits = fits_err object_words (tree_in from (tree_at n from) o) (met_in (visits n from) o) (IsLong from o) c.args.slot.segment (state_in g.A.ReaderArena.segments g.A.BuilderArena.room g.A.BuilderArena.books c.args.arena.now) (state_in g.A.ReaderArena.segments g.A.BuilderArena.room g.A.BuilderArena.books c.room_for.new.arena) c.args.limiter.now c.args.limiter.now c.from_residual.result r.0 e r.1 r.2
+          (object_lacks object_words (tree_in from (tree_at n from) o) (met_in (visits n from) o) (HasLongList from) o c.args.slot.segment (state_in g.A.ReaderArena.segments g.A.BuilderArena.room g.A.BuilderArena.books c.args.arena.now) c.args.limiter.now c.args.limiter.now e (λ t is. let sum = object_own (tree_at n from) from o t (plain_inside from o c.requires.inside) is in omega (arith, sum)) c.in_err-room.ensures.kind c.in_err-room.ensures.full);
       books = c.in_err-room.ensures.books;
     }
 
@@ -166,6 +175,9 @@ copy_object-returns-in-Ok g t c =
     record {
       copy = copied_object n s m u y z p o room (tree_in from (tree_at n from) o) (met_in (visits n from) o) c.args.limiter.now c.fill.new.limiter c.requires.there kind c.in_ok-room.ensures.ok (new_fits from o kind c.requires.inside c.in_ok-room.ensures.spelled) filled c.clear.ensures.clears c.clear.ensures.sizes now;
       cause = tt;
+      fits = fits_kept object_words (tree_in from (tree_at n from) o) (met_in (visits n from) o) (IsLong from o) c.args.slot.segment (state_in g.A.ReaderArena.segments g.A.BuilderArena.room g.A.BuilderArena.books c.args.arena.now) (state_in g.A.ReaderArena.segments g.A.BuilderArena.room g.A.BuilderArena.books c.fill.new.arena) (state_in g.A.ReaderArena.segments g.A.BuilderArena.room g.A.BuilderArena.books c.link.new.arena) c.args.limiter.now c.fill.new.limiter (ap (λ (x : Segments). map length x) c.link.ensures.words ∙ linked_sizes y p room _ ∙ c.clear.ensures.sizes) (c.link.ensures.room ∙ c.clear.ensures.room)
+          (fits_long object_words (tree_in from (tree_at n from) o) (met_in (visits n from) o) (HasLongList from) (IsLong from o) c.args.slot.segment (state_in g.A.ReaderArena.segments g.A.BuilderArena.room g.A.BuilderArena.books c.args.arena.now) (state_in g.A.ReaderArena.segments g.A.BuilderArena.room g.A.BuilderArena.books c.fill.new.arena) c.args.limiter.now c.fill.new.limiter (Ok tt) (λ l. inr l)
+          (object_fits object_words words_behind (copied_words o) (tree_in from (tree_at n from) o) (met_in (visits n from) o) (HasLongList from) p room c.begin_of-start.result.segment (state_in g.A.ReaderArena.segments g.A.BuilderArena.room g.A.BuilderArena.books c.args.arena.now) (state_in g.A.ReaderArena.segments g.A.BuilderArena.room g.A.BuilderArena.books c.room_for.new.arena) (state_in g.A.ReaderArena.segments g.A.BuilderArena.room g.A.BuilderArena.books c.fill.new.arena) c.args.limiter.now c.fill.new.limiter (Ok tt) (λ t is. object_own (tree_at n from) from o t (plain_inside from o c.requires.inside) is) c.in_ok-room.ensures.ok c.in_ok-room.ensures.near c.in_ok-room.ensures.left (ap (λ (q : Place). q.segment) begins) c.in-Ok.ensures.fits));
       books = c.link.ensures.books ∙ c.clear.ensures.books ∙ c.in-Ok.ensures.books ∙ c.in_ok-room.ensures.books;
     }
 
@@ -186,6 +198,8 @@ copy_object-returns-in-Err g t c =
     record {
       copy = refused_object n from s m u y p o c.in_ok-room.room (met_in (visits n from) o) c.args.limiter.now c.fill.new.limiter e c.requires.there c.in_ok-room.ensures.ok left clears c.clear_object.ensures.sizes;
       cause = c.in-Err.ensures.cause;
+      fits = fits_long object_words (tree_in from (tree_at n from) o) (met_in (visits n from) o) (HasLongList from) (IsLong from o) c.args.slot.segment (state_in g.A.ReaderArena.segments g.A.BuilderArena.room g.A.BuilderArena.books c.args.arena.now) (state_in g.A.ReaderArena.segments g.A.BuilderArena.room g.A.BuilderArena.books c.clear_object.new.arena) c.args.limiter.now c.fill.new.limiter (Err e) (λ l. inr l)
+          (object_fits object_words words_behind (copied_words o) (tree_in from (tree_at n from) o) (met_in (visits n from) o) (HasLongList from) p c.in_ok-room.room c.begin_of-start.result.segment (state_in g.A.ReaderArena.segments g.A.BuilderArena.room g.A.BuilderArena.books c.args.arena.now) (state_in g.A.ReaderArena.segments g.A.BuilderArena.room g.A.BuilderArena.books c.room_for.new.arena) (state_in g.A.ReaderArena.segments g.A.BuilderArena.room g.A.BuilderArena.books c.clear_object.new.arena) c.args.limiter.now c.fill.new.limiter (Err e) (λ t is. object_own (tree_at n from) from o t (plain_inside from o c.requires.inside) is) c.in_ok-room.ensures.ok c.in_ok-room.ensures.near c.in_ok-room.ensures.left (ap (λ (q : Place). q.segment) begins) c.in-Err.ensures.fits);
       books = c.clear_object.ensures.books ∙ c.in-Err.ensures.books ∙ c.in_ok-room.ensures.books;
     }
 
@@ -291,8 +305,11 @@ pub fill_elements-loop-i-init : goal.fill_elements-loop-i-init
 fill_elements-loop-i-init g t c =
     let from : Segments = words_in (g.B.ReaderArena.segments c.args.source.now) in
     let s : Segments = words_in (g.A.ReaderArena.segments c.args.arena.now) in
-    let p : Place = place_view c.args.from in
-    (elements_begun c.args.levels from p (words_there from p c.args.words) c.args.data_words c.args.pointers c.args.count s (place_view c.args.start) c.args.limiter.now, refl)
+    let p : Place = place_view c.args.from in (
+      elements_begun c.args.levels from p (words_there from p c.args.words) c.args.data_words c.args.pointers c.args.count s (place_view c.args.start) c.args.limiter.now,
+      refl,
+      elements_fit_begun c.args.levels from p (words_there from p c.args.words) c.args.data_words c.args.pointers c.args.count (state_in g.A.ReaderArena.segments g.A.BuilderArena.room g.A.BuilderArena.books c.args.arena.now) c.args.start.segment,
+    )
 
 pub fill_elements-fill_struct-requires : goal.fill_elements-fill_struct-requires
 fill_elements-fill_struct-requires g t c =
@@ -349,6 +366,7 @@ fill_elements-loop-i-preserved g t c =
     let section = section_is from (after p (i * (d + k))) d there ∙ ap section_of (part_is from p c.args.words c.requires.inside.0 (i * (d + k)) d inside) in (
       elements_next n from p (words_there from p c.args.words) d k c.args.count s q c.args.limiter.now i u w c.loop-i.limiter c.fill_struct.new.limiter c.loop-i-test.true c.loop-i.invariant.0 (section_at from (after p (i * (d + k))) d) section c.in_ok-fill_struct.ensures.copy,
       c.in_ok-fill_struct.ensures.books ∙ c.loop-i.invariant.1,
+      elements_fit_next n from p (words_there from p c.args.words) d k c.args.count (state_in g.A.ReaderArena.segments g.A.BuilderArena.room g.A.BuilderArena.books c.args.arena.now) c.args.start.segment i (state_in g.A.ReaderArena.segments g.A.BuilderArena.room g.A.BuilderArena.books c.loop-i.arena) (state_in g.A.ReaderArena.segments g.A.BuilderArena.room g.A.BuilderArena.books c.fill_struct.new.arena) c.loop-i.limiter c.fill_struct.new.limiter c.loop-i-test.true c.loop-i.invariant.2 c.in_ok-fill_struct.ensures.fits,
     )
 
 pub fill_elements-returns-clause-copy : goal.fill_elements-returns-clause-copy
@@ -366,8 +384,11 @@ fill_elements-returns-clause-copy g t c =
 pub fill_row-loop-i-init : goal.fill_row-loop-i-init
 fill_row-loop-i-init g t c =
     let from : Segments = words_in (g.B.ReaderArena.segments c.args.source.now) in
-    let s : Segments = words_in (g.A.ReaderArena.segments c.args.arena.now) in
-    (row_begun c.args.levels from (place_view c.args.first) c.args.count s (place_view c.args.start) c.args.data_words c.args.limiter.now, refl)
+    let s : Segments = words_in (g.A.ReaderArena.segments c.args.arena.now) in (
+      row_begun c.args.levels from (place_view c.args.first) c.args.count s (place_view c.args.start) c.args.data_words c.args.limiter.now,
+      refl,
+      row_fits_begun c.args.levels from (place_view c.args.first) c.args.count (state_in g.A.ReaderArena.segments g.A.BuilderArena.room g.A.BuilderArena.books c.args.arena.now) c.args.start.segment,
+    )
 
 pub fill_row-returns-in_err-copy_from-clause-copy : goal.fill_row-returns-in_err-copy_from-clause-copy
 fill_row-returns-in_err-copy_from-clause-copy g t c =
@@ -393,6 +414,7 @@ fill_row-loop-i-preserved g t c =
     let w : Segments = words_in (g.A.ReaderArena.segments c.copy_from.new.arena) in (
       row_next c.args.levels from (place_view c.args.first) c.args.count s (place_view c.args.start) c.args.data_words c.args.limiter.now c.loop-i.i u w c.loop-i.limiter c.copy_from.new.limiter c.loop-i-test.true c.loop-i.invariant.0 c.in_ok-copy_from.ensures.copy,
       c.in_ok-copy_from.ensures.books ∙ c.loop-i.invariant.1,
+      row_fits_next c.args.levels from (place_view c.args.first) c.args.count (state_in g.A.ReaderArena.segments g.A.BuilderArena.room g.A.BuilderArena.books c.args.arena.now) c.args.start.segment c.loop-i.i (state_in g.A.ReaderArena.segments g.A.BuilderArena.room g.A.BuilderArena.books c.loop-i.arena) (state_in g.A.ReaderArena.segments g.A.BuilderArena.room g.A.BuilderArena.books c.copy_from.new.arena) c.loop-i.limiter c.copy_from.new.limiter c.loop-i-test.true c.loop-i.invariant.2 c.in_ok-copy_from.ensures.fits,
     )
 
 pub fill_row-returns-clause-copy : goal.fill_row-returns-clause-copy
@@ -490,3 +512,128 @@ fill_row-returns-in_err-copy_from-clause-cause g t c =
 
 pub fill_struct-returns-clause-cause : goal.fill_struct-returns-clause-cause
 fill_struct-returns-clause-cause g t c = c.fill_row.ensures.cause
+
+-- ---- what fits where there is room
+
+pub copy_from-returns-in_err-object-clause-fits : goal.copy_from-returns-in_err-object-clause-fits
+copy_from-returns-in_err-object-clause-fits g t c =
+    let from : Segments = words_in (g.B.ReaderArena.segments c.args.source.now) in
+    let p : Place = place_view c.args.place in
+    let n = c.args.levels in
+    let r = err_from_is_err_and c.from_residual.result c.from_residual.ensures.1 in
+    let e = c.in_err-object.field-0.0 in
+    fits_err object_words (tree_at n from p) (visits n from p) (HasLongList from) c.args.slot.segment (state_in g.A.ReaderArena.segments g.A.BuilderArena.room g.A.BuilderArena.books c.args.arena.now) (state_in g.A.ReaderArena.segments g.A.BuilderArena.room g.A.BuilderArena.books c.args.arena.now) c.args.limiter.now c.follow_within.new.limiter c.from_residual.result r.0 e r.1 r.2
+    (λ x is h. inl (stopped_at n from p c.args.limiter.now c.follow_within.new.limiter e c.in_err-object.ensures))
+
+pub copy_from-returns-then-levels-eq0-clause-fits : goal.copy_from-returns-then-levels-eq0-clause-fits
+copy_from-returns-then-levels-eq0-clause-fits g t c =
+    let from : Segments = words_in (g.B.ReaderArena.segments c.args.source.now) in
+    leaf_at_fits c.args.levels from (place_view c.args.place) c.args.slot.segment (state_in g.A.ReaderArena.segments g.A.BuilderArena.room g.A.BuilderArena.books c.args.arena.now) (state_in g.A.ReaderArena.segments g.A.BuilderArena.room g.A.BuilderArena.books c.put_leaf.new.arena) c.if-levels-eq0.true c.put_leaf.ensures.sizes c.put_leaf.ensures.room
+
+pub copy_from-returns-clause-fits : goal.copy_from-returns-clause-fits
+copy_from-returns-clause-fits g t c =
+    let from : Segments = words_in (g.B.ReaderArena.segments c.args.source.now) in
+    let some = c.if-levels-eq0.false in
+    deep_fits c.args.levels (c.args.levels - 1) from (place_view c.args.place) c.in_ok-object.object c.args.slot.segment c.args.limiter.now c.follow_within.new.limiter c.copy_object.new.limiter (state_in g.A.ReaderArena.segments g.A.BuilderArena.room g.A.BuilderArena.books c.args.arena.now) (state_in g.A.ReaderArena.segments g.A.BuilderArena.room g.A.BuilderArena.books c.copy_object.new.arena) c.copy_object.result (omega arith) c.in_ok-object.ensures.0 c.copy_object.ensures.fits
+
+pub copy_object-returns-in-Null-clause-fits : goal.copy_object-returns-in-Null-clause-fits
+copy_object-returns-in-Null-clause-fits g t c =
+    let from : Segments = words_in (g.B.ReaderArena.segments c.args.source.now) in
+    leaf_fits (tree_at c.args.levels from) from c.args.object c.args.slot.segment (state_in g.A.ReaderArena.segments g.A.BuilderArena.room g.A.BuilderArena.books c.args.arena.now) (state_in g.A.ReaderArena.segments g.A.BuilderArena.room g.A.BuilderArena.books c.put_leaf.new.arena) (leaf_is c.args.object c.in-Null.is) c.put_leaf.ensures.sizes c.put_leaf.ensures.room
+
+pub fill-returns-in-Null-clause-fits : goal.fill-returns-in-Null-clause-fits
+fill-returns-in-Null-clause-fits g t c =
+    let from : Segments = words_in (g.B.ReaderArena.segments c.args.source.now) in
+    leaf_behind (tree_at c.args.levels from) from c.args.object c.args.start.segment (state_in g.A.ReaderArena.segments g.A.BuilderArena.room g.A.BuilderArena.books c.args.arena.now) (leaf_is c.args.object c.in-Null.is)
+
+pub fill-returns-in-Struct-clause-fits : goal.fill-returns-in-Struct-clause-fits
+fill-returns-in-Struct-clause-fits g t c =
+    let from : Segments = words_in (g.B.ReaderArena.segments c.args.source.now) in
+    let n = c.args.levels in
+    let x = c.in-Struct in
+    let q : Place = after (place_view x.from) x.data_words in
+    subst (λ (o : Object). FitsWhereRoom words_behind (tree_in from (tree_at n from) o) (met_in (visits n from) o) (HasLongList from) c.args.start.segment (state_in g.A.ReaderArena.segments g.A.BuilderArena.room g.A.BuilderArena.books c.args.arena.now) (state_in g.A.ReaderArena.segments g.A.BuilderArena.room g.A.BuilderArena.books c.fill_struct.new.arena) c.args.limiter.now c.fill_struct.result c.fill_struct.new.limiter) (sym x.is)
+    (fits_made each_object_words words_behind (λ ts. structure x.data_words (section_at from (place_view x.from) x.data_words) ts) (each (tree_at n from) q x.pointers) (from_each (visits n from) q x.pointers) (HasLongList from) c.args.start.segment (state_in g.A.ReaderArena.segments g.A.BuilderArena.room g.A.BuilderArena.books c.args.arena.now) (state_in g.A.ReaderArena.segments g.A.BuilderArena.room g.A.BuilderArena.books c.fill_struct.new.arena) c.args.limiter.now c.fill_struct.new.limiter c.fill_struct.result (λ ts. refl) c.fill_struct.ensures.fits)
+
+pub fill-returns-in-List-clause-fits : goal.fill-returns-in-List-clause-fits
+fill-returns-in-List-clause-fits g t c =
+    let from : Segments = words_in (g.B.ReaderArena.segments c.args.source.now) in
+    let s : Segments = words_in (g.A.ReaderArena.segments c.args.arena.now) in
+    let n = c.args.levels in
+    let x = c.in-List in
+    subst (λ (o : Object). FitsWhereRoom words_behind (tree_in from (tree_at n from) o) (met_in (visits n from) o) (HasLongList from) c.args.start.segment (state_in g.A.ReaderArena.segments g.A.BuilderArena.room g.A.BuilderArena.books c.args.arena.now) (state_in g.A.ReaderArena.segments g.A.BuilderArena.room g.A.BuilderArena.books c.copy_words.new.arena) c.args.limiter.now (Ok tt) c.args.limiter.now) (sym x.is)
+    (list_fits from (tree_at n from) x.from x.size x.count c.args.start.segment (state_in g.A.ReaderArena.segments g.A.BuilderArena.room g.A.BuilderArena.books c.args.arena.now) (state_in g.A.ReaderArena.segments g.A.BuilderArena.room g.A.BuilderArena.books c.copy_words.new.arena) (ap (λ (v : Segments). map length v) c.copy_words.ensures.words ∙ written_sizes s (place_view c.args.start) _) c.copy_words.ensures.room)
+
+pub fill-returns-in-PointerList-clause-fits : goal.fill-returns-in-PointerList-clause-fits
+fill-returns-in-PointerList-clause-fits g t c =
+    let from : Segments = words_in (g.B.ReaderArena.segments c.args.source.now) in
+    let n = c.args.levels in
+    let x = c.in-PointerList in
+    let q : Place = place_view x.from in
+    subst (λ (o : Object). FitsWhereRoom words_behind (tree_in from (tree_at n from) o) (met_in (visits n from) o) (HasLongList from) c.args.start.segment (state_in g.A.ReaderArena.segments g.A.BuilderArena.room g.A.BuilderArena.books c.args.arena.now) (state_in g.A.ReaderArena.segments g.A.BuilderArena.room g.A.BuilderArena.books c.fill_row.new.arena) c.args.limiter.now c.fill_row.result c.fill_row.new.limiter) (sym x.is)
+    (fits_made each_object_words words_behind (λ ts. pointer_list ts) (each (tree_at n from) q x.count) (from_each (visits n from) q x.count) (HasLongList from) c.args.start.segment (state_in g.A.ReaderArena.segments g.A.BuilderArena.room g.A.BuilderArena.books c.args.arena.now) (state_in g.A.ReaderArena.segments g.A.BuilderArena.room g.A.BuilderArena.books c.fill_row.new.arena) c.args.limiter.now c.fill_row.new.limiter c.fill_row.result (λ ts. refl) c.fill_row.ensures.fits)
+
+pub fill-returns-in-StructList-clause-fits : goal.fill-returns-in-StructList-clause-fits
+fill-returns-in-StructList-clause-fits g t c =
+    let from : Segments = words_in (g.B.ReaderArena.segments c.args.source.now) in
+    let s : Segments = words_in (g.A.ReaderArena.segments c.args.arena.now) in
+    let n = c.args.levels in
+    let x = c.in-StructList in
+    let q : Place = place_view x.from in
+    subst (λ (o : Object). FitsWhereRoom words_behind (tree_in from (tree_at n from) o) (met_in (visits n from) o) (HasLongList from) c.args.start.segment (state_in g.A.ReaderArena.segments g.A.BuilderArena.room g.A.BuilderArena.books c.args.arena.now) (state_in g.A.ReaderArena.segments g.A.BuilderArena.room g.A.BuilderArena.books c.fill_elements.new.arena) c.args.limiter.now c.fill_elements.result c.fill_elements.new.limiter) (sym x.is)
+    (fits_made elements_behind words_behind (λ es. struct_list x.data_words x.pointers es) (each_element (tree_at n from) q (words_there from q x.words) x.data_words x.pointers x.count) (from_elements (visits n from) q x.data_words x.pointers x.count) (HasLongList from) c.args.start.segment (state_in g.A.ReaderArena.segments g.A.BuilderArena.room g.A.BuilderArena.books c.args.arena.now) (state_in g.A.ReaderArena.segments g.A.BuilderArena.room g.A.BuilderArena.books c.fill_elements.new.arena) c.args.limiter.now c.fill_elements.new.limiter c.fill_elements.result (λ es. refl)
+    (fits_after elements_behind (each_element (tree_at n from) q (words_there from q x.words) x.data_words x.pointers x.count) (from_elements (visits n from) q x.data_words x.pointers x.count) (HasLongList from) c.args.start.segment (state_in g.A.ReaderArena.segments g.A.BuilderArena.room g.A.BuilderArena.books c.args.arena.now) (state_in g.A.ReaderArena.segments g.A.BuilderArena.room g.A.BuilderArena.books c.write_word.new.self) (state_in g.A.ReaderArena.segments g.A.BuilderArena.room g.A.BuilderArena.books c.fill_elements.new.arena) c.args.limiter.now c.fill_elements.new.limiter c.fill_elements.result (ap (λ (v : Segments). map length v) c.write_word.ensures.words ∙ written_sizes s (place_view c.args.start) _) c.write_word.ensures.room c.fill_elements.ensures.fits))
+
+pub fill_elements-returns-then-pointers-eq0-clause-fits : goal.fill_elements-returns-then-pointers-eq0-clause-fits
+fill_elements-returns-then-pointers-eq0-clause-fits g t c =
+    let from : Segments = words_in (g.B.ReaderArena.segments c.args.source.now) in
+    let s : Segments = words_in (g.A.ReaderArena.segments c.args.arena.now) in
+    let p : Place = place_view c.args.from in
+    plain_elements_fit (tree_at c.args.levels from) p (words_there from p c.args.words) c.args.data_words c.args.pointers c.args.count c.args.start.segment (state_in g.A.ReaderArena.segments g.A.BuilderArena.room g.A.BuilderArena.books c.args.arena.now) (state_in g.A.ReaderArena.segments g.A.BuilderArena.room g.A.BuilderArena.books c.copy_words.new.arena) c.if-pointers-eq0.true (ap (λ (v : Segments). map length v) c.copy_words.ensures.words ∙ written_sizes s _ _) c.copy_words.ensures.room
+
+pub fill_elements-returns-in_err-fill_struct-clause-fits : goal.fill_elements-returns-in_err-fill_struct-clause-fits
+fill_elements-returns-in_err-fill_struct-clause-fits g t c =
+    let from : Segments = words_in (g.B.ReaderArena.segments c.args.source.now) in
+    let s : Segments = words_in (g.A.ReaderArena.segments c.args.arena.now) in
+    let p : Place = place_view c.args.from in
+    let n = c.args.levels in
+    let d = c.args.data_words in
+    let k = c.args.pointers in
+    let count = c.args.count in
+    let ws = words_there from p c.args.words in
+    let r = err_from_is_err_and c.from_residual.result c.from_residual.ensures.1 in
+    let e = c.in_err-fill_struct.field-0.0 in
+    fits_err elements_behind (each_element (tree_at n from) p ws d k count) (from_elements (visits n from) p d k count) (HasLongList from) c.args.start.segment (state_in g.A.ReaderArena.segments g.A.BuilderArena.room g.A.BuilderArena.books c.args.arena.now) (state_in g.A.ReaderArena.segments g.A.BuilderArena.room g.A.BuilderArena.books c.fill_struct.new.arena) c.args.limiter.now c.fill_struct.new.limiter c.from_residual.result r.0 e r.1 r.2
+    (elements_fit_stopped n from p ws d k count (state_in g.A.ReaderArena.segments g.A.BuilderArena.room g.A.BuilderArena.books c.args.arena.now) c.args.start.segment c.loop-i.i (place_view c.args.start) s (state_in g.A.ReaderArena.segments g.A.BuilderArena.room g.A.BuilderArena.books c.loop-i.arena) (state_in g.A.ReaderArena.segments g.A.BuilderArena.room g.A.BuilderArena.books c.fill_struct.new.arena) c.args.limiter.now c.loop-i.limiter c.fill_struct.new.limiter e c.loop-i-test.true c.loop-i.invariant.0 c.loop-i.invariant.2 c.in_err-fill_struct.ensures.fits)
+
+pub fill_elements-returns-clause-fits : goal.fill_elements-returns-clause-fits
+fill_elements-returns-clause-fits g t c =
+    let from : Segments = words_in (g.B.ReaderArena.segments c.args.source.now) in
+    let p : Place = place_view c.args.from in
+    let last = c.loop-i.auto.i-end in
+    elements_fit_ended c.args.levels from p (words_there from p c.args.words) c.args.data_words c.args.pointers c.args.count (state_in g.A.ReaderArena.segments g.A.BuilderArena.room g.A.BuilderArena.books c.args.arena.now) c.args.start.segment c.loop-i.i (state_in g.A.ReaderArena.segments g.A.BuilderArena.room g.A.BuilderArena.books c.loop-i.arena) c.args.limiter.now c.loop-i.limiter (omega (arith, c.loop-i-test.false)) c.loop-i.invariant.2
+
+pub fill_row-returns-in_err-copy_from-clause-fits : goal.fill_row-returns-in_err-copy_from-clause-fits
+fill_row-returns-in_err-copy_from-clause-fits g t c =
+    let from : Segments = words_in (g.B.ReaderArena.segments c.args.source.now) in
+    let s : Segments = words_in (g.A.ReaderArena.segments c.args.arena.now) in
+    let p : Place = place_view c.args.first in
+    let n = c.args.levels in
+    let count = c.args.count in
+    let r = err_from_is_err_and c.from_residual.result c.from_residual.ensures.1 in
+    let e = c.in_err-copy_from.field-0.0 in
+    fits_err each_object_words (each (tree_at n from) p count) (from_each (visits n from) p count) (HasLongList from) c.args.start.segment (state_in g.A.ReaderArena.segments g.A.BuilderArena.room g.A.BuilderArena.books c.args.arena.now) (state_in g.A.ReaderArena.segments g.A.BuilderArena.room g.A.BuilderArena.books c.copy_from.new.arena) c.args.limiter.now c.copy_from.new.limiter c.from_residual.result r.0 e r.1 r.2
+    (row_fits_stopped n from p count (state_in g.A.ReaderArena.segments g.A.BuilderArena.room g.A.BuilderArena.books c.args.arena.now) c.args.start.segment c.loop-i.i (place_view c.args.start) c.args.data_words s (state_in g.A.ReaderArena.segments g.A.BuilderArena.room g.A.BuilderArena.books c.loop-i.arena) (state_in g.A.ReaderArena.segments g.A.BuilderArena.room g.A.BuilderArena.books c.copy_from.new.arena) c.args.limiter.now c.loop-i.limiter c.copy_from.new.limiter e c.loop-i-test.true c.loop-i.invariant.0 c.loop-i.invariant.2 c.in_err-copy_from.ensures.fits)
+
+pub fill_row-returns-clause-fits : goal.fill_row-returns-clause-fits
+fill_row-returns-clause-fits g t c =
+    let from : Segments = words_in (g.B.ReaderArena.segments c.args.source.now) in
+    row_fits_ended c.args.levels from (place_view c.args.first) c.args.count (state_in g.A.ReaderArena.segments g.A.BuilderArena.room g.A.BuilderArena.books c.args.arena.now) c.args.start.segment c.loop-i.i (state_in g.A.ReaderArena.segments g.A.BuilderArena.room g.A.BuilderArena.books c.loop-i.arena) c.args.limiter.now c.loop-i.limiter (omega (arith, c.loop-i-test.false)) c.loop-i.invariant.2
+
+pub fill_struct-returns-clause-fits : goal.fill_struct-returns-clause-fits
+fill_struct-returns-clause-fits g t c =
+    let b : Segments = words_in (g.B.ReaderArena.segments c.args.source.now) in
+    let s : Segments = words_in (g.A.ReaderArena.segments c.args.arena.now) in
+    let n = c.args.levels in
+    let q : Place = after (place_view c.args.from) c.args.data_words in
+    fits_after each_object_words (each (tree_at n b) q c.args.pointers) (from_each (visits n b) q c.args.pointers) (HasLongList b) c.args.start.segment (state_in g.A.ReaderArena.segments g.A.BuilderArena.room g.A.BuilderArena.books c.args.arena.now) (state_in g.A.ReaderArena.segments g.A.BuilderArena.room g.A.BuilderArena.books c.copy_words.new.arena) (state_in g.A.ReaderArena.segments g.A.BuilderArena.room g.A.BuilderArena.books c.fill_row.new.arena) c.args.limiter.now c.fill_row.new.limiter c.fill_row.result (ap (λ (v : Segments). map length v) c.copy_words.ensures.words ∙ written_sizes s (place_view c.args.start) _) c.copy_words.ensures.room c.fill_row.ensures.fits

@@ -5,6 +5,8 @@ use Rattle.capnp_object.specs.Places.{place_view}
 use Rattle.capnp_object.specs.Inside.{words_there}
 use Rattle.capnp_copy_from.proofs.Rows.{RowSoFar}
 use Rattle.capnp_copy_from.proofs.Elements.{ElementsSoFar}
+use Rattle.capnp_copy_from.proofs.FittingRows.{RowFits, ElementsFit}
+use Rattle.capnp_copy.specs.States.{state_in}
 use Rattle.capnp_copy_from.proofs.copy.+copy.Given as goal
 
 abbrev pub decreases-copy_from : goal.decreases-copy_from
@@ -32,6 +34,7 @@ invariant-fill_row-loop-i g l =
     let s = words_in (g.A.ReaderArena.segments l.fn.arena) in
     let u = words_in (g.A.ReaderArena.segments l.arena) in
     RowSoFar l.levels from (place_view l.first) l.count l.i s u (place_view l.start) l.data_words l.fn.limiter l.limiter × (g.A.BuilderArena.books l.arena ≡ g.A.BuilderArena.books l.fn.arena)
+    × RowFits l.levels from (place_view l.first) l.count l.i (state_in g.A.ReaderArena.segments g.A.BuilderArena.room g.A.BuilderArena.books l.fn.arena) (state_in g.A.ReaderArena.segments g.A.BuilderArena.room g.A.BuilderArena.books l.arena) l.start.segment
 
 abbrev pub invariant-fill_elements-loop-i : goal.invariant-fill_elements-loop-i
 invariant-fill_elements-loop-i g l =
@@ -40,3 +43,4 @@ invariant-fill_elements-loop-i g l =
     let u = words_in (g.A.ReaderArena.segments l.arena) in
     let p = place_view l.from in
     ElementsSoFar l.levels from p (words_there from p l.words) l.data_words l.pointers l.count l.i s u (place_view l.start) l.fn.limiter l.limiter × (g.A.BuilderArena.books l.arena ≡ g.A.BuilderArena.books l.fn.arena)
+    × ElementsFit l.levels from p (words_there from p l.words) l.data_words l.pointers l.count l.i (state_in g.A.ReaderArena.segments g.A.BuilderArena.room g.A.BuilderArena.books l.fn.arena) (state_in g.A.ReaderArena.segments g.A.BuilderArena.room g.A.BuilderArena.books l.arena) l.start.segment

@@ -42,5 +42,6 @@ returns-in_default g c =
     record {
       becomes = leaf_null s u p c.args.object c.requires.leaf c.in_default.not-Capability (null_now s u p c.clear.ensures.clears);
       sizes = c.clear.ensures.sizes;
+      room = c.clear.ensures.room;
       books = c.clear.ensures.books;
     }

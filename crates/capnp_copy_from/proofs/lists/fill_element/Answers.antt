@@ -1,4 +1,4 @@
-use Rattle.std.proofs.Common.{◌≡◌, ℕ, List, ◌+◌, ◌/◌, length, ap, sym, ◌∙◌, subst, arith}
+use Rattle.std.proofs.Common.{◌≡◌, ℕ, List, ◌+◌, ◌/◌, length, map, ap, sym, ◌∙◌, subst, arith}
 use Rattle.capnp_model.specs.Bytes.{words_in_bytes}
 use Rattle.capnp_model.specs.Sections.{number_of, section_of}
 use Rattle.capnp_model.specs.Segments.{Segments, Place}
@@ -17,6 +17,11 @@ use Rattle.capnp_copy.specs.Allocations.{total_words}
 use Rattle.capnp_copy_from.proofs.Listed.{all_section}
 use Rattle.capnp_copy_from.proofs.Made.{words_copied, section_copied}
 use Rattle.capnp_copy_from.proofs.Taking.{written_total}
+use Rattle.capnp_model.specs.Sizes.{each_object_words}
+use Rattle.capnp_copy.specs.States.{state_in}
+use Rattle.capnp_copy.proofs.lemmas.ZeroedWords.{written_sizes}
+use Rattle.capnp_copy_from.specs.Fits.{HasLongList}
+use Rattle.capnp_copy_from.proofs.Fitting.{fits_after}
 use Rattle.capnp_copy_from.proofs.lists.fill_element.Goals as goal
 
 pub fill_row-requires-clause-there : goal.fill_row-requires-clause-there
@@ -47,3 +52,11 @@ returns-clause-copy g c =
 
 pub returns-clause-cause : goal.returns-clause-cause
 returns-clause-cause g c = c.fill_row.ensures.cause
+
+pub returns-clause-fits : goal.returns-clause-fits
+returns-clause-fits g c =
+    let b : Segments = words_in (g.B.ReaderArena.segments c.args.source.now) in
+    let s : Segments = words_in (g.A.ReaderArena.segments c.args.arena.now) in
+    let n = c.args.levels in
+    let q : Place = place_view c.args.first in
+    fits_after each_object_words (each (tree_at n b) q c.args.pointers) (from_each (visits n b) q c.args.pointers) (HasLongList b) c.args.start.segment (state_in g.A.ReaderArena.segments g.A.BuilderArena.room g.A.BuilderArena.books c.args.arena.now) (state_in g.A.ReaderArena.segments g.A.BuilderArena.room g.A.BuilderArena.books c.write_words.new.self) (state_in g.A.ReaderArena.segments g.A.BuilderArena.room g.A.BuilderArena.books c.fill_row.new.arena) c.args.limiter.now c.fill_row.new.limiter c.fill_row.result (ap (λ (v : Segments). map length v) c.write_words.ensures.words ∙ written_sizes s (place_view c.args.start) _) c.write_words.ensures.room c.fill_row.ensures.fits

@@ -1,10 +1,10 @@
 use Rattle.std.specs.Bool.{⊤}
-use Rattle.std.proofs.Common.{◌≡◌, ℕ, ◌+◌, ◌*◌, ◌/◌, ◌%◌, ◌^◌, ◌<◌, ◌≤◌, List, [], ◌∷◌, length, take, replicate, Some, Result, ap, sym, ◌∙◌, subst, arith, rules, length-take-le}
+use Rattle.std.proofs.Common.{◌≡◌, ℕ, ◌+◌, ◌*◌, ◌/◌, ◌%◌, ◌^◌, ◌<◌, ◌≤◌, List, [], ◌∷◌, length, map, take, refl, replicate, Some, Result, ap, sym, ◌∙◌, subst, arith, rules, length-take-le}
 use Rattle.std.specs.Option.{is_some}
 use Rattle.capnp_model.specs.Sections.{number_of, words_for, words_of}
 use Rattle.capnp_model.specs.Segments.{Segments, Place, words_at}
 use Rattle.capnp_model.specs.Pointers.{a_list}
-use Rattle.capnp_model.specs.Trees.{Tree, plain_list}
+use Rattle.capnp_model.specs.Trees.{Tree, plain_list, pointer_list, struct_list}
 use Rattle.capnp_model.specs.Traversal.{tree_at, each, each_element}
 use Rattle.capnp_model.specs.Coverage.{Grows, from_each, from_elements}
 use Rattle.capnp_model.specs.Encoding.{struct_pointer}
@@ -28,6 +28,11 @@ use Rattle.capnp_copy_from.proofs.Listed.{plain_elements, plain_copied, front_el
 use Rattle.capnp_copy_from.proofs.Made.{pointers_fill, structs_fill}
 use Rattle.capnp_copy.specs.Refusals.{IsSizeOrRefusal}
 use Rattle.capnp_copy_from.specs.Copies.{IsStoppedOr}
+use Rattle.capnp_model.specs.Sizes.{each_object_words}
+use Rattle.capnp_copy.specs.States.{ArenaState, state_in}
+use Rattle.capnp_copy.proofs.lemmas.ZeroedWords.{written_sizes}
+use Rattle.capnp_copy_from.specs.Fits.{FitsWhereRoom, HasLongList, words_behind, elements_behind}
+use Rattle.capnp_copy_from.proofs.Fitting.{fits_after, fits_made, plain_fits}
 use Rattle.capnp_copy_from.proofs.lists.fill_list.Goals as goal
 
 -- what comes of a list with elements of a size
@@ -111,6 +116,7 @@ returns-in_default g c =
       copy = plain_copied n from x (listed_section x c.args.bytes.now) s u r c.args.limiter.now y
           (λ j. subst (λ (a : ℕ). Fills j s u r (words_for (data_bits (size_number x.size) * x.count)) (a_list r (size_number x.size) x.count) (plain_list (size_number x.size) x.count a)) section (c.write_elements.ensures.fills j)) c.write_elements.ensures.sizes;
       cause = tt;
+      fits = plain_fits (tree_at n from) x (listed_section x c.args.bytes.now) x.size c.args.start.segment (state_in g.A.ReaderArena.segments g.A.BuilderArena.room g.A.BuilderArena.books c.args.arena.now) (state_in g.A.ReaderArena.segments g.A.BuilderArena.room g.A.BuilderArena.books c.write_elements.new.arena) y c.write_elements.ensures.sizes c.write_elements.ensures.room;
       books = c.write_elements.ensures.books;
     }
 
@@ -123,3 +129,33 @@ pub returns-in-InlineComposite-clause-cause : goal.returns-in-InlineComposite-cl
 returns-in-InlineComposite-clause-cause g c =
     let from : Segments = words_in (g.B.ReaderArena.segments c.args.source.now) in
     subst (λ (z : ElementSize). IsStoppedOr (met_in (visits c.args.levels from) (object_of_size z c.args.list)) c.args.limiter.now c.fill_structs.new.limiter (IsSizeOrRefusal g.A.BuilderArena.refuses) c.fill_structs.result) (sym c.in-InlineComposite.is) c.fill_structs.ensures.cause
+
+-- the same of what it takes
+abbrev FitsBySize : ℕ → Segments → ListSource → List ℕ → ℕ → ArenaState → ArenaState → ReadLimiter → Result ⊤ Error → ReadLimiter → ElementSize → Type 0
+FitsBySize levels from x bytes i s u old result new z =
+    FitsWhereRoom words_behind (tree_of_size z (tree_at levels from) x (number_of 8 bytes % 2 ^ (step_bits (size_number z) x.data_words x.pointers * x.count))) (met_in (visits levels from) (object_of_size z x)) (HasLongList from) i s u old result new
+
+pub returns-in-Pointer-clause-fits : goal.returns-in-Pointer-clause-fits
+returns-in-Pointer-clause-fits g c =
+    let from : Segments = words_in (g.B.ReaderArena.segments c.args.source.now) in
+    let n = c.args.levels in
+    let x = c.args.list in
+    let q : Place = place_view x.start in
+    subst (FitsBySize n from x c.args.bytes.now c.args.start.segment (state_in g.A.ReaderArena.segments g.A.BuilderArena.room g.A.BuilderArena.books c.args.arena.now) (state_in g.A.ReaderArena.segments g.A.BuilderArena.room g.A.BuilderArena.books c.fill_row.new.arena) c.args.limiter.now c.fill_row.result c.fill_row.new.limiter) (sym c.in-Pointer.is)
+    (fits_made each_object_words words_behind (λ ts. pointer_list ts) (each (tree_at n from) q x.count) (from_each (visits n from) q x.count) (HasLongList from) c.args.start.segment (state_in g.A.ReaderArena.segments g.A.BuilderArena.room g.A.BuilderArena.books c.args.arena.now) (state_in g.A.ReaderArena.segments g.A.BuilderArena.room g.A.BuilderArena.books c.fill_row.new.arena) c.args.limiter.now c.fill_row.new.limiter c.fill_row.result (λ ts. refl) c.fill_row.ensures.fits)
+
+pub returns-in-InlineComposite-clause-fits : goal.returns-in-InlineComposite-clause-fits
+returns-in-InlineComposite-clause-fits g c =
+    let from : Segments = words_in (g.B.ReaderArena.segments c.args.source.now) in
+    let s : Segments = words_in (g.A.ReaderArena.segments c.args.arena.now) in
+    let n = c.args.levels in
+    let x = c.args.list in
+    let q : Place = place_view x.start in
+    let d = x.data_words in
+    let k = x.pointers in
+    let section = front_section_of x.count x.data_words x.pointers c.args.bytes.now in
+    let there = each_element (tree_at n from) q (words_of (x.count * (x.data_words + x.pointers)) (number_of 8 c.args.bytes.now % 2 ^ (64 * (x.data_words + x.pointers) * x.count))) d k x.count in
+    let fits = subst (λ (a : ℕ). FitsWhereRoom elements_behind (each_element (tree_at n from) q (words_of (x.count * (x.data_words + x.pointers)) a) d k x.count) (from_elements (visits n from) q d k x.count) (HasLongList from) c.args.start.segment (state_in g.A.ReaderArena.segments g.A.BuilderArena.room g.A.BuilderArena.books c.write_word.new.self) (state_in g.A.ReaderArena.segments g.A.BuilderArena.room g.A.BuilderArena.books c.fill_structs.new.arena) c.args.limiter.now c.fill_structs.result c.fill_structs.new.limiter) section c.fill_structs.ensures.fits in
+    subst (FitsBySize n from x c.args.bytes.now c.args.start.segment (state_in g.A.ReaderArena.segments g.A.BuilderArena.room g.A.BuilderArena.books c.args.arena.now) (state_in g.A.ReaderArena.segments g.A.BuilderArena.room g.A.BuilderArena.books c.fill_structs.new.arena) c.args.limiter.now c.fill_structs.result c.fill_structs.new.limiter) (sym c.in-InlineComposite.is)
+    (fits_made elements_behind words_behind (λ es. struct_list d k es) there (from_elements (visits n from) q d k x.count) (HasLongList from) c.args.start.segment (state_in g.A.ReaderArena.segments g.A.BuilderArena.room g.A.BuilderArena.books c.args.arena.now) (state_in g.A.ReaderArena.segments g.A.BuilderArena.room g.A.BuilderArena.books c.fill_structs.new.arena) c.args.limiter.now c.fill_structs.new.limiter c.fill_structs.result (λ es. refl)
+    (fits_after elements_behind there (from_elements (visits n from) q d k x.count) (HasLongList from) c.args.start.segment (state_in g.A.ReaderArena.segments g.A.BuilderArena.room g.A.BuilderArena.books c.args.arena.now) (state_in g.A.ReaderArena.segments g.A.BuilderArena.room g.A.BuilderArena.books c.write_word.new.self) (state_in g.A.ReaderArena.segments g.A.BuilderArena.room g.A.BuilderArena.books c.fill_structs.new.arena) c.args.limiter.now c.fill_structs.new.limiter c.fill_structs.result (ap (λ (v : Segments). map length v) c.write_word.ensures.words ∙ written_sizes s (place_view c.args.start) _) c.write_word.ensures.room fits))

@@ -1,4 +1,4 @@
-use Rattle.std.proofs.Common.{◌≡◌, ℕ, ◌+◌, ◌-◌, ◌*◌, true, List, length, take, drop, refl, ap, sym, ◌∙◌, subst, arith}
+use Rattle.std.proofs.Common.{◌≡◌, ℕ, ◌+◌, ◌-◌, ◌*◌, ◌≤◌, true, List, length, map, take, drop, refl, ap, sym, ◌∙◌, subst, arith}
 use Rattle.std.specs.Option.{is_some}
 use Rattle.std.proofs.lemmas.Result.{err_from_is_err_and}
 use Rattle.capnp_model.specs.Sections.{number_of, section_of, words_of}
@@ -19,6 +19,11 @@ use Rattle.capnp_copy_from.proofs.Parts.{part_there}
 use Rattle.capnp_copy_from.proofs.Refusals.{refused_is}
 use Rattle.capnp_copy.specs.Refusals.{IsSizeOrRefusal}
 use Rattle.capnp_copy_from.proofs.Told.{told_err, elements_told}
+use Rattle.capnp_copy.specs.States.{state_in}
+use Rattle.capnp_copy.proofs.lemmas.ZeroedWords.{written_sizes}
+use Rattle.capnp_copy_from.specs.Fits.{HasLongList, elements_behind}
+use Rattle.capnp_copy_from.proofs.Fitting.{fits_err}
+use Rattle.capnp_copy_from.proofs.FittingRows.{elements_fit_begun, elements_fit_next, elements_fit_stopped, elements_fit_ended, plain_elements_fit}
 use Rattle.capnp_copy_from.proofs.lists.fill_structs.Goals as goal
 
 pub returns-then-list-eq0-clause-copy : goal.returns-then-list-eq0-clause-copy
@@ -41,8 +46,11 @@ returns-then-list-eq0-clause-copy g c =
 pub loop-i-init : goal.loop-i-init
 loop-i-init g c =
     let from : Segments = words_in (g.B.ReaderArena.segments c.args.source.now) in
-    let s : Segments = words_in (g.A.ReaderArena.segments c.args.arena.now) in
-    (elements_begun c.args.levels from (place_view c.args.list.start) (words_of (c.args.list.count * (c.args.list.data_words + c.args.list.pointers)) (number_of 8 c.args.bytes.now)) c.args.list.data_words c.args.list.pointers c.args.list.count s (place_view c.args.start) c.args.limiter.now, refl)
+    let s : Segments = words_in (g.A.ReaderArena.segments c.args.arena.now) in (
+      elements_begun c.args.levels from (place_view c.args.list.start) (words_of (c.args.list.count * (c.args.list.data_words + c.args.list.pointers)) (number_of 8 c.args.bytes.now)) c.args.list.data_words c.args.list.pointers c.args.list.count s (place_view c.args.start) c.args.limiter.now,
+      refl,
+      elements_fit_begun c.args.levels from (place_view c.args.list.start) (words_of (c.args.list.count * (c.args.list.data_words + c.args.list.pointers)) (number_of 8 c.args.bytes.now)) c.args.list.data_words c.args.list.pointers c.args.list.count (state_in g.A.ReaderArena.segments g.A.BuilderArena.room g.A.BuilderArena.books c.args.arena.now) c.args.start.segment,
+    )
 
 pub fill_element-requires-clause-there : goal.fill_element-requires-clause-there
 fill_element-requires-clause-there g c =
@@ -96,6 +104,7 @@ loop-i-preserved g c =
     ap (λ (j : ℕ). number_of 8 (take j (drop (8 * (i * (d + k))) c.args.bytes.now))) size ∙ part ∙ ap (λ (xs : List ℕ). section_of (take d (drop (i * (d + k)) xs))) (sym read) in (
       elements_next n from p ws d k c.args.list.count s q c.args.limiter.now i u w c.loop-i.limiter c.fill_element.new.limiter c.loop-i-test.true c.loop-i.invariant.0 _ section c.in_ok-fill_element.ensures.copy,
       c.in_ok-fill_element.ensures.books ∙ c.loop-i.invariant.1,
+      elements_fit_next n from p ws d k c.args.list.count (state_in g.A.ReaderArena.segments g.A.BuilderArena.room g.A.BuilderArena.books c.args.arena.now) c.args.start.segment i (state_in g.A.ReaderArena.segments g.A.BuilderArena.room g.A.BuilderArena.books c.loop-i.arena) (state_in g.A.ReaderArena.segments g.A.BuilderArena.room g.A.BuilderArena.books c.fill_element.new.arena) c.loop-i.limiter c.fill_element.new.limiter c.loop-i-test.true c.loop-i.invariant.2 c.in_ok-fill_element.ensures.fits,
     )
 
 pub returns-clause-copy : goal.returns-clause-copy
@@ -122,3 +131,29 @@ returns-in_err-fill_element-clause-cause g c =
     let e = c.in_err-fill_element.field-0.0 in
     told_err (from_elements (visits n from) p d k count) c.args.limiter.now c.fill_element.new.limiter (IsSizeOrRefusal g.A.BuilderArena.refuses) c.from_residual.result r.0 e r.1 r.2
     (elements_told n from p ws d k count s (place_view c.args.start) c.args.limiter.now c.loop-i.i u c.loop-i.limiter c.fill_element.new.limiter (IsSizeOrRefusal g.A.BuilderArena.refuses) e c.loop-i-test.true c.loop-i.invariant.0 c.in_err-fill_element.ensures.cause)
+
+pub returns-then-list-eq0-clause-fits : goal.returns-then-list-eq0-clause-fits
+returns-then-list-eq0-clause-fits g c =
+    let from : Segments = words_in (g.B.ReaderArena.segments c.args.source.now) in
+    let s : Segments = words_in (g.A.ReaderArena.segments c.args.arena.now) in
+    plain_elements_fit (tree_at c.args.levels from) (place_view c.args.list.start) (words_of (c.args.list.count * (c.args.list.data_words + c.args.list.pointers)) (number_of 8 c.args.bytes.now)) c.args.list.data_words c.args.list.pointers c.args.list.count c.args.start.segment (state_in g.A.ReaderArena.segments g.A.BuilderArena.room g.A.BuilderArena.books c.args.arena.now) (state_in g.A.ReaderArena.segments g.A.BuilderArena.room g.A.BuilderArena.books c.write_words.new.self) c.if-list-eq0.true (ap (λ (v : Segments). map length v) c.write_words.ensures.words ∙ written_sizes s _ _) c.write_words.ensures.room
+
+pub returns-in_err-fill_element-clause-fits : goal.returns-in_err-fill_element-clause-fits
+returns-in_err-fill_element-clause-fits g c =
+    let from : Segments = words_in (g.B.ReaderArena.segments c.args.source.now) in
+    let s : Segments = words_in (g.A.ReaderArena.segments c.args.arena.now) in
+    let p : Place = place_view c.args.list.start in
+    let n = c.args.levels in
+    let d = c.args.list.data_words in
+    let k = c.args.list.pointers in
+    let count = c.args.list.count in
+    let ws : List ℕ = words_of (c.args.list.count * (c.args.list.data_words + c.args.list.pointers)) (number_of 8 c.args.bytes.now) in
+    let r = err_from_is_err_and c.from_residual.result c.from_residual.ensures.1 in
+    let e = c.in_err-fill_element.field-0.0 in
+    fits_err elements_behind (each_element (tree_at n from) p ws d k count) (from_elements (visits n from) p d k count) (HasLongList from) c.args.start.segment (state_in g.A.ReaderArena.segments g.A.BuilderArena.room g.A.BuilderArena.books c.args.arena.now) (state_in g.A.ReaderArena.segments g.A.BuilderArena.room g.A.BuilderArena.books c.fill_element.new.arena) c.args.limiter.now c.fill_element.new.limiter c.from_residual.result r.0 e r.1 r.2
+    (elements_fit_stopped n from p ws d k count (state_in g.A.ReaderArena.segments g.A.BuilderArena.room g.A.BuilderArena.books c.args.arena.now) c.args.start.segment c.loop-i.i (place_view c.args.start) s (state_in g.A.ReaderArena.segments g.A.BuilderArena.room g.A.BuilderArena.books c.loop-i.arena) (state_in g.A.ReaderArena.segments g.A.BuilderArena.room g.A.BuilderArena.books c.fill_element.new.arena) c.args.limiter.now c.loop-i.limiter c.fill_element.new.limiter e c.loop-i-test.true c.loop-i.invariant.0 c.loop-i.invariant.2 c.in_err-fill_element.ensures.fits)
+
+pub returns-clause-fits : goal.returns-clause-fits
+returns-clause-fits g c =
+    let from : Segments = words_in (g.B.ReaderArena.segments c.args.source.now) in
+    elements_fit_ended c.args.levels from (place_view c.args.list.start) (words_of (c.args.list.count * (c.args.list.data_words + c.args.list.pointers)) (number_of 8 c.args.bytes.now)) c.args.list.data_words c.args.list.pointers c.args.list.count (state_in g.A.ReaderArena.segments g.A.BuilderArena.room g.A.BuilderArena.books c.args.arena.now) c.args.start.segment c.loop-i.i (state_in g.A.ReaderArena.segments g.A.BuilderArena.room g.A.BuilderArena.books c.loop-i.arena) c.args.limiter.now c.loop-i.limiter (omega (arith, c.loop-i-test.false)) c.loop-i.invariant.2

@@ -1,5 +1,5 @@
 -- The list is made of zero words, and linked or given up.
-use Rattle.std.proofs.Common.{inr, ◌≡◌, ℕ, ◌≤◌, false, replicate, Some, ap, sym, ◌∙◌, subst, arith}
+use Rattle.std.proofs.Common.{inr, ◌≡◌, ℕ, ◌+◌, ◌≤◌, false, length, map, replicate, Some, Ok, Err, ap, sym, ◌∙◌, subst, arith}
 use Rattle.std.proofs.lemmas.Result.{err_from_is_err_and}
 use Rattle.capnp_model.specs.Segments.{Segments, Place, words_at}
 use Rattle.capnp_model.specs.Trees.{Tree}
@@ -20,6 +20,12 @@ use Rattle.capnp_copy_from.proofs.Allocated.{room_new}
 use Rattle.capnp_copy_from.proofs.Placed.{copied_object, refused_object, no_room, object_refused, new_of, listed_fits, listed_no_leaf}
 use Rattle.capnp_copy.specs.Refusals.{IsSizeOrRefusal}
 use Rattle.capnp_copy_from.proofs.Told.{told_err}
+use Rattle.capnp_model.specs.Sizes.{object_words}
+use Rattle.capnp_copy.specs.States.{state_in}
+use Rattle.capnp_copy.proofs.lemmas.Taken.{linked_sizes}
+use Rattle.capnp_copy_from.specs.Fits.{FitsWhereRoom, HasLongList, IsLong, words_behind}
+use Rattle.capnp_copy_from.specs.Lists.{listed_section}
+use Rattle.capnp_copy_from.proofs.Fitting.{fits_err, fits_kept, fits_long, object_fits, object_lacks, listed_own}
 use Rattle.capnp_copy_from.proofs.lists.set_list.Goals as goal
 
 pub returns-in_err-room-clause-copy : goal.returns-in_err-room-clause-copy
@@ -134,3 +140,46 @@ returns-in_err-room-clause-cause g c =
 
 pub returns-in-Err-clause-cause : goal.returns-in-Err-clause-cause
 returns-in-Err-clause-cause g c = c.in-Err.ensures.cause
+
+pub returns-in_err-room-clause-fits : goal.returns-in_err-room-clause-fits
+returns-in_err-room-clause-fits g c =
+    let from : Segments = words_in (g.B.ReaderArena.segments c.args.source.now) in
+    let n = c.args.levels in
+    let o : Object = c.object_of-object.result in
+    let is : c.object_of-object.result ≡ listed_object c.args.list = c.object_of-object.ensures in
+    let there = listed_tree (tree_at n from) c.args.list c.args.bytes.now in
+    let own : (t : Tree) → listed_tree (tree_at n from) c.args.list c.args.bytes.now ≡ Some t → object_words t ≡ copied_words c.object_of-object.result + words_behind t = λ t e. listed_own (tree_at n from) c.args.list (listed_section c.args.list c.args.bytes.now) c.args.list.size t e ∙ ap (λ (y : Object). copied_words y + words_behind t) (sym is) in
+    let r = err_from_is_err_and c.from_residual.result c.from_residual.ensures.1 in
+    let e = c.in_err-room.field-0.0 in
+    subst (λ (y : Object). FitsWhereRoom object_words (listed_tree (tree_at n from) c.args.list c.args.bytes.now) (met_in (visits n from) y) (IsLong from y) c.args.slot.segment (state_in g.A.ReaderArena.segments g.A.BuilderArena.room g.A.BuilderArena.books c.args.arena.now) (state_in g.A.ReaderArena.segments g.A.BuilderArena.room g.A.BuilderArena.books c.room_for.new.arena) c.args.limiter.now c.from_residual.result c.args.limiter.now) is
+    (fits_err object_words there (met_in (visits n from) o) (IsLong from o) c.args.slot.segment (state_in g.A.ReaderArena.segments g.A.BuilderArena.room g.A.BuilderArena.books c.args.arena.now) (state_in g.A.ReaderArena.segments g.A.BuilderArena.room g.A.BuilderArena.books c.room_for.new.arena) c.args.limiter.now c.args.limiter.now c.from_residual.result r.0 e r.1 r.2
+    (object_lacks object_words there (met_in (visits n from) o) (HasLongList from) o c.args.slot.segment (state_in g.A.ReaderArena.segments g.A.BuilderArena.room g.A.BuilderArena.books c.args.arena.now) c.args.limiter.now c.args.limiter.now e (λ t e. let sum = own t e in omega (arith, sum)) c.in_err-room.ensures.kind c.in_err-room.ensures.full))
+
+pub returns-in-Ok-clause-fits : goal.returns-in-Ok-clause-fits
+returns-in-Ok-clause-fits g c =
+    let from : Segments = words_in (g.B.ReaderArena.segments c.args.source.now) in
+    let n = c.args.levels in
+    let o : Object = c.object_of-object.result in
+    let is : c.object_of-object.result ≡ listed_object c.args.list = c.object_of-object.ensures in
+    let there = listed_tree (tree_at n from) c.args.list c.args.bytes.now in
+    let own : (t : Tree) → listed_tree (tree_at n from) c.args.list c.args.bytes.now ≡ Some t → object_words t ≡ copied_words c.object_of-object.result + words_behind t = λ t e. listed_own (tree_at n from) c.args.list (listed_section c.args.list c.args.bytes.now) c.args.list.size t e ∙ ap (λ (y : Object). copied_words y + words_behind t) (sym is) in
+    let y : Segments = words_in (g.A.ReaderArena.segments c.clear.new.arena) in
+    fits_kept object_words there (met_in (visits n from) (listed_object c.args.list)) (IsLong from (listed_object c.args.list)) c.args.slot.segment (state_in g.A.ReaderArena.segments g.A.BuilderArena.room g.A.BuilderArena.books c.args.arena.now) (state_in g.A.ReaderArena.segments g.A.BuilderArena.room g.A.BuilderArena.books c.fill_list.new.arena) (state_in g.A.ReaderArena.segments g.A.BuilderArena.room g.A.BuilderArena.books c.link.new.arena) c.args.limiter.now c.fill_list.new.limiter (ap (λ (v : Segments). map length v) c.link.ensures.words ∙ linked_sizes y (place_view c.args.slot) c.in_ok-room.room _ ∙ c.clear.ensures.sizes) (c.link.ensures.room ∙ c.clear.ensures.room)
+    (subst (λ (y : Object). FitsWhereRoom object_words (listed_tree (tree_at n from) c.args.list c.args.bytes.now) (met_in (visits n from) y) (IsLong from y) c.args.slot.segment (state_in g.A.ReaderArena.segments g.A.BuilderArena.room g.A.BuilderArena.books c.args.arena.now) (state_in g.A.ReaderArena.segments g.A.BuilderArena.room g.A.BuilderArena.books c.fill_list.new.arena) c.args.limiter.now (Ok tt) c.fill_list.new.limiter) is
+    (fits_long object_words there (met_in (visits n from) o) (HasLongList from) (IsLong from o) c.args.slot.segment (state_in g.A.ReaderArena.segments g.A.BuilderArena.room g.A.BuilderArena.books c.args.arena.now) (state_in g.A.ReaderArena.segments g.A.BuilderArena.room g.A.BuilderArena.books c.fill_list.new.arena) c.args.limiter.now c.fill_list.new.limiter (Ok tt) (λ l. inr l)
+    (object_fits object_words words_behind (copied_words o) there (met_in (visits n from) o) (HasLongList from) (place_view c.args.slot) c.in_ok-room.room c.begin_of-start.result.segment (state_in g.A.ReaderArena.segments g.A.BuilderArena.room g.A.BuilderArena.books c.args.arena.now) (state_in g.A.ReaderArena.segments g.A.BuilderArena.room g.A.BuilderArena.books c.room_for.new.arena) (state_in g.A.ReaderArena.segments g.A.BuilderArena.room g.A.BuilderArena.books c.fill_list.new.arena) c.args.limiter.now c.fill_list.new.limiter (Ok tt) own c.in_ok-room.ensures.ok c.in_ok-room.ensures.near c.in_ok-room.ensures.left (ap (λ (r : Place). r.segment) c.begin_of-start.ensures)
+    (subst (λ (y : Object). FitsWhereRoom words_behind (listed_tree (tree_at n from) c.args.list c.args.bytes.now) (met_in (visits n from) y) (HasLongList from) c.begin_of-start.result.segment (state_in g.A.ReaderArena.segments g.A.BuilderArena.room g.A.BuilderArena.books c.room_for.new.arena) (state_in g.A.ReaderArena.segments g.A.BuilderArena.room g.A.BuilderArena.books c.fill_list.new.arena) c.args.limiter.now (Ok tt) c.fill_list.new.limiter) (sym is) c.in-Ok.ensures.fits))))
+
+pub returns-in-Err-clause-fits : goal.returns-in-Err-clause-fits
+returns-in-Err-clause-fits g c =
+    let from : Segments = words_in (g.B.ReaderArena.segments c.args.source.now) in
+    let n = c.args.levels in
+    let o : Object = c.object_of-object.result in
+    let is : c.object_of-object.result ≡ listed_object c.args.list = c.object_of-object.ensures in
+    let there = listed_tree (tree_at n from) c.args.list c.args.bytes.now in
+    let own : (t : Tree) → listed_tree (tree_at n from) c.args.list c.args.bytes.now ≡ Some t → object_words t ≡ copied_words c.object_of-object.result + words_behind t = λ t e. listed_own (tree_at n from) c.args.list (listed_section c.args.list c.args.bytes.now) c.args.list.size t e ∙ ap (λ (y : Object). copied_words y + words_behind t) (sym is) in
+    let e = c.in-Err.error in
+    (subst (λ (y : Object). FitsWhereRoom object_words (listed_tree (tree_at n from) c.args.list c.args.bytes.now) (met_in (visits n from) y) (IsLong from y) c.args.slot.segment (state_in g.A.ReaderArena.segments g.A.BuilderArena.room g.A.BuilderArena.books c.args.arena.now) (state_in g.A.ReaderArena.segments g.A.BuilderArena.room g.A.BuilderArena.books c.clear_object.new.arena) c.args.limiter.now (Err e) c.fill_list.new.limiter) is
+    (fits_long object_words there (met_in (visits n from) o) (HasLongList from) (IsLong from o) c.args.slot.segment (state_in g.A.ReaderArena.segments g.A.BuilderArena.room g.A.BuilderArena.books c.args.arena.now) (state_in g.A.ReaderArena.segments g.A.BuilderArena.room g.A.BuilderArena.books c.clear_object.new.arena) c.args.limiter.now c.fill_list.new.limiter (Err e) (λ l. inr l)
+    (object_fits object_words words_behind (copied_words o) there (met_in (visits n from) o) (HasLongList from) (place_view c.args.slot) c.in_ok-room.room c.begin_of-start.result.segment (state_in g.A.ReaderArena.segments g.A.BuilderArena.room g.A.BuilderArena.books c.args.arena.now) (state_in g.A.ReaderArena.segments g.A.BuilderArena.room g.A.BuilderArena.books c.room_for.new.arena) (state_in g.A.ReaderArena.segments g.A.BuilderArena.room g.A.BuilderArena.books c.clear_object.new.arena) c.args.limiter.now c.fill_list.new.limiter (Err e) own c.in_ok-room.ensures.ok c.in_ok-room.ensures.near c.in_ok-room.ensures.left (ap (λ (r : Place). r.segment) c.begin_of-start.ensures)
+    (subst (λ (y : Object). FitsWhereRoom words_behind (listed_tree (tree_at n from) c.args.list c.args.bytes.now) (met_in (visits n from) y) (HasLongList from) c.begin_of-start.result.segment (state_in g.A.ReaderArena.segments g.A.BuilderArena.room g.A.BuilderArena.books c.room_for.new.arena) (state_in g.A.ReaderArena.segments g.A.BuilderArena.room g.A.BuilderArena.books c.clear_object.new.arena) c.args.limiter.now (Err e) c.fill_list.new.limiter) (sym is) c.in-Err.ensures.fits))))

@@ -7,7 +7,7 @@ use Rattle.capnp_units.specs.declared.kinds.ErrorKind.{ErrorKind}
 use Rattle.capnp_units.specs.declared.kinds.ErrorKind.TheVariants.{SizeOverflow}
 use Rattle.capnp_copy.specs.Allocations.{total_words, NoRoom}
 use Rattle.capnp_copy.specs.Refusals.{IsSizeOrRefusal}
-use Rattle.capnp_copy.specs.Rooms.{IsNearWhereRoom}
+use Rattle.capnp_copy.specs.Rooms.{IsNearWhereRoom, UsesRoomNear}
 use Rattle.capnp_copy.proofs.lemmas.Refusals.{size_or_refusal}
 use Rattle.capnp_copy_from.proofs.objects.room_for.Goals as goal
 
@@ -46,3 +46,9 @@ pub returns-in_err-words-clause-cause : goal.returns-in_err-words-clause-cause
 returns-in_err-words-clause-cause g c =
     let p = err_from_is_err_and c.from_residual.result c.from_residual.ensures.1 in
     rw (p.1, p.2) (inl c.in_err-words.ensures.kind.0)
+
+pub returns-clause-left : goal.returns-clause-left
+returns-clause-left g c =
+    let free = g.A.BuilderArena.room c.args.arena.now in
+    let left = g.A.BuilderArena.room c.allocate_near.new.arena in
+    subst (λ (n : ℕ). IfOk c.allocate_near.result (UsesRoomNear free left c.args.slot.segment n)) c.in_ok-words.ensures.words.0 c.allocate_near.ensures.left

@@ -1,5 +1,5 @@
 -- The struct is made of zero words, and linked or given up.
-use Rattle.std.proofs.Common.{inr, ◌≡◌, ℕ, ◌+◌, ◌*◌, ◌/◌, ◌≤◌, true, length, replicate, Some, Ok, Err, refl, ap, sym, ◌∙◌, subst, arith}
+use Rattle.std.proofs.Common.{inr, ◌≡◌, ℕ, ◌+◌, ◌*◌, ◌/◌, ◌≤◌, true, length, map, replicate, Some, Ok, Err, refl, ap, sym, ◌∙◌, subst, arith}
 use Rattle.std.specs.Option.{is_some}
 use Rattle.std.proofs.lemmas.Result.{err_from_is_err_and}
 use Rattle.capnp_model.specs.Chains.{◌>>=◌}
@@ -24,6 +24,12 @@ use Rattle.capnp_copy_from.proofs.Placed.{copied_object, refused_object, no_room
 use Rattle.capnp_copy_from.proofs.SectionBytes.{bytes_grow, section_fills}
 use Rattle.capnp_copy.specs.Refusals.{IsSizeOrRefusal}
 use Rattle.capnp_copy_from.proofs.Told.{told_err}
+use Rattle.capnp_model.specs.Sizes.{object_words, each_object_words}
+use Rattle.capnp_copy.specs.States.{state_in}
+use Rattle.capnp_copy.proofs.lemmas.Taken.{linked_sizes, bytes_sizes}
+use Rattle.capnp_copy_from.specs.Copies.{struct_source}
+use Rattle.capnp_copy_from.specs.Fits.{FitsWhereRoom, HasLongList, words_behind, struct_tree}
+use Rattle.capnp_copy_from.proofs.Fitting.{fits_err, fits_after, fits_made, fits_kept, object_fits, struct_own, struct_lacks}
 use Rattle.capnp_copy_from.proofs.structs.set_struct.Goals as goal
 
 pub returns-in_err-room-clause-copy : goal.returns-in_err-room-clause-copy
@@ -157,3 +163,55 @@ returns-in_err-room-clause-cause g c =
 
 pub returns-in-Err-clause-cause : goal.returns-in-Err-clause-cause
 returns-in-Err-clause-cause g c = c.in-Err.ensures.cause
+
+pub returns-in_err-room-clause-fits : goal.returns-in_err-room-clause-fits
+returns-in_err-room-clause-fits g c =
+    let from : Segments = words_in (g.B.ReaderArena.segments c.args.source.now) in
+    let n = c.args.levels in
+    let x = struct_source c.args.section.now c.args.first c.args.pointers in
+    let q : Place = place_view c.args.first in
+    let k = c.args.pointers in
+    let own : (t : Tree) → struct_tree (tree_at n from) (struct_source c.args.section.now c.args.first c.args.pointers) ≡ Some t → object_words t ≡ ((length c.args.section.now + 7) / 8) + c.args.pointers + words_behind t = λ t is. (
+    let e = words_for_bytes (length c.args.section.now) in
+    let sum = struct_own (tree_at n from) q (words_for (8 * length c.args.section.now)) k (number_of 8 c.args.section.now) t is in
+    omega (arith, e, sum)
+    ) in
+    let r = err_from_is_err_and c.from_residual.result c.from_residual.ensures.1 in
+    let e = c.in_err-room.field-0.0 in
+    fits_err object_words (struct_tree (tree_at n from) x) (from_each (visits n from) q k) (HasLongList from) c.args.slot.segment (state_in g.A.ReaderArena.segments g.A.BuilderArena.room g.A.BuilderArena.books c.args.arena.now) (state_in g.A.ReaderArena.segments g.A.BuilderArena.room g.A.BuilderArena.books c.room_for.new.arena) c.args.limiter.now c.args.limiter.now c.from_residual.result r.0 e r.1 r.2
+    (λ t is h. absurd (struct_lacks (state_in g.A.ReaderArena.segments g.A.BuilderArena.room g.A.BuilderArena.books c.args.arena.now) c.args.slot.segment (((length c.args.section.now + 7) / 8) + c.args.pointers) (object_words t) c.in_err-room.ensures.full (let sum = own t is in omega (arith, sum)) h))
+
+pub returns-in-Ok-clause-fits : goal.returns-in-Ok-clause-fits
+returns-in-Ok-clause-fits g c =
+    let from : Segments = words_in (g.B.ReaderArena.segments c.args.source.now) in
+    let n = c.args.levels in
+    let x = struct_source c.args.section.now c.args.first c.args.pointers in
+    let q : Place = place_view c.args.first in
+    let k = c.args.pointers in
+    let own : (t : Tree) → struct_tree (tree_at n from) (struct_source c.args.section.now c.args.first c.args.pointers) ≡ Some t → object_words t ≡ ((length c.args.section.now + 7) / 8) + c.args.pointers + words_behind t = λ t is. (
+    let e = words_for_bytes (length c.args.section.now) in
+    let sum = struct_own (tree_at n from) q (words_for (8 * length c.args.section.now)) k (number_of 8 c.args.section.now) t is in
+    omega (arith, e, sum)
+    ) in
+    let y : Segments = words_in (g.A.ReaderArena.segments c.clear.new.arena) in
+    fits_kept object_words (struct_tree (tree_at n from) x) (from_each (visits n from) q k) (HasLongList from) c.args.slot.segment (state_in g.A.ReaderArena.segments g.A.BuilderArena.room g.A.BuilderArena.books c.args.arena.now) (state_in g.A.ReaderArena.segments g.A.BuilderArena.room g.A.BuilderArena.books c.fill_row.new.arena) (state_in g.A.ReaderArena.segments g.A.BuilderArena.room g.A.BuilderArena.books c.link.new.arena) c.args.limiter.now c.fill_row.new.limiter (ap (λ (v : Segments). map length v) c.link.ensures.words ∙ linked_sizes y (place_view c.args.slot) c.in_ok-room.room _ ∙ c.clear.ensures.sizes) (c.link.ensures.room ∙ c.clear.ensures.room)
+    (object_fits object_words words_behind (((length c.args.section.now + 7) / 8) + c.args.pointers) (struct_tree (tree_at n from) x) (from_each (visits n from) q k) (HasLongList from) (place_view c.args.slot) c.in_ok-room.room c.begin_of-start.result.segment (state_in g.A.ReaderArena.segments g.A.BuilderArena.room g.A.BuilderArena.books c.args.arena.now) (state_in g.A.ReaderArena.segments g.A.BuilderArena.room g.A.BuilderArena.books c.room_for.new.arena) (state_in g.A.ReaderArena.segments g.A.BuilderArena.room g.A.BuilderArena.books c.fill_row.new.arena) c.args.limiter.now c.fill_row.new.limiter (Ok tt) own c.in_ok-room.ensures.ok c.in_ok-room.ensures.near c.in_ok-room.ensures.left (ap (λ (r : Place). r.segment) c.begin_of-start.ensures)
+    (fits_made each_object_words words_behind (λ ts. structure (words_for (8 * length c.args.section.now)) (number_of 8 c.args.section.now) ts) (each (tree_at n from) q k) (from_each (visits n from) q k) (HasLongList from) c.begin_of-start.result.segment (state_in g.A.ReaderArena.segments g.A.BuilderArena.room g.A.BuilderArena.books c.room_for.new.arena) (state_in g.A.ReaderArena.segments g.A.BuilderArena.room g.A.BuilderArena.books c.fill_row.new.arena) c.args.limiter.now c.fill_row.new.limiter (Ok tt) (λ ts. refl)
+    (fits_after each_object_words (each (tree_at n from) q k) (from_each (visits n from) q k) (HasLongList from) c.begin_of-start.result.segment (state_in g.A.ReaderArena.segments g.A.BuilderArena.room g.A.BuilderArena.books c.room_for.new.arena) (state_in g.A.ReaderArena.segments g.A.BuilderArena.room g.A.BuilderArena.books c.write_bytes.new.arena) (state_in g.A.ReaderArena.segments g.A.BuilderArena.room g.A.BuilderArena.books c.fill_row.new.arena) c.args.limiter.now c.fill_row.new.limiter (Ok tt) (ap (λ (v : Segments). map length v) c.write_bytes.ensures.words ∙ bytes_sizes (words_in (g.A.ReaderArena.segments c.room_for.new.arena)) (place_view c.begin_of-start.result) _ _) c.write_bytes.ensures.room c.in-Ok.ensures.fits)))
+
+pub returns-in-Err-clause-fits : goal.returns-in-Err-clause-fits
+returns-in-Err-clause-fits g c =
+    let from : Segments = words_in (g.B.ReaderArena.segments c.args.source.now) in
+    let n = c.args.levels in
+    let x = struct_source c.args.section.now c.args.first c.args.pointers in
+    let q : Place = place_view c.args.first in
+    let k = c.args.pointers in
+    let own : (t : Tree) → struct_tree (tree_at n from) (struct_source c.args.section.now c.args.first c.args.pointers) ≡ Some t → object_words t ≡ ((length c.args.section.now + 7) / 8) + c.args.pointers + words_behind t = λ t is. (
+    let e = words_for_bytes (length c.args.section.now) in
+    let sum = struct_own (tree_at n from) q (words_for (8 * length c.args.section.now)) k (number_of 8 c.args.section.now) t is in
+    omega (arith, e, sum)
+    ) in
+    let e = c.in-Err.error in
+    (object_fits object_words words_behind (((length c.args.section.now + 7) / 8) + c.args.pointers) (struct_tree (tree_at n from) x) (from_each (visits n from) q k) (HasLongList from) (place_view c.args.slot) c.in_ok-room.room c.begin_of-start.result.segment (state_in g.A.ReaderArena.segments g.A.BuilderArena.room g.A.BuilderArena.books c.args.arena.now) (state_in g.A.ReaderArena.segments g.A.BuilderArena.room g.A.BuilderArena.books c.room_for.new.arena) (state_in g.A.ReaderArena.segments g.A.BuilderArena.room g.A.BuilderArena.books c.clear_object.new.arena) c.args.limiter.now c.fill_row.new.limiter (Err e) own c.in_ok-room.ensures.ok c.in_ok-room.ensures.near c.in_ok-room.ensures.left (ap (λ (r : Place). r.segment) c.begin_of-start.ensures)
+    (fits_made each_object_words words_behind (λ ts. structure (words_for (8 * length c.args.section.now)) (number_of 8 c.args.section.now) ts) (each (tree_at n from) q k) (from_each (visits n from) q k) (HasLongList from) c.begin_of-start.result.segment (state_in g.A.ReaderArena.segments g.A.BuilderArena.room g.A.BuilderArena.books c.room_for.new.arena) (state_in g.A.ReaderArena.segments g.A.BuilderArena.room g.A.BuilderArena.books c.clear_object.new.arena) c.args.limiter.now c.fill_row.new.limiter (Err e) (λ ts. refl)
+    (fits_after each_object_words (each (tree_at n from) q k) (from_each (visits n from) q k) (HasLongList from) c.begin_of-start.result.segment (state_in g.A.ReaderArena.segments g.A.BuilderArena.room g.A.BuilderArena.books c.room_for.new.arena) (state_in g.A.ReaderArena.segments g.A.BuilderArena.room g.A.BuilderArena.books c.write_bytes.new.arena) (state_in g.A.ReaderArena.segments g.A.BuilderArena.room g.A.BuilderArena.books c.clear_object.new.arena) c.args.limiter.now c.fill_row.new.limiter (Err e) (ap (λ (v : Segments). map length v) c.write_bytes.ensures.words ∙ bytes_sizes (words_in (g.A.ReaderArena.segments c.room_for.new.arena)) (place_view c.begin_of-start.result) _ _) c.write_bytes.ensures.room c.in-Err.ensures.fits)))
