@@ -1,5 +1,5 @@
 -- What is printed of the root of a message.
-use Rattle.std.proofs.Common.{◌≡◌, ℕ, ℤ, zero, suc, Bool, true, false, ◌⊎◌, inl, inr, Option, Some, None, List, [], Result, Ok, Err, refl, ap, sym, ◌∙◌, subst, arith}
+use Rattle.std.proofs.Common.{◌≡◌, ◌≢◌, ℕ, ℤ, zero, suc, Bool, true, false, ◌⊎◌, inl, inr, Option, Some, None, List, [], Result, Ok, Err, refl, ap, sym, ◌∙◌, subst, arith}
 use Rattle.std.specs.Option.{ok_or}
 use Rattle.capnp_model.specs.Kinds.{Kind, OutOfBounds}
 use Rattle.capnp_model.specs.Chains.{◌and_then◌}
@@ -16,6 +16,7 @@ use Rattle.capnp_units.specs.Errors.{kind_of}
 use Rattle.capnp_units.specs.Segments.{words_in}
 use Rattle.capnp_units.specs.Limits.{left_of, IsPassed}
 use Rattle.capnp_units.specs.declared.errors.Error.{Error}
+use Rattle.capnp_units.specs.declared.kinds.ErrorKind.{ErrorKind}
 use Rattle.capnp_units.specs.declared.kinds.ErrorKind.TheVariants.{OutOfMemory}
 use Rattle.capnp_units.specs.declared.limiter.ReadLimiter.{ReadLimiter}
 use Rattle.capnp_object.specs.declared.object.Found.{Found}
@@ -154,7 +155,14 @@ module _ (values : ValuesOfRecords) (texts : TextsAreModels) (r : StructSchema) 
   no_text_shown kind h = known.1 ∙ ap text_or_none (law.1 kind h)
 
   -- why nothing was printed
-  pub fault_shown : (e : Error) (why : ShowFault) → (why ≡ fault-of.Memory) ⊎ ((why ≡ fault-of.Unreadable) × (e.kind ≡ OutOfMemory → ⊥)) → IsRefused (shown_text 64 on_one_line (a_struct (schema_around r) (shape_of_struct r) v)) e → NoTextOf (root_shown r t) why
-  fault_shown e why (inl h) refused = subst (NoTextOf (root_shown r t)) (sym h) tt
-  fault_shown e why (inr h) (inl memory) = absurd (h.1 memory)
-  fault_shown e why (inr h) (inr k) = subst (NoTextOf (root_shown r t)) (sym h.0) (no_text_shown (kind_of e.kind) k)
+  either : (why : ShowFault) (k : ErrorKind) → (k ≡ OutOfMemory → why ≡ fault-of.Memory) → (k ≢ OutOfMemory → why ≡ fault-of.Unreadable) → (why ≡ fault-of.Memory) ⊎ (why ≡ fault-of.Unreadable)
+  either why OutOfMemory memory other = inl (memory refl)
+  either why _ memory other = inr (other (λ e. absurd cc))
+
+  pub fault_shown : (e : Error) (why : ShowFault) → (e.kind ≡ OutOfMemory → why ≡ fault-of.Memory) → (e.kind ≢ OutOfMemory → why ≡ fault-of.Unreadable) → IsRefused (shown_text 64 on_one_line (a_struct (schema_around r) (shape_of_struct r) v)) e → NoTextOf (root_shown r t) why
+  fault_shown e why memory other (inl m) = subst (NoTextOf (root_shown r t)) (sym (memory m)) tt
+  fault_shown e why memory other (inr k) = by (either why e.kind memory other)
+    where
+      by : (why ≡ fault-of.Memory) ⊎ (why ≡ fault-of.Unreadable) → NoTextOf (root_shown r t) why
+      by (inl h) = subst (NoTextOf (root_shown r t)) (sym h) tt
+      by (inr h) = subst (NoTextOf (root_shown r t)) (sym h) (no_text_shown (kind_of e.kind) k)

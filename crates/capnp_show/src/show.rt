@@ -1,5 +1,5 @@
 //! What a framed message holds, as text.
-ghost use Rattle.std.specs.Prelude.{◌≡◌, ◌≢◌, ◌⊎◌, Ok, IfOk, IfErr};
+ghost use Rattle.std.specs.Prelude.{◌≡◌, ◌≢◌, Ok, IfOk, IfErr};
 ghost use Rattle.capnp_model.specs.Answers.{levels};
 ghost use Rattle.capnp_units.specs.Segments.{words_in};
 ghost use Rattle.capnp_units.specs.declared.kinds.ErrorKind.{ErrorKind};
@@ -49,8 +49,8 @@ pub enum ShowFault {
 
 /// Why no text was printed.
 fn fault_of(e: Error) -> ShowFault
-    ensures { (result ≡ ShowFault.Memory)
-        ⊎ ((result ≡ ShowFault.Unreadable) × (e.kind ≢ ErrorKind.OutOfMemory)) }
+    ensures memory { e.kind ≡ ErrorKind.OutOfMemory → result ≡ ShowFault.Memory }
+    ensures other { e.kind ≢ ErrorKind.OutOfMemory → result ≡ ShowFault.Unreadable }
 {
     match e.kind {
         ErrorKind::OutOfMemory => ShowFault::Memory,

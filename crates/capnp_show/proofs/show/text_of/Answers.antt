@@ -57,4 +57,4 @@ returns-in-Err-clause-fault g c t has =
     let opens = struct_opened s id p got.0 v got.1 got.3 in
     let out = c.print.new.out.items in
     let printed = moved c.new.result.schema r (struct_seen g.A.ReaderArena.segments c.new.result.source) v c.new-text.result.items out c.print.result (Err c.in-Err.e) c.new.ensures.schema c.new.ensures.source c.new-text.ensures.items c.in-Err.is c.print.ensures in
-    fault_shown c.records_are_read.ensures.values c.texts_are_models.ensures r v t (opened s (struct id) p) opens answers c.in-Err.e c.fault_of.result c.fault_of.ensures printed.1
+    fault_shown c.records_are_read.ensures.values c.texts_are_models.ensures r v t (opened s (struct id) p) opens answers c.in-Err.e c.fault_of.result c.fault_of.ensures.memory c.fault_of.ensures.other printed.1
