@@ -7,3 +7,4 @@ mod Tested
 mod InTurn
 mod AtRoot
 mod CallWays
+mod Stopped

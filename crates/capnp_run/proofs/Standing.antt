@@ -36,7 +36,7 @@ past_last (t ▸ ts) (suc i) h = past_last ts i (omega (arith, h))
 
 module _ (n : ℕ) (s : Segments) (p : Place) (d k section : ℕ) (kids : Trees) (is : tree_of s (tree_at n s) (a_struct p d k) ≡ Some (structure d section kids)) where
   -- the struct's words, and its children
-  words : (ws : List ℕ) × (words_at s p (d + k) ≡ Some ws) × (section_of (take d ws) ≡ section) × (each (tree_at n s) (after p d) k ≡ Some kids)
+  pub words : (ws : List ℕ) × (words_at s p (d + k) ≡ Some ws) × (section_of (take d ws) ≡ section) × (each (tree_at n s) (after p d) k ≡ Some kids)
   words =
       let a = bind_some (words_at s p (d + k)) _ _ is in
       let b = bind_some (each (tree_at n s) (after p d) k) _ _ a.2 in

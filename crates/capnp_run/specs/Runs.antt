@@ -1,6 +1,7 @@
 -- Calls in turn at a struct of a message, where it lies. (Encoding, "Structs")
-use Rattle.std.specs.Prelude.{◌≡◌, ℕ, suc, ◌^◌, ◌≤◌, List}
+use Rattle.std.specs.Prelude.{◌≡◌, ℕ, suc, ◌^◌, ◌≤◌, ◌⊎◌, List, [], ◌∷◌, ◌++◌}
 use Rattle.capnp_model.specs.Segments.{Segments, root}
+use Rattle.capnp_model.specs.Coverage.{Grows}
 use Rattle.capnp_model.specs.Trees.{Tree, Trees, structure}
 use Rattle.capnp_model.specs.Calls.{Call}
 use Rattle.capnp_model.specs.Steps.{step}
@@ -14,7 +15,11 @@ use Rattle.capnp_copy.specs.Structs.{struct_at}
 use Rattle.capnp_copy.specs.declared.fields.StructPlace.{StructPlace}
 use Rattle.capnp_queries.specs.Structs.{schema_around, shape_of_struct, id_of}
 use Rattle.capnp_queries.specs.declared.structs.StructSchema.{StructSchema}
+use Rattle.capnp_units.specs.declared.kinds.ErrorKind.TheVariants.{OutOfMemory}
 use Rattle.capnp_calls.specs.LongLists.{PutsLong, LongInTurn}
+use Rattle.capnp_calls.specs.Sizes.{IsDone}
+use Rattle.capnp_run.specs.declared.fault.RunFault.{RunFault}
+use Rattle.capnp_run.specs.declared.fault.RunFault.TheVariants as faults
 use Rattle.capnp_model.specs.Printing.{as_it_is}
 use Rattle.capnp_calls.specs.Roots.{record_at}
 
@@ -71,3 +76,36 @@ EndsLongAt s p schema calls =
 abbrev pub EndsLongRoot : Segments → StructSchema → List Call → Type 0
 EndsLongRoot s schema calls =
     (n : ℕ) (t : Tree) → 2 ^ 29 ≤ n → Owns (suc n) s root t → LongInTurn schema calls (widened_root (shape_of_struct schema) t)
+
+-- Why a call fails at a struct of this tree: it is done, and puts a list that is too long; memory for its reply is refused; or it is done, and its write is refused.
+abbrev pub FailsBy : StructSchema → Call → Tree → RunFault → Type 0
+FailsBy schema c t faults.Size = PutsLong schema c t
+FailsBy schema c t (faults.Refused e) = (e.kind ≡ OutOfMemory) ⊎ IsDone (step (schema_around schema) (id_of schema) c (record_at schema t))
+
+-- Why calls in turn stop at a struct of this tree: the first of them fails, or memory for the replies is refused.
+abbrev pub StopsBy : StructSchema → List Call → Tree → RunFault → Type 0
+StopsBy schema [] t faults.Size = ⊥
+StopsBy schema [] t (faults.Refused e) = e.kind ≡ OutOfMemory
+StopsBy schema (c ∷ behind) t fault = FailsBy schema c t fault
+
+-- The call fails, whatever struct is owned at the place; each segment of the message is still there, and no shorter.
+abbrev pub FailsAt : Segments → Segments → StructPlace → StructSchema → Call → RunFault → Type 0
+FailsAt s u p schema c fault =
+    (n section : ℕ) (kids : Trees) → 2 ^ 29 ≤ n → OwnsObject n s (struct_at p) (structure p.data_words section kids)
+    → Grows s u × FailsBy schema c (structure p.data_words section kids) fault
+
+-- Calls in turn that stop: some of them have their effect on a struct, and nothing else changed when they had; then the next failed, and may have a part of its own.
+pub record Stops (schema : StructSchema) (calls : List Call) (n : ℕ) (s u : Segments) (p : StructPlace) (old : Tree) (fault : RunFault) : Type 0 where
+  pub before : List Call
+  pub behind : List Call
+  pub split : calls ≡ before ++ behind
+  pub mid : Segments
+  pub made : ReplacesObject n s mid (struct_at p) (edits (schema_around schema) (id_of schema) before old)
+  pub grows : Grows mid u
+  pub why : StopsBy schema behind (edits (schema_around schema) (id_of schema) before old) fault
+
+-- So it is with whatever struct is owned at the place.
+abbrev pub StopsAt : Segments → Segments → StructPlace → StructSchema → List Call → RunFault → Type 0
+StopsAt s u p schema calls fault =
+    (n section : ℕ) (kids : Trees) → 2 ^ 29 ≤ n → OwnsObject n s (struct_at p) (structure p.data_words section kids)
+    → Stops schema calls n s u p (structure p.data_words section kids) fault

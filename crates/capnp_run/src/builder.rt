@@ -1,5 +1,5 @@
 //! Calls in turn at the struct of a builder.
-ghost use Rattle.std.specs.Prelude.{◌≡◌, map, Err, IfOk};
+ghost use Rattle.std.specs.Prelude.{◌≡◌, map, Err, IfOk, IfErr};
 ghost use Rattle.capnp_copy.specs.Deep.{IsDeep};
 ghost use Rattle.capnp_dynamic.specs.Builders.{IsReady, words_around};
 ghost use Rattle.capnp_calls.specs.CallViews.{call_view};
@@ -7,7 +7,7 @@ ghost use Rattle.capnp_calls.specs.Replies.{reply_view};
 ghost use Rattle.capnp_calls.specs.Roots.{IsRoot};
 ghost use Rattle.capnp_run.specs.declared.fault.RunFault.{RunFault};
 ghost use Rattle.capnp_run.specs.Handles.{IsSameHandle};
-ghost use Rattle.capnp_run.specs.Runs.{RunsAt, EndsLongAt};
+ghost use Rattle.capnp_run.specs.Runs.{RunsAt, EndsLongAt, StopsAt};
 
 use crate::fault::RunFault;
 use crate::run::run_at;
@@ -30,6 +30,8 @@ pub fn run<A: BuilderArena>(
     ensures all { let words = words_around A.segments in IfOk result (λ told.
         RunsAt (words root.old) (words root.new) root.old.place root.old.schema
         (map call_view calls.now) (map reply_view told.items)) }
+    ensures stops { let words = words_around A.segments in IfErr result (StopsAt (words root.old)
+        (words root.new) root.old.place root.old.schema (map call_view calls.now)) }
     ensures size { result ≡ Err RunFault.Size → EndsLongAt (words_around A.segments root.old)
         root.old.place root.old.schema (map call_view calls.now) }
     ensures handle { IsSameHandle root.old root.new }

@@ -1,5 +1,5 @@
 //! Calls in turn, each tested where the struct is read, and then written.
-ghost use Rattle.std.specs.Prelude.{◌≡◌, ◌+◌, ◌^◌, ◌<◌, ◌≤◌, map, Err, IfOk};
+ghost use Rattle.std.specs.Prelude.{◌≡◌, ◌+◌, ◌^◌, ◌<◌, ◌≤◌, map, Err, IfOk, IfErr};
 ghost use Rattle.capnp_model.specs.Answers.{reply_of};
 ghost use Rattle.capnp_model.specs.Trees.{Trees, structure};
 ghost use Rattle.capnp_model.specs.Steps.{step};
@@ -19,8 +19,9 @@ ghost use Rattle.capnp_calls.specs.Sizes.{content_len};
 ghost use Rattle.capnp_calls.specs.Roots.{IsRoot};
 ghost use Rattle.capnp_model.specs.Printing.{as_it_is};
 ghost use Rattle.capnp_ways.specs.Ways.{IsWay, AreWays};
+ghost use Rattle.capnp_units.specs.declared.kinds.ErrorKind.{ErrorKind};
 ghost use Rattle.capnp_run.specs.declared.fault.RunFault.{RunFault};
-ghost use Rattle.capnp_run.specs.Runs.{TestsAt, AnswersAt, PutsLongAt, RunsAt, EndsLongAt};
+ghost use Rattle.capnp_run.specs.Runs.{TestsAt, AnswersAt, PutsLongAt, FailsAt, RunsAt, EndsLongAt, StopsAt};
 
 use crate::fault::RunFault;
 use crate::long::puts_long;
@@ -74,6 +75,7 @@ fn test<A: ReaderArena>(
     ensures replied { IfOk result (λ r.
         TestsAt (words_in (A.segments arena.now)) object schema.entry (call_view call.now)
         (reply_view r)) }
+    ensures memory { IfErr result (λ e. e.kind ≡ ErrorKind.OutOfMemory) }
 {
     changes_with_fewer_levels();
     depths_of_owned_values();
@@ -107,6 +109,8 @@ fn answer<A: BuilderArena>(
     ensures answer { IfOk result (λ r. AnswersAt (words_in (A.segments arena.old))
         (words_in (A.segments arena.new)) object schema.entry (call_view call.now)
         (reply_view r)) }
+    ensures stops { IfErr result (FailsAt (words_in (A.segments arena.old))
+        (words_in (A.segments arena.new)) object schema.entry (call_view call.now)) }
     ensures size { result ≡ Err RunFault.Size
         → PutsLongAt (words_in (A.segments arena.old)) object schema.entry (call_view call.now) }
     ensures books { A.books arena.new ≡ A.books arena.old }
@@ -147,6 +151,8 @@ pub fn run_at<A: BuilderArena>(
     ensures all { IfOk result (λ told. RunsAt (words_in (A.segments arena.old))
         (words_in (A.segments arena.new)) object schema.entry (map call_view calls.now)
         (map reply_view told.items)) }
+    ensures stops { IfErr result (StopsAt (words_in (A.segments arena.old))
+        (words_in (A.segments arena.new)) object schema.entry (map call_view calls.now)) }
     ensures size { result ≡ Err RunFault.Size → EndsLongAt (words_in (A.segments arena.old))
         object schema.entry (map call_view calls.now) }
     ensures books { A.books arena.new ≡ A.books arena.old }

@@ -1,4 +1,5 @@
-use Rattle.std.proofs.Common.{◌≡◌, subst, refl}
+use Rattle.std.proofs.Common.{◌≡◌, subst, refl, sym, ◌∙◌}
+use Rattle.std.proofs.lemmas.Result.{err_from_is_err_and}
 use Rattle.capnp_model.specs.Answers.{reply_done}
 use Rattle.capnp_model.specs.Calls.{Step, Verb}
 use Rattle.std.specs.Prelude.{List}
@@ -11,6 +12,7 @@ use Rattle.capnp_run.proofs.Levels.{DepthLaws}
 use Rattle.capnp_run.specs.Runs.{TestsAt}
 use Rattle.capnp_run.specs.declared.fault.RunFault.TheVariants as faults
 use Rattle.capnp_run.proofs.Tested.{written, left_alone, other_reply, puts_long}
+use Rattle.capnp_run.proofs.Stopped.{fails_nowhere, fails_before, fails_written}
 use Rattle.capnp_run.proofs.run.answer.Goals as goal
 
 pub returns-in-Ok-clause-answer : goal.returns-in-Ok-clause-answer
@@ -32,6 +34,7 @@ returns-in_default g c =
     let s = words_in (seg c.args.arena.now) in
     record {
       answer = left_alone s c.args.object c.args.schema (call_view c.args.call.now) (reply_view c.in_ok-reply.reply) c.in_ok-reply.ensures.replied (other_reply c.in_ok-reply.reply c.in_default.not-Done);
+      stops = tt;
       size = λ err. absurd (cc err);
       books = refl;
     }
@@ -44,3 +47,24 @@ returns-in-Err-clause-size g c err =
     let tests : TestsAt s c.args.object c.args.schema call reply_done = subst T c.in-Done.is c.in_ok-reply.ensures.replied in
     let is : c.fault_of.result ≡ faults.Size = cc err in
     puts_long s c.args.object c.args.schema call tests (c.fault_of.ensures is)
+
+pub returns-in-Err-clause-stops : goal.returns-in-Err-clause-stops
+returns-in-Err-clause-stops g c =
+    let seg = g.A.ReaderArena.segments in
+    let s = words_in (seg c.args.arena.now) in
+    let u = words_in (seg c.write_path.new.arena) in
+    let call = call_view c.args.call.now in
+    let T : Own → Type 0 = λ r. TestsAt s c.args.object c.args.schema call (reply_view r) in
+    let tests : TestsAt s c.args.object c.args.schema call reply_done = subst T c.in-Done.is c.in_ok-reply.ensures.replied in
+    fails_written s u c.args.object c.args.schema call c.fault_of.result tests c.in-Err.ensures.grows c.fault_of.ensures
+
+pub returns-then-not-has_words-clause-stops : goal.returns-then-not-has_words-clause-stops
+returns-then-not-has_words-clause-stops g c =
+    let s = words_in (g.A.ReaderArena.segments c.args.arena.now) in
+    fails_nowhere s c.args.object c.args.schema (call_view c.args.call.now) (faults.Refused c.from.result) (sym c.has_words.ensures.there ∙ c.if-not-has_words.true)
+
+pub returns-in_err-reply-clause-stops : goal.returns-in_err-reply-clause-stops
+returns-in_err-reply-clause-stops g c =
+    let s = words_in (g.A.ReaderArena.segments c.args.arena.now) in
+    let r = err_from_is_err_and c.from_residual.result c.from_residual.ensures.1 in
+    rw (r.1, r.2) (fails_before s c.args.object c.args.schema (call_view c.args.call.now) _ c.in_err-reply.ensures.memory)

@@ -1,4 +1,4 @@
-use Rattle.std.proofs.Common.{◌≡◌, ℕ, suc, ◌+◌, List, ◌∷◌, [], ◌++◌, drop, take, Err, length, refl, ap, sym, subst, ◌∙◌, add-one}
+use Rattle.std.proofs.Common.{◌≡◌, ℕ, suc, ◌+◌, List, ◌∷◌, [], ◌++◌, drop, take, Err, length, refl, ap, sym, subst, ◌∙◌, add-one, append_assoc}
 use Rattle.std.specs.Prelude.{map}
 use Rattle.std.proofs.Math.Seq.{drop-cons, take-suc}
 use Rattle.std.proofs.lemmas.List.{map-append, drop_all, take_all, take-append-drop, length_push}
@@ -19,6 +19,7 @@ use Rattle.capnp_run.specs.declared.fault.RunFault.TheVariants as faults
 use Rattle.capnp_calls.specs.Roots.{record_at}
 use Rattle.capnp_run.specs.Runs.{PutsLongAt}
 use Rattle.capnp_run.proofs.InTurn.{SoFar, at_first, one_more, none_behind, ends_long, size_kept}
+use Rattle.capnp_run.proofs.Stopped.{stops_behind, stops_next}
 use Rattle.capnp_run.proofs.run.run_at.Goals as goal
 
 pub loop-call-init : goal.loop-call-init
@@ -124,3 +125,49 @@ returns-in_err-answer-clause-size g c err =
     let is : c.in_err-answer.field-0.0 ≡ faults.Size = size_kept c.from_residual.result r.0 c.in_err-answer.field-0.0 r.1 r.2 err in
     let long : PutsLongAt u p root (call_view this) = c.in_err-answer.ensures.size (ap (λ (f : RunFault). Err f) is) in
     ends_long c.changes_of_objects.ensures.owned s u p root (map call_view (take i calls)) (call_view this) (map call_view behind) all told parts so_far long
+
+pub returns-in_err-answer-clause-stops : goal.returns-in_err-answer-clause-stops
+returns-in_err-answer-clause-stops g c =
+    let seg = g.A.ReaderArena.segments in
+    let s = words_in (seg c.args.arena.now) in
+    let u = words_in (seg c.loop-call.arena) in
+    let v = words_in (seg c.answer.new.arena) in
+    let p = c.args.object in
+    let root = c.args.schema in
+    let calls = c.args.calls.now in
+    let all = map call_view calls in
+    let i : ℕ = c.loop-call.call-index in
+    let this : Call = c.call-item.result in
+    let behind : List Call = drop (i + 1) calls in
+    let split : drop i calls ≡ this ∷ behind =
+    drop-cons calls i this c.loop-call-test.true ∙ ap (λ x. x ∷ drop (suc i) calls) (sym c.call-item.is) ∙ ap (λ n. this ∷ drop n calls) (sym (add-one i)) in
+    let whole : calls ≡ take i calls ++ this ∷ behind = sym (take-append-drop i calls) ∙ ap (λ xs. take i calls ++ xs) split in
+    let parts : all ≡ map call_view (take i calls) ++ call_view this ∷ map call_view behind = ap (map call_view) whole ∙ map-append call_view (take i calls) (this ∷ behind) in
+    let told = map reply_view c.loop-call.replies.items in
+    let so_far : SoFar s u p root (map call_view (take i calls)) (call_view this ∷ map call_view behind) all told = subst (λ rest. SoFar s u p root (map call_view (take i calls)) rest all told) (ap (map call_view) split) c.loop-call.invariant.so_far in
+    let r = err_from_is_err_and c.from_residual.result c.from_residual.ensures.1 in
+    rw (r.1, r.2) (stops_next c.changes_of_objects.ensures.owned s u v p root (map call_view (take i calls)) (call_view this) (map call_view behind) all told c.in_err-answer.field-0.0 parts so_far c.in_err-answer.ensures.stops)
+
+pub returns-in_err-push-clause-stops : goal.returns-in_err-push-clause-stops
+returns-in_err-push-clause-stops g c =
+    let seg = g.A.ReaderArena.segments in
+    let s = words_in (seg c.args.arena.now) in
+    let u = words_in (seg c.loop-call.arena) in
+    let v = words_in (seg c.answer.new.arena) in
+    let p = c.args.object in
+    let root = c.args.schema in
+    let calls = c.args.calls.now in
+    let all = map call_view calls in
+    let i : ℕ = c.loop-call.call-index in
+    let this : Call = c.call-item.result in
+    let behind : List Call = drop (i + 1) calls in
+    let split : drop i calls ≡ this ∷ behind =
+    drop-cons calls i this c.loop-call-test.true ∙ ap (λ x. x ∷ drop (suc i) calls) (sym c.call-item.is) ∙ ap (λ n. this ∷ drop n calls) (sym (add-one i)) in
+    let whole : calls ≡ take i calls ++ this ∷ behind = sym (take-append-drop i calls) ∙ ap (λ xs. take i calls ++ xs) split in
+    let front : List ModelCall = map call_view (take i calls) in
+    let parts : all ≡ front ++ call_view this ∷ map call_view behind = ap (map call_view) whole ∙ map-append call_view (take i calls) (this ∷ behind) in
+    let told = map reply_view c.loop-call.replies.items in
+    let so_far : SoFar s u p root front (call_view this ∷ map call_view behind) all told = subst (λ rest. SoFar s u p root front rest all told) (ap (map call_view) split) c.loop-call.invariant.so_far in
+    let next = one_more c.changes_of_objects.ensures.owned c.changes_of_objects.ensures.again s u v p root front (call_view this) (map call_view behind) all told (reply_view c.in_ok-answer.field-0) so_far c.in_ok-answer.ensures.answer in
+    let r = err_from_is_err_and c.from_residual-in_err-push.result c.from_residual-in_err-push.ensures.1 in
+    rw (r.1, r.2) (stops_behind s v p root (front ++ call_view this ∷ []) (map call_view behind) all (told ++ reply_view c.in_ok-answer.field-0 ∷ []) _ (parts ∙ sym (append_assoc front (call_view this ∷ []) (map call_view behind))) refl next)

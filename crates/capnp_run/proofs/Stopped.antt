@@ -1,0 +1,98 @@
+-- Calls in turn that stop early.
+use Rattle.std.proofs.Common.{◌≡◌, ℕ, ◌+◌, ◌^◌, ◌≤◌, true, false, Bool, Some, inl, inr, Result, Ok, Err, List, [], ◌∷◌, ◌++◌, refl, ap, sym, ◌∙◌, subst, arith}
+use Rattle.std.specs.Option.{is_some}
+use Rattle.std.specs.Prelude.{IfErr}
+use Rattle.capnp_units.specs.declared.errors.Error.{Error}
+use Rattle.capnp_units.specs.declared.kinds.ErrorKind.TheVariants.{OutOfMemory}
+use Rattle.capnp_model.specs.Segments.{Segments, words_at}
+use Rattle.capnp_model.specs.Coverage.{Grows}
+use Rattle.capnp_model.specs.Trees.{Tree, Trees, structure}
+use Rattle.capnp_model.specs.Calls.{Call}
+use Rattle.capnp_model.specs.Answers.{Reply, reply_done, edits}
+use Rattle.capnp_wire.specs.Places.{place_view}
+use Rattle.capnp_footprints.specs.Changes.{ReplacesObject}
+use Rattle.capnp_footprints.specs.Footprints.{OwnsObject}
+use Rattle.capnp_footprints.proofs.lemmas.Algebra.{changes_nothing}
+use Rattle.capnp_copy.specs.Structs.{struct_at}
+use Rattle.capnp_copy.specs.declared.fields.StructPlace.{StructPlace}
+use Rattle.capnp_queries.specs.Structs.{schema_around, id_of}
+use Rattle.capnp_queries.specs.declared.structs.StructSchema.{StructSchema}
+use Rattle.capnp_dynamic.specs.Grown.{GrowsAround}
+use Rattle.capnp_calls.specs.LongLists.{content_put}
+use Rattle.capnp_calls.specs.Sizes.{content_len}
+use Rattle.capnp_run.specs.declared.fault.RunFault.{RunFault}
+use Rattle.capnp_run.specs.declared.fault.RunFault.TheVariants as faults
+use Rattle.capnp_run.specs.Runs.{TestsAt, FailsAt, StopsBy, Stops, StopsAt}
+use Rattle.capnp_run.proofs.Levels.{After}
+use Rattle.capnp_run.proofs.Standing.{words}
+use Rattle.capnp_run.proofs.OneCall.{told_done, outcome}
+use Rattle.capnp_run.proofs.InTurn.{SoFar}
+
+stays_grown : (s : Segments) → Grows s s
+stays_grown s i xs at = (xs, at, omega arith)
+
+-- a struct that is owned is there
+pub fails_nowhere : (s : Segments) (p : StructPlace) (root : StructSchema) (c : Call) (fault : RunFault) → is_some (words_at s (place_view p.start) (p.data_words + p.pointers)) ≡ false → FailsAt s s p root c fault
+fails_nowhere s p root c fault none n section kids most owns =
+    let there = words n s (place_view p.start) p.data_words p.pointers section kids owns.means in
+    absurd (cc (sym none ∙ ap is_some there.1))
+
+-- memory for a reply is refused
+pub fails_before : (s : Segments) (p : StructPlace) (root : StructSchema) (c : Call) (e : Error) → e.kind ≡ OutOfMemory → FailsAt s s p root c (faults.Refused e)
+fails_before s p root c e memory n section kids most owns = (stays_grown s, inl memory)
+
+-- a call that is done isn't written
+pub fails_written : (s u : Segments) (p : StructPlace) (root : StructSchema) (c : Call) (fault : RunFault) → TestsAt s p root c reply_done → GrowsAround s u p → (fault ≡ faults.Size → 2 ^ 29 ≤ content_len (content_put root c)) → FailsAt s u p root c fault
+fails_written s u p root c faults.Size tests grows long n section kids most owns =
+    (grows n section kids owns, record { is_done = told_done (schema_around root) (outcome root c p.data_words (record { section = section; kids = kids })) (tests n section kids most owns); is_long = long refl })
+fails_written s u p root c (faults.Refused e) tests grows long n section kids most owns =
+    (grows n section kids owns, inr (told_done (schema_around root) (outcome root c p.data_words (record { section = section; kids = kids })) (tests n section kids most owns)))
+
+-- what stands when the calls before had their effect, and memory for the replies is refused
+pub stops_behind : (s u : Segments) (p : StructPlace) (root : StructSchema) (before behind all : List Call) (told : List Reply) (e : Error) → all ≡ before ++ behind → e.kind ≡ OutOfMemory → SoFar s u p root before behind all told → StopsAt s u p root all (faults.Refused e)
+stops_behind s u p root before behind all told e split memory so_far n section kids most owns =
+    let a = so_far n section kids most owns in record {
+      before = before;
+      behind = behind;
+      split = split;
+      mid = u;
+      made = subst (ReplacesObject n s u (struct_at p)) a.3.tree a.2;
+      grows = stays_grown u;
+      why = by behind (edits (schema_around root) (id_of root) before (structure p.data_words section kids));
+    }
+  where
+    by : (cs : List Call) (t : Tree) → StopsBy root cs t (faults.Refused e)
+    by [] t = memory
+    by (c ∷ cs) t = inl memory
+
+-- and the next fails
+pub stops_next : After → (s u v : Segments) (p : StructPlace) (root : StructSchema) (before : List Call) (c : Call) (behind all : List Call) (told : List Reply) (fault : RunFault) → all ≡ before ++ c ∷ behind → SoFar s u p root before (c ∷ behind) all told → FailsAt u v p root c fault → StopsAt s v p root all fault
+stops_next after s u v p root before c behind all told fault split so_far fails n section kids most owns =
+    let a = so_far n section kids most owns in
+    let owned = after n s u (struct_at p) (structure p.data_words section kids) (structure p.data_words a.0 a.1) owns a.2 in
+    let f = fails n a.0 a.1 most owned in record {
+      before = before;
+      behind = c ∷ behind;
+      split = split;
+      mid = u;
+      made = subst (ReplacesObject n s u (struct_at p)) a.3.tree a.2;
+      grows = f.0;
+      why = subst (λ (t : Tree). StopsBy root (c ∷ behind) t fault) a.3.tree f.1;
+    }
+
+-- nothing is made before the ways are found
+pub stops_first : (s : Segments) (p : StructPlace) (root : StructSchema) (all : List Call) (e : Error) → e.kind ≡ OutOfMemory → StopsAt s s p root all (faults.Refused e)
+unfolding edits
+stops_first s p root all e memory n section kids most owns = record {
+  before = [];
+  behind = all;
+  split = refl;
+  mid = s;
+  made = record { means = owns.means; changes = changes_nothing s _ };
+  grows = stays_grown s;
+  why = by all;
+}
+  where
+    by : (cs : List Call) → StopsBy root cs (structure p.data_words section kids) (faults.Refused e)
+    by [] = memory
+    by (c ∷ cs) = inl memory
