@@ -15,7 +15,7 @@ use Rattle.capnp_copy.specs.declared.room.Room.{Room}
 use Rattle.capnp_copy.proofs.lemmas.Taken.{room_bounds}
 use Rattle.capnp_widening.specs.MovedElements.{least_words, least_pointers}
 use Rattle.capnp_widening.specs.Widened.{WiderRoom, TakesNear, NoWiderRoom, ObjectTakes, StructTakes, ObjectLacks, StructLacks}
-use Rattle.capnp_widening.specs.WidenedLists.{list_there, words_wanted, words_of_structs, ListTakesAtMost, ListLacks}
+use Rattle.capnp_widening.specs.WidenedLists.{list_there, words_of_structs, ListTakesAtMost, ListLacks}
 
 pub wider_bounds : (s m : Segments) (p : Place) (segment n pads : ℕ) (room : Room) (pad : Option code.Place) → 0 < n → WiderRoom s m p segment n pads room pad → TakesAtMost s m n (1 + pads)
 wider_bounds s m p segment n pads room None l r = let b = room_bounds s m p n room r.0 in (omega (arith, b.0), λ z. absurd (omega (arith, z, l)))
@@ -78,12 +78,16 @@ list_takes_most s u slot old d k d' k' there ed ek h = λ o is. (
     subst (λ (x : ListPlace). TakesAtMost s u (words_of_structs x d k) (1 + 2 * (x.count * least_pointers x))) same h2
     )
 
-pub list_lacks : (s : Segments) (free : List ℕ) (i : ℕ) (there : Result ListPlace Kind) (old : ListPlace) (d k d' k' : ℕ) → there ≡ Ok old → d' ≡ max d (least_words old) → k' ≡ max k (least_pointers old) → NoWiderRoom s free i old.start.segment (1 + old.count * (d' + k')) (2 * (old.count * least_pointers old)) ⊎ (2 ^ 29 ≤ words_wanted old d' k') → ListLacks s free i there d k
+pub list_lacks : (s : Segments) (free : List ℕ) (i : ℕ) (there : Result ListPlace Kind) (old : ListPlace) (d k d' k' : ℕ) → there ≡ Ok old → d' ≡ max d (least_words old) → k' ≡ max k (least_pointers old) → NoWiderRoom s free i old.start.segment (1 + old.count * (d' + k')) (2 * (old.count * least_pointers old)) → ListLacks s free i there d k
 list_lacks s free i there old d k d' k' is ed ek h =
-    let h1 = subst (λ (x : ℕ). NoWiderRoom s free i old.start.segment (1 + old.count * (x + k')) (2 * (old.count * least_pointers old)) ⊎ (2 ^ 29 ≤ words_wanted old x k')) ed h in
-    let h2 = subst (λ (x : ℕ). NoWiderRoom s free i old.start.segment (1 + old.count * (max d (least_words old) + x)) (2 * (old.count * least_pointers old)) ⊎ (2 ^ 29 ≤ words_wanted old (max d (least_words old)) x)) ek h1 in
+    let h1 = subst (λ (x : ℕ). NoWiderRoom s free i old.start.segment (1 + old.count * (x + k')) (2 * (old.count * least_pointers old))) ed h in
+    let h2 = subst (λ (x : ℕ). NoWiderRoom s free i old.start.segment (1 + old.count * (max d (least_words old) + x)) (2 * (old.count * least_pointers old))) ek h1 in
     subst (λ (x : Result ListPlace Kind). ListLacks s free i x d k) (sym is) h2
 
 pub whole_unless_null : (s : Segments) (p : Place) (o : ListPlace) → (word_at s p ≡ Some 0 → ⊥) → LiesAt s p o → IsWhole s o
 whole_unless_null s p o not_null (inl e) = absurd (not_null e.0)
 whole_unless_null s p o not_null (inr h) = h
+
+-- more words than a message may have have no room
+pub long_lacks : (s : Segments) (free : List ℕ) (i j n pads : ℕ) → 2 ^ 29 ≤ n → NoWiderRoom s free i j (1 + n) pads
+long_lacks s free i j n pads l = (λ e h. omega (arith, l, h.2), λ e h. omega (arith, l, h.2), λ h. omega (arith, l, h.2))

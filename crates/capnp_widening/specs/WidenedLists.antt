@@ -67,7 +67,7 @@ ListTakesAtMost s u slot d k = (o : ListPlace) → list_there s slot ≡ Ok o �
 -- There was no room for a new list in place of one.
 abbrev pub ListLacks : Segments → List ℕ → ℕ → Result ListPlace Kind → ℕ → ℕ → Type 0
 ListLacks s free i (Err kind) d k = Unit {0}
-ListLacks s free i (Ok o) d k = NoWiderRoom s free i o.start.segment (words_of_structs o d k) (2 * (o.count * least_pointers o)) ⊎ (2 ^ 29 ≤ words_wanted o (max d (least_words o)) (max k (least_pointers o)))
+ListLacks s free i (Ok o) d k = NoWiderRoom s free i o.start.segment (words_of_structs o d k) (2 * (o.count * least_pointers o))
 
 -- Why no such list is given: what is there is no list, or one of bits; or the words of a new list in place of a narrower one are refused.
 abbrev pub ListRefused : Segments → Place → Result ListPlace Kind → ℕ → ℕ → Error → Type 0
@@ -83,7 +83,7 @@ pub record WidensToList (old new : ArenaState) (slot : code.Place) (was : ListPl
   pub inside : IfOk r (IsWhole (words_in new.segments))
   pub taken : OnOk r (TakesNearObject old new slot was.start.segment (1 + was.count * (wanted.data_words + wanted.pointers)))
   pub bound : OnOk r (TakesAtMost (words_in old.segments) (words_in new.segments) (1 + was.count * (wanted.data_words + wanted.pointers)) (1 + 2 * (was.count * least_pointers was)))
-  pub full : OnErr r (LacksWiderRoom old slot was.start.segment (1 + was.count * (wanted.data_words + wanted.pointers)) (2 * (was.count * least_pointers was)) ⊎ (2 ^ 29 ≤ words_wanted was wanted.data_words wanted.pointers))
+  pub full : OnErr r (LacksWiderRoom old slot was.start.segment (1 + was.count * (wanted.data_words + wanted.pointers)) (2 * (was.count * least_pointers was)))
   pub refused : OnErr r (new.segments ≡ old.segments)
   pub kind : IfErr r (GrowthRefused (words_in old.segments) (words_wanted was wanted.data_words wanted.pointers))
   pub books : new.books ≡ old.books

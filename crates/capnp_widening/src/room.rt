@@ -10,23 +10,25 @@ ghost use Rattle.capnp_widening.specs.Widened.{MakesWiderRoom, TakesNearObject, 
 
 use capnp_copy::arena::BuilderArena;
 use capnp_copy::room::Room;
-use capnp_units::errors::Result;
+use capnp_copy::segments::MOST_WORDS;
+use capnp_units::errors::{Error, Result};
+use capnp_units::kinds::ErrorKind;
 use capnp_units::sizes::SegmentId;
 use capnp_wire::place::Place;
 
 /// Allocates words for a wider object that the pointer at a place will name: in the old object's segment where that has room for them, behind a pad of one word where the pointer is in another, so that the pointers that move to it reach what they lead to. Else behind a pad in any segment, with so many words more, for pads of those pointers, whose place is answered. Nothing is written.
 ///
-/// It is refused with `SizeOverflow` just where the message's words would pass 2^29 - 1, all pads counted, else as the allocator refuses; then nothing is allocated.
+/// It is refused only where there is no room so: with `SizeOverflow` just where the message's words would pass 2^29 - 1, all pads counted, else as the allocator refuses; then nothing is allocated.
 pub fn allocate_wider<A: BuilderArena>(
     arena: &mut A,
     slot: Place,
     segment: SegmentId,
     words: u32,
-    pads: u32,
+    pads: u64,
 ) -> Result<(Room, Option<Place>)>
     requires there { is_some (word_at (words_in (A.segments arena.old)) (place_view slot)) ≡ true }
     requires some { 0 < words }
-    requires few { (words ≤ 2 ^ 29) × (pads ≤ 2 ^ 30) }
+    requires few { words ≤ 2 ^ 29 }
     ensures ok { let at = state_in A.segments A.room A.books in IfOk result
         (MakesWiderRoom (at arena.old) (at arena.new) slot segment words pads) }
     ensures near { let at = state_in A.segments A.room A.books in OnOk result
@@ -50,7 +52,10 @@ pub fn allocate_wider<A: BuilderArena>(
         };
         return Ok((Room::Far { pad }, None));
     }
-    let (segment, at) = arena.allocate_anywhere(1 + (words + pads))?;
+    if pads > MOST_WORDS as u64 {
+        return Err(Error::from(ErrorKind::SizeOverflow));
+    }
+    let (segment, at) = arena.allocate_anywhere(1 + (words + pads as u32))?;
     let pad = Place {
         segment,
         position: at as usize,

@@ -10,7 +10,7 @@ ghost use Rattle.capnp_copy.specs.Refusals.{IsSizeOrRefusal};
 ghost use Rattle.capnp_copy.specs.States.{state_in};
 ghost use Rattle.capnp_copy.specs.Values.{LeadsTo};
 ghost use Rattle.capnp_widening.specs.MovedElements.{least_words, least_pointers};
-ghost use Rattle.capnp_widening.specs.WidenedLists.{list_there, IsWideList, words_wanted, WidensToList, GetsStructList};
+ghost use Rattle.capnp_widening.specs.WidenedLists.{list_there, IsWideList, WidensToList, GetsStructList};
 
 use crate::elements::fill_elements;
 use crate::lists::get_list;
@@ -51,27 +51,28 @@ fn is_wide(list: ListPlace, size: StructSize) -> bool
         && list.pointers >= size.pointers
 }
 
-/// The words of a new list of structs without its tag, and of two for each pointer of the old list. It is refused with `SizeOverflow` where they, with the tag and a pad, pass 2^29 - 1.
-fn words_of_wider(old: ListPlace, size: StructSize) -> Result<(u32, u32)>
+/// The words of a new list of structs without its tag, and of two for each pointer of the old list. It is refused with `SizeOverflow` where the structs' pass 2^29 - 1.
+fn words_of_wider(old: ListPlace, size: StructSize) -> Result<(u32, u64)>
     requires short { (size.data_words + size.pointers ≡ 0) → (old.count < 2 ^ 29) }
     ensures words { IfOk result (λ r.
         (r.0 ≡ old.count * (size.data_words + size.pointers))
         × (r.1 ≡ 2 * (old.count * least_pointers old))) }
-    ensures few { IfOk result (λ r. (old.count < 2 ^ 29) × (r.0 + 2 + r.1 < 2 ^ 29)) }
+    ensures few { IfOk result (λ r. (old.count < 2 ^ 29) × (r.0 < 2 ^ 29)) }
     ensures kind { IfErr result (λ e.
-        (e.kind ≡ SizeOverflow) × (2 ^ 29 ≤ words_wanted old size.data_words size.pointers)) }
+        (e.kind ≡ SizeOverflow)
+        × (2 ^ 29 ≤ old.count * (size.data_words + size.pointers))) }
 {
     let words = old.count as u64 * size.total() as u64;
     let pads = 2 * (old.count as u64 * element_size(old).pointers as u64);
-    if words + 2 + pads > MOST_WORDS as u64 {
+    if words > MOST_WORDS as u64 {
         return Err(Error::from(ErrorKind::SizeOverflow));
     }
-    Ok((words as u32, pads as u32))
+    Ok((words as u32, pads))
 }
 
 /// Puts a list of wider structs in place of one that the pointer at a place names: what its elements hold moves, and its own words and the pads become zero.
 ///
-/// It is refused with `SizeOverflow` just where the message's words would pass 2^29 - 1, the tag, a pad and two words for each pointer of the old list counted, else as the allocator refuses; then all stands as it was.
+/// It is refused only where there is no room beside the old list and none for the new one anywhere, behind a pad and with two words for each pointer of the old list: with `SizeOverflow` just where the message's words with all these would pass 2^29 - 1, else as the allocator refuses; then all stands as it was.
 fn widen_list<A: BuilderArena>(
     arena: &mut A,
     slot: Place,
@@ -113,7 +114,7 @@ fn widen_list<A: BuilderArena>(
 
 /// The list that the pointer at a place names, near or far, as one of structs with at least these sections. A list of structs that are wide enough stays where it is. One of narrower structs, of numbers, of pointers or of voids is widened: each element becomes a struct with the greater of both sizes and keeps all that it holds, a number in the lowest bits of the first data word and a pointer as the first pointer; it gets zeros and nulls, and what is left behind becomes zero. Null stays, and has the empty list, at the pointer itself.
 ///
-/// It is refused as a reader refuses what is there (`object_at`); with `WrongPointerKind` where a struct or a capability is there, and with `WrongElementSize` where a list of bits is; with `SizeOverflow` just where the words of a new list and its tag, of a pad, and two for each pointer of the old list, would make the message's pass 2^29 - 1; else as the allocator refuses. Then all stands as it was.
+/// It is refused as a reader refuses what is there (`object_at`); with `WrongPointerKind` where a struct or a capability is there, and with `WrongElementSize` where a list of bits is; and where a new list has no room beside the old one, with `SizeOverflow` just where its words and its tag, a pad, and two words for each pointer of the old list would make the message's pass 2^29 - 1; else as the allocator refuses. Then all stands as it was.
 pub fn get_struct_list<A: BuilderArena>(
     arena: &mut A,
     slot: Place,

@@ -45,7 +45,7 @@ fn widen_struct<A: BuilderArena>(
         WidensStruct (at arena.old) (at arena.new) slot old size result
         (IsSizeOrRefusal A.refuses) }
 {
-    let pad_words = 2 * old.pointers as u32;
+    let pad_words = 2 * old.pointers as u64;
     let (room, pads) = allocate_wider(arena, slot, old.start.segment, size.total(), pad_words)?;
     let start = begin_of(slot, room);
     copy_words(arena, old.start, start, old.data_words as u32);

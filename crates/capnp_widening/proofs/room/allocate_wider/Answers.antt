@@ -56,3 +56,17 @@ returns-in_err-segment-clause-full g c =
           (λ i. absurd (other i), λ o. w.in_default-allocate.ensures.full, last_full (segments now) (segments old) (free now) (free old) n (ap segments w.arena-is ∙ w.in_default-allocate.ensures.none) (ap free w.arena-is ∙ w.in_default-allocate.ensures.kept) c.in_err-segment.ensures.full)
           )
     ])
+
+pub returns-then-pads-clause-full : goal.returns-then-pads-clause-full
+returns-then-pads-clause-full g c =
+    let many = c.if-pads.true in
+    elim c.if-slot-segment.branch [
+      | then-slot-segment+in_default w ↦ (
+          let same : c.args.slot.segment ≡ c.args.segment = search rules in
+          (λ i. w.in_default.ensures.full, λ other. absurd (other same), λ h. omega (arith, many, h.2))
+          )
+      | else-slot-segment+in_default-allocate w ↦ (
+          let other : c.args.slot.segment ≡ c.args.segment → ⊥ = search rules in
+          (λ i. absurd (other i), λ o. w.in_default-allocate.ensures.full, λ h. omega (arith, many, h.2))
+          )
+    ]

@@ -1,4 +1,4 @@
-use Rattle.std.proofs.Common.{◌≡◌, ◌+◌, ◌*◌, ℕ, length, map, true, IfErr, OnErr, inl, [], ◌∷◌, refl, ap, sym, ◌∙◌, subst, rules, arith}
+use Rattle.std.proofs.Common.{◌≡◌, ◌+◌, ◌*◌, ℕ, length, map, ◌^◌, ◌≤◌, true, IfErr, OnErr, inl, [], ◌∷◌, refl, ap, sym, ◌∙◌, subst, rules, arith}
 use Rattle.std.specs.Option.{is_some}
 use Rattle.capnp_model.specs.Segments.{Segments, Place, after, words_at}
 use Rattle.capnp_model.specs.Pointers.{a_list}
@@ -14,7 +14,8 @@ use Rattle.capnp_copy.specs.declared.init.ListPlace.{ListPlace}
 use Rattle.capnp_copy.proofs.lemmas.RoomLaws.{still_some, sizes_grow, word_there, pad_stays, still_linked}
 use Rattle.capnp_copy.proofs.lemmas.Parts.{section_there, front_there}
 use Rattle.capnp_copy.proofs.lemmas.ZeroedWords.{written_sizes}
-use Rattle.capnp_widening.proofs.Bounds.{on_err, wider_bounds}
+use Rattle.std.proofs.lemmas.Result.{err_from_is_err_and}
+use Rattle.capnp_widening.proofs.Bounds.{long_lacks, wider_bounds}
 use Rattle.capnp_widening.proofs.lemmas.WholeLists.{structs_whole}
 use Rattle.capnp_copy.specs.Rooms.{begin_of, linked}
 use Rattle.capnp_copy.specs.Values.{LeadsTo}
@@ -44,7 +45,7 @@ returns-in_err-room g c =
       inside = search rules;
       taken = search rules;
       bound = search rules;
-      full = on_err inl c.from_residual-in_err-room.result h2;
+      full = h2;
       refused = search rules;
       kind = subst (λ (n : ℕ). IfErr c.from_residual-in_err-room.result (GrowthRefused s n)) sum (search rules);
       books = search rules;
@@ -276,4 +277,24 @@ returns g c =
       kind = tt;
       books = c.link.ensures.books ∙ (c.clear.ensures.books ∙ (c.fill_elements.ensures.books ∙ (c.write_word.ensures.books ∙ c.in_ok-room.ensures.books)));
       cause = tt;
+    }
+
+pub returns-in_err-words : goal.returns-in_err-words
+returns-in_err-words g c =
+    let s = words_in (g.A.ReaderArena.segments c.args.arena.now) in
+    let p = err_from_is_err_and c.from_residual.result c.from_residual.ensures.1 in
+    let long = c.in_err-words.ensures.kind.1 in
+    record {
+      value = search rules;
+      object = search rules;
+      list = search rules;
+      there = search rules;
+      inside = search rules;
+      taken = search rules;
+      bound = search rules;
+      full = rw p.1 (long_lacks s (g.A.BuilderArena.room c.args.arena.now) c.args.slot.segment c.args.old.start.segment (c.args.old.count * (c.args.size.data_words + c.args.size.pointers)) (2 * (c.args.old.count * least_pointers c.args.old)) c.in_err-words.ensures.kind.1);
+      refused = search rules;
+      kind = rw (p.1, p.2) (λ k. omega (arith, long), λ l. c.in_err-words.ensures.kind.0);
+      books = search rules;
+      cause = rw (p.1, p.2) (inl c.in_err-words.ensures.kind.0);
     }

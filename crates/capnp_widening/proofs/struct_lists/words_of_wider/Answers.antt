@@ -5,8 +5,8 @@ use Rattle.capnp_widening.proofs.struct_lists.words_of_wider.Goals as goal
 
 pub returns-clause-few : goal.returns-clause-few
 returns-clause-few c =
-    let within = c.if-words-pads.false in
-    let all : c.args.old.count * c.total.result + 2 + 2 * (c.args.old.count * c.element_size.result.pointers) < 2 ^ 29 = omega (arith, within) in
+    let within = c.if-words.false in
+    let all : c.args.old.count * c.total.result < 2 ^ 29 = omega (arith, within) in
     let few : c.args.old.count < 2 ^ 29 = elim (cases_lt 0 c.total.result) [
       | inl l ↦ omega (arith, all, times_some c.args.old.count c.total.result l)
       | inr l ↦ c.requires.short (omega (arith, l, c.total.ensures))
