@@ -11,5 +11,6 @@ mod NodesFound
 mod Bodies
 mod Ways
 mod AllKept
+mod OlderViews
 mod ExtendedGroups
 mod FirstRefused

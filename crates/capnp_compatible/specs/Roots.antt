@@ -1,11 +1,15 @@
 -- What contracts say of two roots.
-use Rattle.std.specs.Prelude.{Bool, List}
+use Rattle.std.specs.Prelude.{◌≡◌, Bool, List}
+use Rattle.capnp_model.specs.Trees.{Tree}
 use Rattle.capnp_model.specs.Schemas.{Schema}
+use Rattle.capnp_model.specs.Readings.{Record, record_of}
+use Rattle.capnp_model.specs.Projection.{projected}
 use Rattle.capnp_model.specs.Calls.{Call}
 use Rattle.capnp_model.specs.Accepted.{schema_of}
 use Rattle.capnp_model.specs.Partners.{Renaming}
 use Rattle.capnp_model.specs.Compatible.{IsCompatible, IsCompatibleWith}
 use Rattle.capnp_model.specs.Admitted.{is_admitted, is_admitted_with}
+use Rattle.capnp_versions.specs.RenamedViews.{projected_with}
 use Rattle.capnp_records.specs.Sets.{nodes_of}
 use Rattle.capnp_compatible.specs.declared.root.Root.{Root}
 
@@ -20,6 +24,18 @@ AreCompatible older newer = IsCompatible (schema_at older) (schema_at newer) old
 -- The same with renamed fields.
 abbrev pub AreCompatibleWith : List Renaming → Root → Root → Type 0
 AreCompatibleWith rs older newer = IsCompatibleWith rs (schema_at older) (schema_at newer) older.id newer.id
+
+-- The record of a value under a root.
+abbrev pub record_at : Root → Tree → Record
+record_at r t = record_of (schema_at r) r.id t
+
+-- The older record of each value is the older view of its newer record.
+abbrev pub IsViewed : Root → Root → Type 0
+IsViewed older newer = (t : Tree) → record_at older t ≡ projected (schema_at older) older.id (record_at newer t)
+
+-- The same with renamed fields, each by its older name.
+abbrev pub IsViewedWith : List Renaming → Root → Root → Type 0
+IsViewedWith rs older newer = (t : Tree) → record_at older t ≡ projected_with rs (schema_at older) older.id (record_at newer t)
 
 -- A call under the older root is admitted beside the newer.
 abbrev pub is_admitted_at : Root → Root → Call → Bool

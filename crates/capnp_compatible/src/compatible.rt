@@ -1,11 +1,11 @@
 //! Compatible schemas.
 
-ghost use Rattle.std.specs.Prelude.{◌≡◌, IfOk, IfErr};
+ghost use Rattle.std.specs.Prelude.{◌≡◌, true, IfOk, IfErr};
 ghost use Rattle.std.specs.Bool.{MatchBool};
 ghost use Rattle.capnp_units.specs.declared.kinds.ErrorKind.TheVariants.{OutOfMemory};
 ghost use Rattle.capnp_records.specs.Sets.{nodes_of};
 ghost use Rattle.capnp_compatible.specs.Holders.{nodes_in};
-ghost use Rattle.capnp_compatible.specs.Roots.{AreCompatible, AreCompatibleWith};
+ghost use Rattle.capnp_compatible.specs.Roots.{AreCompatible, AreCompatibleWith, IsViewed, IsViewedWith};
 ghost use Rattle.capnp_compatible.specs.Renamed.{names_in, renamings_of};
 ghost use Rattle.capnp_compatible.specs.Walks.{AreIndexed, IsKeptFrom, are_alike};
 
@@ -15,7 +15,9 @@ use crate::nodes::Nodes;
 use crate::reached::Reached;
 use crate::renamings::Renamings;
 use crate::root::Root;
+use capnp_model::laws::older_records;
 use capnp_units::errors::Result;
+use capnp_versions::laws_of_renamings::records_by_older_names;
 use std::alloc::{AllocError, Global};
 
 /// The two versions.
@@ -75,9 +77,9 @@ fn all_kept(
 }
 
 /// Whether the newer schema is compatible with the older from the two roots on, where fields are renamed: each older field is
-/// kept by its partner, the newer field of its renamed name, and no two have one partner. A renaming of a node or field that isn't
-/// reached has no effect. Takes time linear in the pairs of structs that are reached times their fields. `OutOfMemory` is the one
-/// error.
+/// kept by its partner, the newer field of its renamed name, and no two have one partner. Where it says yes, the older record of
+/// each value is the older view of its newer record, each field by its older name. A renaming of a node or field that isn't reached
+/// has no effect. Takes time linear in the pairs of structs that are reached times their fields. `OutOfMemory` is the one error.
 pub fn compatible_with(
     alloc: Global,
     older: Root<'_>,
@@ -87,8 +89,11 @@ pub fn compatible_with(
     ensures answer { IfOk result (λ b.
         MatchBool b (AreCompatibleWith (renamings_of renamings.now) older.entry newer.entry)
         (AreCompatibleWith (renamings_of renamings.now) older.entry newer.entry → ⊥)) }
+    ensures view { IfOk result (λ b.
+        b ≡ true → IsViewedWith (renamings_of renamings.now) older.entry newer.entry) }
     ensures refusal { IfErr result (λ e. e.kind ≡ OutOfMemory) }
 {
+    records_by_older_names();
     let versions = versions(alloc, older, newer, renamings)?;
     if !are_alike(
         versions.older.is_group(older.id),
@@ -101,13 +106,15 @@ pub fn compatible_with(
 }
 
 /// Whether the newer schema is compatible with the older from the two roots on: whatever is written under the older reads
-/// the same under the newer, field by field. Takes time linear in the pairs of structs that are reached times their fields.
-/// `OutOfMemory` is the one error.
+/// the same under the newer, field by field. Where it says yes, the older record of each value is the older view of its newer
+/// record. Takes time linear in the pairs of structs that are reached times their fields. `OutOfMemory` is the one error.
 pub fn compatible(alloc: Global, older: Root<'_>, newer: Root<'_>) -> Result<bool>
     ensures answer { IfOk result (λ b.
         MatchBool b (AreCompatible older.entry newer.entry)
         (AreCompatible older.entry newer.entry → ⊥)) }
+    ensures view { IfOk result (λ b. b ≡ true → IsViewed older.entry newer.entry) }
     ensures refusal { IfErr result (λ e. e.kind ≡ OutOfMemory) }
 {
+    older_records();
     compatible_with(alloc, older, newer, &Renamings::none(alloc))
 }

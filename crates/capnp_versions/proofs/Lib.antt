@@ -56,4 +56,5 @@ mod RenamedShapes
 mod RenamedCalls
 mod OlderNames
 mod PlainViews
+mod RenamedViewExamples
 mod RenamedVersions
