@@ -2,7 +2,7 @@
 use Rattle.std.proofs.Common.{◌≡◌, ℕ, zero, suc, ◌+◌, ◌-◌, ◌*◌, ◌<◌, ◌≤◌, ◌||◌, false, List, length, drop, take, Option, Some, refl, ap, sym, ◌∙◌, subst, arith}
 use Rattle.capnp_model.specs.Sections.{words_of, section_of}
 use Rattle.capnp_model.specs.Segments.{Segments, Place, place, after}
-use Rattle.capnp_model.specs.Trees.{Trees, Elements, no_elements, element, has_capability, have_capability, elements_have_capability, tree_count, element_count}
+use Rattle.capnp_model.specs.Trees.{Tree, Trees, Elements, no_elements, element, has_capability, have_capability, elements_have_capability, tree_count, element_count}
 use Rattle.capnp_model.specs.Traversal.{tree_at, each, each_element}
 use Rattle.capnp_model.specs.Trimming.{trim, trim_each, trim_elements}
 use Rattle.capnp_model.specs.Coverage.{from_each, from_elements}
@@ -20,7 +20,7 @@ use Rattle.capnp_model.proofs.lemmas.Counts.{each_count, each_element_count}
 use Rattle.capnp_canonical.specs.Standing.{Hold, StandEach, StandElements, IsSmall, HasHead}
 use Rattle.capnp_canonical.specs.Checks.{Agrees, Differs}
 use Rattle.capnp_canonical.proofs.lemmas.Checking.{SoFar, Parts, begun, next, differs, stopped, ended}
-use Rattle.capnp_canonical.proofs.CheckedRows.{head_next, row_begun, row_ended}
+use Rattle.capnp_canonical.proofs.CheckedRows.{each_more, head_next, row_begun, row_ended}
 use Rattle.capnp_canonical.proofs.Holding.{hold_none, hold_end, hold_own}
 use Rattle.capnp_canonical.proofs.Parts.{part_there, part_room}
 use Rattle.capnp_canonical.proofs.Rows.{part_section}
@@ -37,22 +37,24 @@ ElementsFrom s p d k i e es = StandElements s (after p (i * (d + k))) d k e (tri
 
 -- The elements before one of them stand, with what their pointers lead to, which is paid.
 pub record ElementsSoFar (n : ℕ) (s : Segments) (p : Place) (count d k head : ℕ) (l : ReadLimiter) (i e : ℕ) (m : ReadLimiter) : Type 0 where
-  pub so_far : SoFar (each_element (tree_at n s) p (words_there s p (count * (d + k))) d k count) (elements_from n s p count d k i) elements_have_capability (λ es. StandElements s p d k head (trim_elements es)) (ElementsFrom s p d k i e)
+  pub so_far : SoFar (each_element (tree_at n s) p (words_there s p (count * (d + k))) d k count) (elements_from n s p count d k i) (λ more. each_element (tree_at (more + n) s) p (words_there s p (count * (d + k))) d k count) (λ more. elements_from (more + n) s p count d k i) elements_have_capability (λ es. StandElements s p d k head (trim_elements es)) (ElementsFrom s p d k i e)
       (from_elements (visits n s) p d k count) (from_elements (visits n s) (after p (i * (d + k))) d k (count - i)) l m
   pub there : HasHead s p (count * (d + k)) e
 
 module _ (n : ℕ) (s : Segments) (p : Place) (count d k head : ℕ) (l : ReadLimiter) where
   pub elements_begun : HasHead s p (count * (d + k)) head → ElementsSoFar n s p count d k head l 0 head l
   elements_begun there =
-      let f = tree_at n s in
+      let g = tree_at n s in
+      let f : ℕ → Place → Option Tree = λ more. tree_at (more + n) s in
       let v = visits n s in
       let ws = words_there s p (count * (d + k)) in
       let here : p.position + 0 * (d + k) ≡ p.position = omega arith in
       let none_before : 0 * (d + k) ≡ 0 = omega arith in
       let words : drop (0 * (d + k)) ws ≡ ws = ap (λ (m : ℕ). drop m ws) none_before in
       record {
-        so_far = begun (each_element f p ws d k count) (elements_from n s p count d k 0) elements_have_capability (λ es. StandElements s p d k head (trim_elements es)) (ElementsFrom s p d k 0 head) (from_elements v p d k count) (from_elements v (after p (0 * (d + k))) d k (count - 0)) l
-            (ap (λ (xs : List ℕ). each_element f (after p (0 * (d + k))) xs d k (count - 0)) words ∙ elements_start p d k count (λ q m. each_element f q ws d k m)) (elements_start p d k count (λ q m. from_elements v q d k m))
+        so_far = begun (each_element g p ws d k count) (elements_from n s p count d k 0) (λ more. each_element (f more) p ws d k count) (λ more. elements_from (more + n) s p count d k 0) elements_have_capability (λ es. StandElements s p d k head (trim_elements es)) (ElementsFrom s p d k 0 head) (from_elements v p d k count) (from_elements v (after p (0 * (d + k))) d k (count - 0)) l
+            (ap (λ (xs : List ℕ). each_element g (after p (0 * (d + k))) xs d k (count - 0)) words ∙ elements_start p d k count (λ q m. each_element g q ws d k m))
+            (λ more. ap (λ (xs : List ℕ). each_element (f more) (after p (0 * (d + k))) xs d k (count - 0)) words ∙ elements_start p d k count (λ q m. each_element (f more) q ws d k m)) (elements_start p d k count (λ q m. from_elements v q d k m))
             (λ es end x. subst (λ (q : ℕ). StandElements s (place p.segment q) d k head (trim_elements es) end) here x) (λ es end x. subst (λ (q : ℕ). StandElements s (place p.segment q) d k head (trim_elements es) end) (sym here) x);
         there = there;
       }
@@ -70,11 +72,11 @@ module _ (n : ℕ) (s : Segments) (p : Place) (count d k head : ℕ) (l : ReadLi
         let spread : (i + suc c) * (d + k) ≡ i * (d + k) + suc c * (d + k) = grind arith in
         omega arith
 
-    rest_count : (es : Elements) → elements_from n s p count d k (i + 1) ≡ Some es → element_count (trim_elements es) ≡ count - (i + 1)
-    rest_count es is = count-trim_elements es ∙ each_element_count (tree_at n s) (after p ((i + 1) * (d + k))) (drop ((i + 1) * (d + k)) (words_there s p (count * (d + k)))) d k (count - (i + 1)) es is
+    rest_count : (m : ℕ) (es : Elements) → elements_from m s p count d k (i + 1) ≡ Some es → element_count (trim_elements es) ≡ count - (i + 1)
+    rest_count m es is = count-trim_elements es ∙ each_element_count (tree_at m s) (after p ((i + 1) * (d + k))) (drop ((i + 1) * (d + k)) (words_there s p (count * (d + k)))) d k (count - (i + 1)) es is
 
-    kids_count : (ts : Trees) → each (tree_at n s) (after (after p (i * (d + k))) d) k ≡ Some ts → tree_count (trim_each ts) ≡ k
-    kids_count ts is = count-trim_each ts ∙ each_count (tree_at n s) (after (after p (i * (d + k))) d) k ts is
+    kids_count : (m : ℕ) (ts : Trees) → each (tree_at m s) (after (after p (i * (d + k))) d) k ≡ Some ts → tree_count (trim_each ts) ≡ k
+    kids_count m ts is = count-trim_each ts ∙ each_count (tree_at m s) (after (after p (i * (d + k))) d) k ts is
 
     -- an element's own words
     own : Hold s (after p (i * (d + k))) (words_of d (section_of (take d (drop (i * (d + k)) (words_there s p (count * (d + k)))))))
@@ -84,19 +86,19 @@ module _ (n : ℕ) (s : Segments) (p : Place) (count d k head : ℕ) (l : ReadLi
         let fit = part_room i count w h in
         subst (λ (x : ℕ). Hold s (after p (i * w)) (words_of d x)) (sym (part_section s p all inside.0 (i * w) d (omega arith))) (hold_own s (after p (i * w)) d (part_there s p all inside.0 (i * w) d (omega arith)) given.whole)
 
-    elements_split : (z : Elements) (end : ℕ) → elements_from n s p count d k i ≡ Some z → elements_have_capability z ≡ false → ElementsFrom s p d k i e z end
-        → Parts (each (tree_at n s) (after (after p (i * (d + k))) d) k) have_capability (λ ts. StandEach s (after (after p (i * (d + k))) d) e (trim_each ts)) (elements_from n s p count d k (i + 1)) elements_have_capability (ElementsFrom s p d k (i + 1)) end
+    elements_split : (more : ℕ) (z : Elements) (end : ℕ) → elements_from (more + n) s p count d k i ≡ Some z → elements_have_capability z ≡ false → ElementsFrom s p d k i e z end
+        → Parts (each (tree_at (more + n) s) (after (after p (i * (d + k))) d) k) have_capability (λ ts. StandEach s (after (after p (i * (d + k))) d) e (trim_each ts)) (elements_from (more + n) s p count d k (i + 1)) elements_have_capability (ElementsFrom s p d k (i + 1)) end
     unfolding has_capability trim
-    elements_split z end is clean stand =
-        let f = tree_at n s in
+    elements_split more z end is clean stand =
+        let f = tree_at (more + n) s in
         let w = d + k in
         let ws = words_there s p (count * w) in
         let section = section_of (take d (drop (i * w) ws)) in
         let a = bind_some (each f (after (after p (i * w)) d) k) _ z (sym (element_next p d k i count h f ws) ∙ is) in
-        let b = bind_some (elements_from n s p count d k (i + 1)) _ z a.2 in
+        let b = bind_some (elements_from (more + n) s p count d k (i + 1)) _ z a.2 in
         let whole : element section a.0 b.0 ≡ z = some_is _ _ b.2 in
         let cleans : have_capability a.0 || elements_have_capability b.0 ≡ false = ap elements_have_capability whole ∙ clean in
-        let x = element_parts s (after p (i * w)) d k e end section (trim_each a.0) (trim_elements b.0) (kids_count a.0 a.1) (room _ (rest_count b.0 b.1)) (subst (λ (es : Elements). ElementsFrom s p d k i e es end) (sym whole) stand) in
+        let x = element_parts s (after p (i * w)) d k e end section (trim_each a.0) (trim_elements b.0) (kids_count (more + n) a.0 a.1) (room _ (rest_count (more + n) b.0 b.1)) (subst (λ (es : Elements). ElementsFrom s p d k i e es end) (sym whole) stand) in
         record {
           first = a.0;
           first_is = a.1;
@@ -121,53 +123,61 @@ module _ (n : ℕ) (s : Segments) (p : Place) (count d k head : ℕ) (l : ReadLi
           element section ts es,
           element_next p d k i count h f ws ∙ rw (is, are) refl,
           rw (clean, cleans) refl,
-          element_both s (after p (i * w)) d k e end section (trim_each ts) (trim_elements es) (kids_count ts is) (room _ (rest_count es are)) e' own x (subst (λ (q : ℕ). StandElements s (place p.segment q) d k e' (trim_elements es) end) (sym next_place) y),
+          element_both s (after p (i * w)) d k e end section (trim_each ts) (trim_elements es) (kids_count n ts is) (room _ (rest_count n es are)) e' own x (subst (λ (q : ℕ). StandElements s (place p.segment q) d k e' (trim_elements es) end) (sym next_place) y),
         )
 
     ends_alike : (ts : Trees) (j m : ℕ) → StandEach s (after (after p (i * (d + k))) d) e (trim_each ts) j → StandEach s (after (after p (i * (d + k))) d) e (trim_each ts) m → j ≡ m
     ends_alike ts j m x y = x.ends ∙ sym y.ends
 
+    -- with more levels an element's pointers have the values that they have
+    kept : (more : ℕ) (ts : Trees) → each (tree_at n s) (after (after p (i * (d + k))) d) k ≡ Some ts → each (tree_at (more + n) s) (after (after p (i * (d + k))) d) k ≡ Some ts
+    kept more ts is = each_more n (more + n) s (after (after p (i * (d + k))) d) k ts (omega arith) is
+
     pub elements_next : (e' : ℕ) (j m : ReadLimiter) → Agrees (each (tree_at n s) (after (after p (i * (d + k))) d) k) have_capability (λ ts. StandEach s (after (after p (i * (d + k))) d) e (trim_each ts)) (from_each (visits n s) (after (after p (i * (d + k))) d) k) j e' m
         → ElementsSoFar n s p count d k head l i e j → ElementsSoFar n s p count d k head l (i + 1) e' m
     elements_next e' j m x f =
-        let t = tree_at n s in
+        let g = tree_at n s in
+        let t : ℕ → Place → Option Tree = λ more. tree_at (more + n) s in
         let v = visits n s in
         let w = d + k in
         let stand = x.stand in
         let here = after (after p (i * w)) d in
         record {
-          so_far = next (each_element t p (words_there s p (count * w)) d k count) (elements_from n s p count d k i) (elements_from n s p count d k (i + 1)) elements_have_capability (λ es. StandElements s p d k head (trim_elements es)) (ElementsFrom s p d k i e) (ElementsFrom s p d k (i + 1))
-              (each t here k) have_capability (λ ts. StandEach s here e (trim_each ts)) (from_elements v p d k count) (from_elements v (after p (i * w)) d k (count - i)) (from_elements v (after p ((i + 1) * w)) d k (count - (i + 1))) (from_each v here k) l j m (elements_met_next p d k i count h v) elements_split
-              (IsSmall s p) e' ends_alike (λ us es end is are clean cleans a b. elements_join e' us es end is are clean cleans a b) x f.so_far;
+          so_far = next (each_element g p (words_there s p (count * w)) d k count) (elements_from n s p count d k i) (elements_from n s p count d k (i + 1)) (λ more. each_element (t more) p (words_there s p (count * w)) d k count) (λ more. elements_from (more + n) s p count d k i) (λ more. elements_from (more + n) s p count d k (i + 1)) elements_have_capability (λ es. StandElements s p d k head (trim_elements es)) (ElementsFrom s p d k i e) (ElementsFrom s p d k (i + 1))
+              (each g here k) (λ more. each (t more) here k) have_capability (λ ts. StandEach s here e (trim_each ts)) (from_elements v p d k count) (from_elements v (after p (i * w)) d k (count - i)) (from_elements v (after p ((i + 1) * w)) d k (count - (i + 1))) (from_each v here k) l j m (elements_met_next p d k i count h v) elements_split
+              e' kept ends_alike (λ us es end is are clean cleans a b. elements_join e' us es end is are clean cleans a b) x f.so_far;
           there = head_next s p (count * w) e e' (bodies (trim_each x.what)) f.there (hold_end s (place p.segment e) (bodies (trim_each x.what)) stand.targets) stand.ends x.near;
         }
 
-    pub elements_differ : (j m : ReadLimiter) → Differs (each (tree_at n s) (after (after p (i * (d + k))) d) k) have_capability (λ ts. StandEach s (after (after p (i * (d + k))) d) e (trim_each ts)) (IsSmall s p) (from_each (visits n s) (after (after p (i * (d + k))) d) k) j m
-        → ElementsSoFar n s p count d k head l i e j → Differs (each_element (tree_at n s) p (words_there s p (count * (d + k))) d k count) elements_have_capability (λ es. StandElements s p d k head (trim_elements es)) (IsSmall s p) (from_elements (visits n s) p d k count) l m
+    pub elements_differ : (j m : ReadLimiter) → Differs (λ more. each (tree_at (more + n) s) (after (after p (i * (d + k))) d) k) have_capability (λ ts. StandEach s (after (after p (i * (d + k))) d) e (trim_each ts)) (IsSmall s p) (from_each (visits n s) (after (after p (i * (d + k))) d) k) j m
+        → ElementsSoFar n s p count d k head l i e j → Differs (λ more. each_element (tree_at (more + n) s) p (words_there s p (count * (d + k))) d k count) elements_have_capability (λ es. StandElements s p d k head (trim_elements es)) (IsSmall s p) (from_elements (visits n s) p d k count) l m
     elements_differ j m x f =
-        let t = tree_at n s in
+        let g = tree_at n s in
+        let t : ℕ → Place → Option Tree = λ more. tree_at (more + n) s in
         let v = visits n s in
         let w = d + k in
         let here = after (after p (i * w)) d in
-        differs (each_element t p (words_there s p (count * w)) d k count) (elements_from n s p count d k i) (elements_from n s p count d k (i + 1)) elements_have_capability (λ es. StandElements s p d k head (trim_elements es)) (ElementsFrom s p d k i e) (ElementsFrom s p d k (i + 1))
-        (each t here k) have_capability (λ ts. StandEach s here e (trim_each ts)) (from_elements v p d k count) (from_elements v (after p (i * w)) d k (count - i)) (from_elements v (after p ((i + 1) * w)) d k (count - (i + 1))) (from_each v here k) l j m (elements_met_next p d k i count h v) elements_split
+        differs (each_element g p (words_there s p (count * w)) d k count) (elements_from n s p count d k i) (elements_from n s p count d k (i + 1)) (λ more. each_element (t more) p (words_there s p (count * w)) d k count) (λ more. elements_from (more + n) s p count d k i) (λ more. elements_from (more + n) s p count d k (i + 1)) elements_have_capability (λ es. StandElements s p d k head (trim_elements es)) (ElementsFrom s p d k i e) (ElementsFrom s p d k (i + 1))
+        (each g here k) (λ more. each (t more) here k) have_capability (λ ts. StandEach s here e (trim_each ts)) (from_elements v p d k count) (from_elements v (after p (i * w)) d k (count - i)) (from_elements v (after p ((i + 1) * w)) d k (count - (i + 1))) (from_each v here k) l j m (elements_met_next p d k i count h v) elements_split
         (IsSmall s p) x f.so_far
 
     pub elements_stopped : (j m : ReadLimiter) (x : Error) → Stopped (from_each (visits n s) (after (after p (i * (d + k))) d) k) j x m → ElementsSoFar n s p count d k head l i e j → Stopped (from_elements (visits n s) p d k count) l x m
     elements_stopped j m x y f =
-        let t = tree_at n s in
+        let g = tree_at n s in
+        let t : ℕ → Place → Option Tree = λ more. tree_at (more + n) s in
         let v = visits n s in
         let w = d + k in
         let here = after (after p (i * w)) d in
-        stopped (each_element t p (words_there s p (count * w)) d k count) (elements_from n s p count d k i) (elements_from n s p count d k (i + 1)) elements_have_capability (λ es. StandElements s p d k head (trim_elements es)) (ElementsFrom s p d k i e) (ElementsFrom s p d k (i + 1))
-        (each t here k) have_capability (λ ts. StandEach s here e (trim_each ts)) (from_elements v p d k count) (from_elements v (after p (i * w)) d k (count - i)) (from_elements v (after p ((i + 1) * w)) d k (count - (i + 1))) (from_each v here k) l j m (elements_met_next p d k i count h v) elements_split
+        stopped (each_element g p (words_there s p (count * w)) d k count) (elements_from n s p count d k i) (elements_from n s p count d k (i + 1)) (λ more. each_element (t more) p (words_there s p (count * w)) d k count) (λ more. elements_from (more + n) s p count d k i) (λ more. elements_from (more + n) s p count d k (i + 1)) elements_have_capability (λ es. StandElements s p d k head (trim_elements es)) (ElementsFrom s p d k i e) (ElementsFrom s p d k (i + 1))
+        (each g here k) (λ more. each (t more) here k) have_capability (λ ts. StandEach s here e (trim_each ts)) (from_elements v p d k count) (from_elements v (after p (i * w)) d k (count - i)) (from_elements v (after p ((i + 1) * w)) d k (count - (i + 1))) (from_each v here k) l j m (elements_met_next p d k i count h v) elements_split
         x y f.so_far
 
   pub elements_ended : (i e : ℕ) (m : ReadLimiter) → i ≡ count → AreThere s p (count * (d + k)) → ElementsSoFar n s p count d k head l i e m
       → Agrees (each_element (tree_at n s) p (words_there s p (count * (d + k))) d k count) elements_have_capability (λ es. StandElements s p d k head (trim_elements es)) (from_elements (visits n s) p d k count) l e m
   unfolding has_capability trim
   elements_ended i e m same inside f =
-      let t = tree_at n s in
+      let g = tree_at n s in
+      let t : ℕ → Place → Option Tree = λ more. tree_at (more + n) s in
       let v = visits n s in
       let w = d + k in
       let past : count ≤ i = omega arith in
@@ -175,8 +185,8 @@ module _ (n : ℕ) (s : Segments) (p : Place) (count d k head : ℕ) (l : ReadLi
       let near = at_end.1 in
       let nothing : e ≡ e + 0 = omega arith in
       let reach : i * w + 0 ≤ count * w = (let same_width : i * w ≡ count * w = ap (λ (j : ℕ). j * w) same in omega arith) in
-      ended (each_element t p (words_there s p (count * w)) d k count) (elements_from n s p count d k i) elements_have_capability (λ es. StandElements s p d k head (trim_elements es)) (ElementsFrom s p d k i e) (from_elements v p d k count) (from_elements v (after p (i * w)) d k (count - i)) l m no_elements e
-      (row_end count i (each_element t (after p (i * w)) (drop (i * w) (words_there s p (count * w))) d k) past) refl (record { row = hold_none s (after p (i * w)) (part_there s p (count * w) inside.0 (i * w) 0 reach); targets = hold_none s (place p.segment e) at_end.0; ends = nothing }) (omega arith)
+      ended (each_element g p (words_there s p (count * w)) d k count) (elements_from n s p count d k i) (λ more. each_element (t more) p (words_there s p (count * w)) d k count) (λ more. elements_from (more + n) s p count d k i) elements_have_capability (λ es. StandElements s p d k head (trim_elements es)) (ElementsFrom s p d k i e) (from_elements v p d k count) (from_elements v (after p (i * w)) d k (count - i)) l m no_elements e
+      (row_end count i (each_element g (after p (i * w)) (drop (i * w) (words_there s p (count * w))) d k) past) refl (record { row = hold_none s (after p (i * w)) (part_there s p (count * w) inside.0 (i * w) 0 reach); targets = hold_none s (place p.segment e) at_end.0; ends = nothing }) (omega arith)
       (row_end count i (from_elements v (after p (i * w)) d k) past) f.so_far
 
 -- elements without pointers stand as they are

@@ -120,8 +120,8 @@ list_word s p head z c section end t e y =
 
 module _ (n : ℕ) (s : Segments) (p : Place) (head : ℕ) (start : wire.Place) (c : ℕ) (inside : AreThere s (place_view start) c) (whole : AreWords (segment_words s p.segment)) (here : place_view start ≡ place p.segment head)
     (link : word_at s p ≡ Some (list_pointer (head - p.position - 1) 6 c)) where
-  row_full : (ts : Trees) → each (tree_at n s) (place_view start) c ≡ Some ts → tree_count (trim_each ts) ≡ c
-  row_full ts e = count-trim_each ts ∙ each_count (tree_at n s) (place_view start) c ts e
+  row_full : (f : Place → Option Tree) (ts : Trees) → each f (place_view start) c ≡ Some ts → tree_count (trim_each ts) ≡ c
+  row_full f ts e = count-trim_each ts ∙ each_count f (place_view start) c ts e
 
   no_further : (place_view start).position ≡ (place_view start).position + 0
   no_further = omega arith
@@ -130,28 +130,29 @@ module _ (n : ℕ) (s : Segments) (p : Place) (head : ℕ) (start : wire.Place) 
   unfolding has_capability trim
   pointers_tests l m r x =
       let q = place_view start in
-      let f = tree_at n s in
+      let g = tree_at n s in
+      let f : ℕ → Place → Option Tree = λ more. tree_at (more + n) s in
       let behind = q.position + c in
       let segment_is : q.segment ≡ p.segment = ap (λ (r : Place). r.segment) here in
       let at : q.position ≡ head = ap (λ (r : Place). r.position) here in
       let small = subst (λ (i : ℕ). AreWords (segment_words s i)) (sym segment_is) whole in
       let none_there = front_there s q c inside.0 0 (omega arith) in
-      made_of (each f q c) have_capability (λ ts. StandEach s q behind (trim_each ts)) (each f q c >>= λ ts. Some (pointer_list ts)) has_capability (λ t. Stands s p head (trim t)) (IsSmall s q) (IsSmall s p) (from_each (visits n s) q c) l m r
+      made_of (each g q c) (λ more. each (f more) q c) have_capability (λ ts. StandEach s q behind (trim_each ts)) (each g q c >>= λ ts. Some (pointer_list ts)) (λ more. each (f more) q c >>= λ ts. Some (pointer_list ts)) has_capability (λ t. Stands s p head (trim t)) (IsSmall s q) (IsSmall s p) (from_each (visits n s) q c) l m r
       (λ h. subst (λ (i : ℕ). length (segment_words s i) < 2 ^ 29) (sym segment_is) h)
       (λ ts end e clean y.
       let us = trim_each ts in
-      let b = body_both s q 0 c behind end us none_there small (row_full ts e) (omega arith) (subst (λ (j : ℕ). StandEach s (place q.segment j) behind us end) no_further y) in (
+      let b = body_both s q 0 c behind end us none_there small (row_full g ts e) (omega arith) (subst (λ (j : ℕ). StandEach s (place q.segment j) behind us end) no_further y) in (
         pointer_list ts,
         ap (λ (o : Option Trees). o >>= λ us. Some (pointer_list us)) e,
         clean,
-        record { link = link ∙ ap (λ (j : ℕ). Some (list_pointer (head - p.position - 1) 6 j)) (sym (row_full ts e)); targets = subst (λ (r : Place). Hold s r (links 0 0 us ++ bodies us)) here b.0; ends = b.1 ∙ ap (λ (j : ℕ). j + length (links 0 0 us ++ bodies us)) at },
+        record { link = link ∙ ap (λ (j : ℕ). Some (list_pointer (head - p.position - 1) 6 j)) (sym (row_full g ts e)); targets = subst (λ (r : Place). Hold s r (links 0 0 us ++ bodies us)) here b.0; ends = b.1 ∙ ap (λ (j : ℕ). j + length (links 0 0 us ++ bodies us)) at },
       ))
-      (λ t end e clean y.
-      let b = bind_some (each f q c) _ t e in
+      (λ more t end e clean y.
+      let b = bind_some (each (f more) q c) _ t e in
       let us = trim_each b.0 in
       let is : pointer_list b.0 ≡ t = some_is _ _ b.2 in
       let z : Stands s p head (trim (pointer_list b.0)) end = subst (λ (u : Tree). Stands s p head (trim u) end) (sym is) y in
-      let row = body_parts s q 0 c behind end us (row_full b.0 b.1) (omega arith) (subst (λ (r : Place). Hold s r (links 0 0 us ++ bodies us)) (sym here) z.targets) (z.ends ∙ ap (λ (j : ℕ). j + length (links 0 0 us ++ bodies us)) (sym at)) in
+      let row = body_parts s q 0 c behind end us (row_full (f more) b.0 b.1) (omega arith) (subst (λ (r : Place). Hold s r (links 0 0 us ++ bodies us)) (sym here) z.targets) (z.ends ∙ ap (λ (j : ℕ). j + length (links 0 0 us ++ bodies us)) (sym at)) in
       (b.0, b.1, ap has_capability is ∙ clean, subst (λ (j : ℕ). StandEach s (place q.segment j) behind us end) (sym no_further) row))
       x
 
@@ -193,32 +194,32 @@ all_pointers f p ws d k (suc n) es e =
     ap (λ (xs : Elements). with_pointers k (trim_elements xs)) (sym whole) ∙ ap (λ (us : Trees). element section us (with_pointers k (trim_elements b.0))) kids ∙ ap (element section (trim_each a.0)) rest ∙ ap trim_elements whole
 
 module _ (n : ℕ) (s : Segments) (p : Place) (head : ℕ) (start : wire.Place) (words c d k : ℕ) (here : place_view start ≡ place p.segment (head + 1)) (own : words ≡ c * (d + k))
-    (least : (es : Elements) → each_element (tree_at n s) (place_view start) (words_there s (place_view start) (c * (d + k))) d k c ≡ Some es → (common_words d (trim_elements es) ≡ d) × (common_pointers (trim_elements es) ≡ k))
+    (least : (m : ℕ) (es : Elements) → each_element (tree_at m s) (place_view start) (words_there s (place_view start) (c * (d + k))) d k c ≡ Some es → (common_words d (trim_elements es) ≡ d) × (common_pointers (trim_elements es) ≡ k))
     (link : word_at s p ≡ Some (list_pointer (head - p.position - 1) 7 (c * (d + k)))) (tag : word_at s (place p.segment head) ≡ Some (struct_pointer c d k)) where
-  elements_full : (es : Elements) → each_element (tree_at n s) (place_view start) (words_there s (place_view start) (c * (d + k))) d k c ≡ Some es → element_count (trim_elements es) ≡ c
-  elements_full es e = count-trim_elements es ∙ each_element_count (tree_at n s) (place_view start) (words_there s (place_view start) (c * (d + k))) d k c es e
+  elements_full : (m : ℕ) (es : Elements) → each_element (tree_at m s) (place_view start) (words_there s (place_view start) (c * (d + k))) d k c ≡ Some es → element_count (trim_elements es) ≡ c
+  elements_full m es e = count-trim_elements es ∙ each_element_count (tree_at m s) (place_view start) (words_there s (place_view start) (c * (d + k))) d k c es e
 
-  least_is : (es : Elements) → each_element (tree_at n s) (place_view start) (words_there s (place_view start) (c * (d + k))) d k c ≡ Some es → trim (struct_list d k es) ≡ struct_list d k (trim_elements es)
+  least_is : (m : ℕ) (es : Elements) → each_element (tree_at m s) (place_view start) (words_there s (place_view start) (c * (d + k))) d k c ≡ Some es → trim (struct_list d k es) ≡ struct_list d k (trim_elements es)
   unfolding trim
-  least_is es e =
+  least_is m es e =
       let xs = trim_elements es in
-      let x = least es e in
+      let x = least m es e in
       ap (λ (j : ℕ). struct_list j (common_pointers xs) (with_pointers (common_pointers xs) xs)) x.0 ∙ ap (λ (j : ℕ). struct_list d j (with_pointers j xs)) x.1
-      ∙ ap (struct_list d k) (all_pointers (tree_at n s) (place_view start) (words_there s (place_view start) (c * (d + k))) d k c es e)
+      ∙ ap (struct_list d k) (all_pointers (tree_at m s) (place_view start) (words_there s (place_view start) (c * (d + k))) d k c es e)
 
-  list_both : (es : Elements) (end : ℕ) → each_element (tree_at n s) (place_view start) (words_there s (place_view start) (c * (d + k))) d k c ≡ Some es → StandElements s (place_view start) d k ((place_view start).position + c * (d + k)) (trim_elements es) end → Stands s p head (struct_list d k (trim_elements es)) end
-  list_both es end e x =
+  list_both : (m : ℕ) (es : Elements) (end : ℕ) → each_element (tree_at m s) (place_view start) (words_there s (place_view start) (c * (d + k))) d k c ≡ Some es → StandElements s (place_view start) d k ((place_view start).position + c * (d + k)) (trim_elements es) end → Stands s p head (struct_list d k (trim_elements es)) end
+  list_both m es end e x =
       let q = place_view start in
       let xs = trim_elements es in
       let w = d + k in
       let behind = q.position + c * w in
-      let count = elements_full es e in
+      let count = elements_full m es e in
       let at : q.position ≡ head + 1 = ap (λ (r : Place). r.position) here in
       let rows : element_count xs * w ≡ c * w = ap (λ (j : ℕ). j * w) count in
       let none_before : behind - q.position - element_count xs * w ≡ 0 = omega arith in
       let cs = cells 0 d k xs in
       let bs = element_bodies xs in
-      let long = cells_long (tree_at n s) q (words_there s q (c * w)) d k c 0 es e in
+      let long = cells_long (tree_at m s) q (words_there s q (c * w)) d k c 0 es e in
       let row : Hold s q cs = subst (λ (j : ℕ). Hold s q (cells j d k xs)) none_before x.row in
       let at_targets : behind ≡ q.position + length cs = omega arith in
       let behind_tag : Hold s q (cs ++ bs) = hold_both s q cs bs row (hold_at s q.segment behind (q.position + length cs) bs at_targets x.targets) in
@@ -230,19 +231,19 @@ module _ (n : ℕ) (s : Segments) (p : Place) (head : ℕ) (start : wire.Place) 
         ends = omega arith;
       }
 
-  list_parts : (es : Elements) (end : ℕ) → each_element (tree_at n s) (place_view start) (words_there s (place_view start) (c * (d + k))) d k c ≡ Some es → Stands s p head (struct_list d k (trim_elements es)) end → StandElements s (place_view start) d k ((place_view start).position + c * (d + k)) (trim_elements es) end
-  list_parts es end e x =
+  list_parts : (m : ℕ) (es : Elements) (end : ℕ) → each_element (tree_at m s) (place_view start) (words_there s (place_view start) (c * (d + k))) d k c ≡ Some es → Stands s p head (struct_list d k (trim_elements es)) end → StandElements s (place_view start) d k ((place_view start).position + c * (d + k)) (trim_elements es) end
+  list_parts m es end e x =
       let q = place_view start in
       let xs = trim_elements es in
       let w = d + k in
       let behind = q.position + c * w in
-      let count = elements_full es e in
+      let count = elements_full m es e in
       let at : q.position ≡ head + 1 = ap (λ (r : Place). r.position) here in
       let rows : element_count xs * w ≡ c * w = ap (λ (j : ℕ). j * w) count in
       let none_before : 0 ≡ behind - q.position - element_count xs * w = omega arith in
       let cs = cells 0 d k xs in
       let bs = element_bodies xs in
-      let long = cells_long (tree_at n s) q (words_there s q (c * w)) d k c 0 es e in
+      let long = cells_long (tree_at m s) q (words_there s q (c * w)) d k c 0 es e in
       let own_parts = hold_parts s (place p.segment head) (struct_pointer (element_count xs) d k ∷ []) (cs ++ bs) x.targets in
       let more = hold_parts s q cs bs (subst (λ (r : Place). Hold s r (cs ++ bs)) (sym here) own_parts.1) in
       let at_targets : q.position + length cs ≡ behind = omega arith in
@@ -258,28 +259,30 @@ module _ (n : ℕ) (s : Segments) (p : Place) (head : ℕ) (start : wire.Place) 
   unfolding has_capability
   structs_tests l m r x =
       let q = place_view start in
-      let f = tree_at n s in
+      let g = tree_at n s in
+      let f : ℕ → Place → Option Tree = λ more. tree_at (more + n) s in
       let w = d + k in
       let behind = q.position + c * w in
       let ws = words_there s q (c * w) in
       let segment_is : q.segment ≡ p.segment = ap (λ (r : Place). r.segment) here in
-      let read : Option Elements = each_element f q ws d k c in
-      let y : Tests (read >>= λ es. Some (struct_list d k es)) has_capability (λ t. Stands s p head (trim t)) (IsSmall s p) (from_elements (visits n s) q d k c) l r m =
-      made_of read elements_have_capability (λ es. StandElements s q d k behind (trim_elements es)) (read >>= λ es. Some (struct_list d k es)) has_capability (λ t. Stands s p head (trim t)) (IsSmall s q) (IsSmall s p) (from_elements (visits n s) q d k c) l m r
+      let exact : Option Elements = each_element g q ws d k c in
+      let read : ℕ → Option Elements = λ more. each_element (f more) q ws d k c in
+      let y : Tests (exact >>= λ es. Some (struct_list d k es)) (λ more. read more >>= λ es. Some (struct_list d k es)) has_capability (λ t. Stands s p head (trim t)) (IsSmall s p) (from_elements (visits n s) q d k c) l r m =
+      made_of exact read elements_have_capability (λ es. StandElements s q d k behind (trim_elements es)) (exact >>= λ es. Some (struct_list d k es)) (λ more. read more >>= λ es. Some (struct_list d k es)) has_capability (λ t. Stands s p head (trim t)) (IsSmall s q) (IsSmall s p) (from_elements (visits n s) q d k c) l m r
       (λ h. subst (λ (i : ℕ). length (segment_words s i) < 2 ^ 29) (sym segment_is) h)
       (λ es end e clean y. (
         struct_list d k es,
         ap (λ (o : Option Elements). o >>= λ us. Some (struct_list d k us)) e,
         clean,
-        subst (λ (t : Tree). Stands s p head t end) (sym (least_is es e)) (list_both es end e y),
+        subst (λ (t : Tree). Stands s p head t end) (sym (least_is n es e)) (list_both n es end e y),
       ))
-      (λ t end e clean y.
-      let b = bind_some read _ t e in
+      (λ more t end e clean y.
+      let b = bind_some (read more) _ t e in
       let is : struct_list d k b.0 ≡ t = some_is _ _ b.2 in
       let z : Stands s p head (trim (struct_list d k b.0)) end = subst (λ (u : Tree). Stands s p head (trim u) end) (sym is) y in
-      (b.0, b.1, ap has_capability is ∙ clean, list_parts b.0 end b.1 (subst (λ (u : Tree). Stands s p head u end) (least_is b.0 b.1) z)))
+      (b.0, b.1, ap has_capability is ∙ clean, list_parts (more + n) b.0 end b.1 (subst (λ (u : Tree). Stands s p head u end) (least_is (more + n) b.0 b.1) z)))
       x in
-      subst (λ (j : ℕ). Tests (each_element f q (words_there s q j) d k c >>= λ es. Some (struct_list d k es)) has_capability (λ t. Stands s p head (trim t)) (IsSmall s p) (from_elements (visits n s) q d k c) l r m) (sym own) y
+      subst (λ (j : ℕ). Tests (each_element g q (words_there s q j) d k c >>= λ es. Some (struct_list d k es)) (λ more. each_element (f more) q (words_there s q j) d k c >>= λ es. Some (struct_list d k es)) has_capability (λ t. Stands s p head (trim t)) (IsSmall s p) (from_elements (visits n s) q d k c) l r m) (sym own) y
 
 -- the words of the pointer to a list of structs that stands, and of its tag
 structs_words : (s : Segments) (p q : Place) (head c d k a b end : ℕ) (f : Place → Option Tree) (ws : List ℕ) (t : Tree) → ((es : Elements) → each_element f q ws d k c ≡ Some es → (common_words d (trim_elements es) ≡ a) × (common_pointers (trim_elements es) ≡ b))

@@ -224,17 +224,17 @@ module _ (n : ℕ) (s : Segments) (p : Place) (head : ℕ) (start : wire.Place) 
         }
   ]
 
-  module _ (words : d ≡ needed_words d (section_at s (place_view start) d)) (count : (ts : Trees) → each (tree_at n s) (after (place_view start) d) k ≡ Some ts → tree_count (stripped (trim_each ts)) ≡ k)
+  module _ (words : d ≡ needed_words d (section_at s (place_view start) d)) (count : (m : ℕ) (ts : Trees) → each (tree_at m s) (after (place_view start) d) k ≡ Some ts → tree_count (stripped (trim_each ts)) ≡ k)
       (link : (ts : Trees) → tree_count ts ≡ k → word_at s p ≡ Some (pointer (head - p.position - 1) (structure d (section_at s (place_view start) d) ts))) where
-    full : (ts : Trees) → each (tree_at n s) (after (place_view start) d) k ≡ Some ts → tree_count (trim_each ts) ≡ k
-    full ts e = count-trim_each ts ∙ each_count (tree_at n s) (after (place_view start) d) k ts e
+    full : (m : ℕ) (ts : Trees) → each (tree_at m s) (after (place_view start) d) k ≡ Some ts → tree_count (trim_each ts) ≡ k
+    full m ts e = count-trim_each ts ∙ each_count (tree_at m s) (after (place_view start) d) k ts e
 
-    trimmed : (ts : Trees) → each (tree_at n s) (after (place_view start) d) k ≡ Some ts → trim (structure d (section_at s (place_view start) d) ts) ≡ structure d (section_at s (place_view start) d) (trim_each ts)
+    trimmed : (m : ℕ) (ts : Trees) → each (tree_at m s) (after (place_view start) d) k ≡ Some ts → trim (structure d (section_at s (place_view start) d) ts) ≡ structure d (section_at s (place_view start) d) (trim_each ts)
     unfolding trim
-    trimmed ts e =
+    trimmed m ts e =
         let us = trim_each ts in
         let section = section_at s (place_view start) d in
-        let same : stripped us ≡ us = sym (stripped_front us) ∙ ap (λ (j : ℕ). resized j us) (count ts e) ∙ resized_all k us (full ts e) in
+        let same : stripped us ≡ us = sym (stripped_front us) ∙ ap (λ (j : ℕ). resized j us) (count m ts e) ∙ resized_all k us (full m ts e) in
         ap (λ (j : ℕ). structure j section (stripped us)) (sym words) ∙ ap (structure d section) same
 
     same_segment : p.segment ≡ (place_view start).segment
@@ -250,20 +250,21 @@ module _ (n : ℕ) (s : Segments) (p : Place) (head : ℕ) (start : wire.Place) 
         let first = after q d in
         let behind = head + (d + k) in
         let section = section_at s q d in
-        let f = tree_at n s in
-        made_of (each f first k) have_capability (λ ts. StandEach s first behind (trim_each ts)) (each f first k >>= λ ts. Some (structure d section ts)) has_capability (λ t. Stands s p head (trim t)) (IsSmall s first) (IsSmall s p) (from_each (visits n s) first k) l m r
+        let g = tree_at n s in
+        let f : ℕ → Place → Option Tree = λ more. tree_at (more + n) s in
+        made_of (each g first k) (λ more. each (f more) first k) have_capability (λ ts. StandEach s first behind (trim_each ts)) (each g first k >>= λ ts. Some (structure d section ts)) (λ more. each (f more) first k >>= λ ts. Some (structure d section ts)) has_capability (λ t. Stands s p head (trim t)) (IsSmall s first) (IsSmall s p) (from_each (visits n s) first k) l m r
         (λ small. subst (λ (i : ℕ). length (segment_words s i) < 2 ^ 29) same_segment small)
         (λ ts end e clean y. (
           structure d section ts,
           ap (λ (o : Option Trees). o >>= λ us. Some (structure d section us)) e,
           clean,
-          subst (λ (t : Tree). Stands s p head t end) (sym (trimmed ts e)) (struct_both (trim_each ts) end (full ts e) (link (trim_each ts) (full ts e)) y),
+          subst (λ (t : Tree). Stands s p head t end) (sym (trimmed n ts e)) (struct_both (trim_each ts) end (full n ts e) (link (trim_each ts) (full n ts e)) y),
         ))
-        (λ t end e clean y.
-        let b = bind_some (each f first k) _ t e in
+        (λ more t end e clean y.
+        let b = bind_some (each (f more) first k) _ t e in
         let is : structure d section b.0 ≡ t = some_is _ _ b.2 in
         let whole : Stands s p head (trim (structure d section b.0)) end = subst (λ (u : Tree). Stands s p head (trim u) end) (sym is) y in
-        (b.0, b.1, ap has_capability is ∙ clean, struct_parts (trim_each b.0) end (full b.0 b.1) (subst (λ (u : Tree). Stands s p head u end) (trimmed b.0 b.1) whole)))
+        (b.0, b.1, ap has_capability is ∙ clean, struct_parts (trim_each b.0) end (full (more + n) b.0 b.1) (subst (λ (u : Tree). Stands s p head u end) (trimmed (more + n) b.0 b.1) whole)))
         x
 
 -- the word of a pointer to a struct that stands

@@ -58,7 +58,7 @@ module _ (n : ℕ) (s : Segments) (q : Place) (d k a b : ℕ) (inside : is_some 
     refl,
     record {
       began = began_none (from_each (visits n s) (after q d) k) l;
-      apart = λ small ts end read clean stand. apart (kept_least n s q d k a b inside words pointers ts read stand.least);
+      apart = λ small more ts end read clean stand. apart (kept_least (more + n) s q d k a b inside words pointers ts read stand.least);
     },
   )
 
@@ -78,5 +78,5 @@ module _ (n : ℕ) (s : Segments) (q : Place) (d k a b : ℕ) (inside : is_some 
       )
   kept_told (Ok false) h' m e f x =
       let y = x.1 in
-      (x.0, record { began = y.began; apart = λ small ts end read clean stand. y.apart small ts end read clean (stand.behind, stand.stand) })
+      (x.0, record { began = y.began; apart = λ small more ts end read clean stand. y.apart small more ts end read clean (stand.behind, stand.stand) })
   kept_told (Err z) h' m e f x = x

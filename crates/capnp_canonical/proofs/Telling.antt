@@ -15,6 +15,7 @@ use Rattle.capnp_model.specs.Trimming.{trim}
 use Rattle.capnp_model.specs.Visits.{Visit, visits}
 use Rattle.capnp_model.proofs.lemmas.CanonicalTests.{message_test, test_message}
 use Rattle.capnp_model.proofs.lemmas.Chaining.{some_is}
+use Rattle.capnp_model.proofs.lemmas.Depth.{tree_at_more}
 use Rattle.capnp_model.proofs.lemmas.Locality.{word_is, word_was}
 use Rattle.capnp_units.specs.declared.limiter.ReadLimiter.{ReadLimiter}
 use Rattle.capnp_object.specs.declared.place.Place as wire
@@ -42,14 +43,14 @@ pub on_false : (P : Type 0) (b : Bool) → b ≡ false → OnFalse b P → P
 on_false P true e h = absurd cc
 on_false P false e h = h
 
-pub tells_moved : {X : Type 0} (there : Option X) (bad : X → Bool) (stands : X → ℕ → Type 0) (Q premise : Type 0) (path : List Visit) (h h' : Place) (l m : ReadLimiter) (end : Option ℕ) (b : Bool) → Q → OnTrue b ((end ≡ Some h'.position) × (h'.segment ≡ h.segment)) → OnFalse b ((end ≡ None) × (h' ≡ h))
-    → Tests there bad stands premise path l (Ok end) m → Tells there bad (λ x e. Q × stands x e) premise path h l (Ok b) h' m
-tells_moved there bad stands Q premise path h h' l m end true given moved stayed x =
-    let y = subst (λ (o : Option ℕ). Tests there bad stands premise path l (Ok o) m) moved.0 x in
+pub tells_moved : {X : Type 0} (there : Option X) (deeper : ℕ → Option X) (bad : X → Bool) (stands : X → ℕ → Type 0) (Q premise : Type 0) (path : List Visit) (h h' : Place) (l m : ReadLimiter) (end : Option ℕ) (b : Bool) → Q → OnTrue b ((end ≡ Some h'.position) × (h'.segment ≡ h.segment)) → OnFalse b ((end ≡ None) × (h' ≡ h))
+    → Tests there deeper bad stands premise path l (Ok end) m → Tells there deeper bad (λ x e. Q × stands x e) premise path h l (Ok b) h' m
+tells_moved there deeper bad stands Q premise path h h' l m end true given moved stayed x =
+    let y = subst (λ (o : Option ℕ). Tests there deeper bad stands premise path l (Ok o) m) moved.0 x in
     (moved.1, record { what = y.what; there_is = y.there_is; clean = y.clean; stand = (given, y.stand); near = y.near; walked = y.walked })
-tells_moved there bad stands Q premise path h h' l m end false given moved stayed x =
-    let y = subst (λ (o : Option ℕ). Tests there bad stands premise path l (Ok o) m) stayed.0 x in
-    (stayed.1, record { began = y.began; apart = λ small z e is clean stand. y.apart small z e is clean stand.1 })
+tells_moved there deeper bad stands Q premise path h h' l m end false given moved stayed x =
+    let y = subst (λ (o : Option ℕ). Tests there deeper bad stands premise path l (Ok o) m) stayed.0 x in
+    (stayed.1, record { began = y.began; apart = λ small more z e is clean stand. y.apart small more z e is clean stand.1 })
 
 -- the place that the code has
 pub none_left : (b : Bool) (end : Option ℕ) (x y : wire.Place) → OnFalse b ((end ≡ None) × (x ≡ y)) → OnFalse b ((end ≡ None) × (place_view x ≡ place_view y))
@@ -171,24 +172,25 @@ second_missing s h = by (slice_get s 1) refl
 -- ---- what is told of a message
 
 pub more_segments : (n : ℕ) (s : Segments) (l : ReadLimiter) → is_some (words_at s (place 1 0) 0) ≡ true → TellsMessage n s l (Ok false) l
-more_segments n s l h = ((λ small. two_segments n s (second_there s h)), began_none (visits n s root) l, (λ _. refl))
+more_segments n s l h = ((λ small m le. two_segments m s (second_there s h)), began_none (visits n s root) l, (λ _. refl))
 
 pub message_tells : (n : ℕ) (s : Segments) (l m : ReadLimiter) (after : Place) (more : Bool) → is_some (words_at s (place 1 0) 0) ≡ false → more ≡ is_some (words_at s after 1) → after.segment ≡ 0
     → Agrees (tree_at n s root) has_capability (λ t end. IsBehind s root 1 (place 0 1) × Stands s root 1 (trim t) end) (visits n s root) l after.position m → TellsMessage n s l (Ok (not more)) m
 message_tells n s l m after true alone is at x =
     let stand = x.stand in
     let there : is_some (words_at s (place 0 after.position) 1) ≡ true = ap (λ (i : ℕ). is_some (words_at s (place i after.position) 1)) (sym at) ∙ sym is in
-    ((λ small. words_left n s x.what after.position x.there_is stand.1 there), record { before = visits n s root; rest = []; path_is = sym (append-nil (visits n s root)); walked = x.walked }, (λ second. absurd cc))
+    ((λ small k le. words_left k s x.what after.position (tree_at_more n k s root x.what le x.there_is) stand.1 there), record { before = visits n s root; rest = []; path_is = sym (append-nil (visits n s root)); walked = x.walked }, (λ second. absurd cc))
 message_tells n s l m after false alone is at x =
     let stand = x.stand in
     let past : is_some (words_at s (place 0 after.position) 1) ≡ false = ap (λ (i : ℕ). is_some (words_at s (place i after.position) 1)) (sym at) ∙ sym is in
     (message_is n s x.what after.position (second_missing s alone) x.there_is x.clean stand.1 past, x.walked)
 
-pub message_differs : (n : ℕ) (s : Segments) (l m : ReadLimiter) → is_some (words_at s (place 1 0) 0) ≡ false → Differs (tree_at n s root) has_capability (λ t end. IsBehind s root 1 (place 0 1) × Stands s root 1 (trim t) end) (IsSmall s root) (visits n s root) l m → TellsMessage n s l (Ok false) m
+pub message_differs : (n : ℕ) (s : Segments) (l m : ReadLimiter) → is_some (words_at s (place 1 0) 0) ≡ false → Differs (λ more. tree_at (more + n) s root) has_capability (λ t end. IsBehind s root 1 (place 0 1) × Stands s root 1 (trim t) end) (IsSmall s root) (visits n s root) l m → TellsMessage n s l (Ok false) m
 message_differs n s l m alone x = (
-  (λ small. never_true (is_canonical_message n s) (λ e.
-      let a = message_stands n s e in
-      x.apart small a.0 (length (canonical_words (trim a.0))) a.1 a.2 (a.4, a.5))),
+  (λ small k le. never_true (is_canonical_message k s) (λ e.
+      let a = message_stands k s e in
+      let same : k - n + n ≡ k = omega (arith, le) in
+      x.apart small (k - n) a.0 (length (canonical_words (trim a.0))) (ap (λ (j : ℕ). tree_at j s root) same ∙ a.1) a.2 (a.4, a.5))),
   x.began,
   (λ second. absurd cc),
 )

@@ -17,7 +17,7 @@ use capnp_units::sizes::StructSize;
 
 /// Whether the pointer at a place and its value stand as the value's canonical words: at the place is the pointer, and from the head on, a place behind it in its segment, are the words of what it leads to, trimmed. On a yes the head is left behind those words, else where it was.
 ///
-/// Pointers are followed, and objects paid for, as by `size_at`, up to the first difference. A capability is one, and so is a head that lies in another segment or not behind the pointer (the pointer itself is followed even then). It is refused only where a walk over the whole value would be, by the kind of the first fault, or with `ReadLimitExceeded` at the first object that costs more words than are left. A no is exact in a segment of at most 2^29 - 1 words, the most that a message has; a yes is so everywhere, and says that the value is within the levels and the budget.
+/// Pointers are followed, and objects paid for, as by `size_at`, up to the first difference. A capability is one, and so is a head that lies in another segment or not behind the pointer (the pointer itself is followed even then). It is refused only where a walk over the whole value would be, by the kind of the first fault, or with `ReadLimitExceeded` at the first object that costs more words than are left. A no says that the value stands with no levels more either, so a value that is only too deep is refused. It is exact in a segment of at most 2^29 - 1 words, the most that a message has; a yes is so everywhere, and says that the value is within the levels and the budget.
 ///
 /// It takes no memory, and a step for each pointer that it follows and each word of an object, so none for an element without words. Each level takes a few hundred bytes of stack.
 pub fn is_canonical<A: ReaderArena>(
@@ -89,7 +89,7 @@ pub fn is_canonical_struct<A: ReaderArena>(
 
 /// Whether a message is one segment of the canonical words of its value. Where there is a second segment it is not, no pointer is followed, and nothing is paid.
 ///
-/// It is refused as `is_canonical` is. A no is exact where the segment has at most 2^29 - 1 words.
+/// It is refused as `is_canonical` is. A no says that it is none with more levels either; it is exact where the segment has at most 2^29 - 1 words.
 pub fn is_canonical_message<A: ReaderArena>(
     arena: &A,
     limiter: &mut ReadLimiter,

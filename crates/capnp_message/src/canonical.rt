@@ -78,7 +78,7 @@ impl<S: ReaderSegments> Reader<S> {
 
     /// Whether the message is one segment, of the canonical words of its value. It takes no memory.
     ///
-    /// Pointers are followed, and objects paid for, up to the first difference; a capability is one. Where there is a second segment none is followed. It is refused only where a walk over the whole value would be, by the kind of the first fault, or with `ReadLimitExceeded` at the first object that costs more words than are left; under a negative nesting limit with `NestingLimitExceeded`, at no cost. A no is exact where the segment has at most 2^29 - 1 words, the most that a message has. (Encoding, "Canonicalization")
+    /// Pointers are followed, and objects paid for, up to the first difference; a capability is one. Where there is a second segment none is followed. It is refused only where a walk over the whole value would be, by the kind of the first fault, or with `ReadLimitExceeded` at the first object that costs more words than are left; under a negative nesting limit with `NestingLimitExceeded`, at no cost. A no says that it is none with more levels either, so a message that is only too deep is refused. It is exact where the segment has at most 2^29 - 1 words, the most that a message has. (Encoding, "Canonicalization")
     pub fn is_canonical(&self, limiter: &mut ReadLimiter) -> Result<bool>
         ensures { TellsCanonical (levels self.now.options.nesting_limit)
             (words_in (S.segments self.now.segments)) limiter.old result limiter.new }

@@ -119,18 +119,18 @@ pub lies_told : (n : ℕ) (v : StructView) (p head : Place) (d : ℕ) (r : Resul
 lies_told n v p head d r head' l m own words x =
     let s = v.basis.segments in
     let k = v.pointers in
-    subst (λ (q : Place). Tells (each (tree_at n s) q k) have_capability (StandsAs v p head) (IsSmall s q) (from_each (visits n s) q k) head l r head' m) (sym own.pointers) (by r (subst (λ (j : ℕ). TellsStruct n s p j k head l r head' m) words x))
+    subst (λ (q : Place). Tells (each (tree_at n s) q k) (λ more. each (tree_at (more + n) s) q k) have_capability (StandsAs v p head) (IsSmall s q) (from_each (visits n s) q k) head l r head' m) (sym own.pointers) (by r (subst (λ (j : ℕ). TellsStruct n s p j k head l r head' m) words x))
   where
     by : (r : Result Bool Error) → TellsStruct n v.basis.segments p (section_words v) v.pointers head l r head' m
-        → Tells (each (tree_at n v.basis.segments) (after p (section_words v)) v.pointers) have_capability (StandsAs v p head) (IsSmall v.basis.segments (after p (section_words v))) (from_each (visits n v.basis.segments) (after p (section_words v)) v.pointers) head l r head' m
+        → Tells (each (tree_at n v.basis.segments) (after p (section_words v)) v.pointers) (λ more. each (tree_at (more + n) v.basis.segments) (after p (section_words v)) v.pointers) have_capability (StandsAs v p head) (IsSmall v.basis.segments (after p (section_words v))) (from_each (visits n v.basis.segments) (after p (section_words v)) v.pointers) head l r head' m
     by (Ok true) x =
         let y = x.1 in
         (x.0, record { what = y.what; there_is = y.there_is; clean = y.clean; stand = record { own = own; struct = y.stand }; near = y.near; walked = y.walked })
     by (Ok false) x =
         let y = x.1 in
-        (x.0, record { began = y.began; apart = λ small ts end read clean stand. y.apart small ts end read clean stand.struct })
+        (x.0, record { began = y.began; apart = λ small more ts end read clean stand. y.apart small more ts end read clean stand.struct })
     by (Err e) x = x
 
 -- one whose own words lie elsewhere
 pub elsewhere_told : (n : ℕ) (v : StructView) (p head : Place) (l : ReadLimiter) → (LiesAt v p → ⊥) → StructTellsIn n v p head (Ok false) head l l
-elsewhere_told n v p head l never = (refl, record { began = began_none (from_each (visits n v.basis.segments) v.first v.pointers) l; apart = λ small ts end read clean stand. never stand.own })
+elsewhere_told n v p head l never = (refl, record { began = began_none (from_each (visits n v.basis.segments) v.first v.pointers) l; apart = λ small more ts end read clean stand. never stand.own })

@@ -62,7 +62,7 @@ head_after v p _ = p
 -- What is told of a struct that so many levels may be followed from: whether it stands from two heads on, that of its own words and that of what its pointers lead to.
 abbrev pub StructTellsIn : ℕ → StructView → Place → Place → Result Bool Error → Place → ReadLimiter → ReadLimiter → Type 0
 StructTellsIn n v p head r head' l m =
-    let s = v.basis.segments in Tells (each (tree_at n s) v.first v.pointers) have_capability (StandsAs v p head) (IsSmall s v.first) (from_each (visits n s) v.first v.pointers) head l r head' m
+    let s = v.basis.segments in Tells (each (tree_at n s) v.first v.pointers) (λ more. each (tree_at (more + n) s) v.first v.pointers) have_capability (StandsAs v p head) (IsSmall s v.first) (from_each (visits n s) v.first v.pointers) head l r head' m
 
 -- The same with both heads, as they are left.
 abbrev pub StructTells : StructView → Place → Place → ReadLimiter → Result Bool Error → Place → Place → ReadLimiter → Type 0

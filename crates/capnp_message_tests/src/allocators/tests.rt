@@ -8,6 +8,7 @@ use capnp_allocators::opening::OpensSegment;
 use capnp_allocators::scratch::ScratchSpaceHeapAllocator;
 use capnp_allocators::segment::Segment;
 use capnp_copy::allocator::{Allocator, SegmentBytes};
+use capnp_units::errors::Result;
 use std::alloc::Global;
 use std::test::Fail;
 
@@ -66,5 +67,26 @@ fn a_slice_is_opened_with_its_words(rt: HostRuntime) -> std::result::Result<(), 
     let mut bytes = [5u8; 23];
     assert!(rt; !only_opened(rt.alloc(), &mut bytes, 2));
     assert!(rt; is_zero(&bytes));
+    Ok(())
+}
+
+/// How many bytes a heap's segments have that are asked for so many words, one after the other, and are at most four words where no more are asked for at once.
+fn most_of_four(alloc: Global, asked: [u32; 3]) -> Result<[usize; 3]> {
+    let mut heap = HeapAllocator::new(alloc)
+        .first_segment_words(3)
+        .max_segment_words(4);
+    let mut sizes = [0; 3];
+    for (size, words) in sizes.iter_mut().zip(asked) {
+        *size = heap.allocate_segment(words)?.len();
+    }
+    Ok(sizes)
+}
+
+#[test]
+fn more_words_than_a_segments_most_are_handed_out(
+    rt: HostRuntime,
+) -> std::result::Result<(), Fail> {
+    assert!(rt; most_of_four(rt.alloc(), [1, 1, 5])? == [24, 32, 40]);
+    assert!(rt; most_of_four(rt.alloc(), [5, 0x2_0000, 1])? == [40, 0x10_0000, 32]);
     Ok(())
 }

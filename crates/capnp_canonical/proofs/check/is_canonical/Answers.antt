@@ -1,5 +1,5 @@
 -- The walk from the head on, or the first pointer alone.
-use Rattle.std.proofs.Common.{Result, Err, Bool, refl, ap, sym, ◌∙◌, subst}
+use Rattle.std.proofs.Common.{◌+◌, Result, Err, Bool, refl, ap, sym, ◌∙◌, subst}
 use Rattle.std.proofs.lemmas.Result.{err_from_is_err_and}
 use Rattle.capnp_model.specs.Segments.{Segments, Place}
 use Rattle.capnp_model.specs.Trees.{has_capability}
@@ -33,7 +33,7 @@ returns-then-not-is_behind g c =
       refl,
       record {
         began = first_began c.args.levels s (place_view c.args.place) c.in_ok-follow_within.field-0 c.args.limiter.now c.follow_within.new.limiter c.in_ok-follow_within.ensures.0 c.in_ok-follow_within.ensures.1;
-        apart = λ small t end is clean stand. c.if-not-is_behind.ensures.elsewhere stand.0;
+        apart = λ small more t end is clean stand. c.if-not-is_behind.ensures.elsewhere stand.0;
       },
     )
 
@@ -44,5 +44,5 @@ returns g c =
     let n = c.args.levels in
     let h : Place = place_view c.args.head.now in
     let after : Place = place_view c.move_on.new.head in
-    tells_moved (tree_at n s p) has_capability (λ t end. Stands s p h.position (trim t) end) (IsBehind s p 1 h) (IsSmall s p) (visits n s p) h after c.args.limiter.now c.value_end.new.limiter c.in_ok-end.end c.move_on.result
+    tells_moved (tree_at n s p) (λ more. tree_at (more + n) s p) has_capability (λ t end. Stands s p h.position (trim t) end) (IsBehind s p 1 h) (IsSmall s p) (visits n s p) h after c.args.limiter.now c.value_end.new.limiter c.in_ok-end.end c.move_on.result
     c.if-not-is_behind.ensures.behind.0 c.move_on.ensures.some (none_left c.move_on.result c.in_ok-end.end c.move_on.new.head c.args.head.now c.move_on.ensures.none) c.in_ok-end.ensures

@@ -33,8 +33,8 @@ returns-then-list-head g c = λ levels l.
     let bits = data_bits z * n in
     let o = list_object c.args.list in
     let behind = c.requires.head.behind in
-    differs_at (tree_in s (tree_at levels s) o) has_capability (λ u. Stands s p head (trim u)) (IsSmall s p) (met_in (visits levels s) o) l
-    (λ small u end e clean stand.
+    differs_at (λ more. tree_in s (tree_at (more + levels) s) o) has_capability (λ u. Stands s p head (trim u)) (IsSmall s p) (met_in (visits levels s) o) l
+    (λ small more u end e clean stand.
     let near = within_reach s p 1 head small c.requires.head in
     let word = list_word s p head z n (section_at s q (words_for bits) % 2 ^ bits) end u e stand in
     let here = list_where s p head (head - p.position - 1) (omega arith) (omega arith) start c.args.list.size n c.requires.near.1.0 c.requires.short (0, c.requires.near.0) word in
@@ -51,8 +51,8 @@ returns-then-not-ends_clear g c = λ levels l.
     let o = list_object c.args.list in
     let w = lead_word s p o (0, c.requires.near.0) in
     let here = list_near s p head c.requires.head.whole start c.args.list.size n w.0 w.1 c.requires.near.0 c.if-list-head.false c.requires.head.behind in
-    differs_at (tree_in s (tree_at levels s) o) has_capability (λ u. Stands s p head (trim u)) (IsSmall s p) (met_in (visits levels s) o) l
-    (λ small u end e clean stand.
+    differs_at (λ more. tree_in s (tree_at (more + levels) s) o) has_capability (λ u. Stands s p head (trim u)) (IsSmall s p) (met_in (visits levels s) o) l
+    (λ small more u end e clean stand.
     let cut = list_words levels s p head start c.args.list.size n c.requires.near.1.0 c.requires.near.1.1 c.requires.head.whole here.1 end u e stand in
     c.if-not-ends_clear.ensures.spare (subst (EndsClear s q) (sym c.requires.measured.0) cut))
 

@@ -52,7 +52,7 @@ row_end-returns-in_err-next g t c =
     let given = c.loop-i.invariant.there in
     let r = err_from_is_err_and c.from_residual.result c.from_residual.ensures.1 in
     let e = c.in_err-next.field-0.0 in
-    refused_is (each (tree_at n s) p count) have_capability (λ ts. StandEach s p head (trim_each ts)) (IsSmall s p) (from_each (visits n s) p count) l c.value_end.new.limiter c.from_residual.result r.0 e r.1 r.2
+    refused_is (each (tree_at n s) p count) (λ more. each (tree_at (more + n) s) p count) have_capability (λ ts. StandEach s p head (trim_each ts)) (IsSmall s p) (from_each (visits n s) p count) l c.value_end.new.limiter c.from_residual.result r.0 e r.1 r.2
     (row_stopped n s p count head l c.loop-i.i c.loop-i.end c.loop-i-test.true given.behind c.loop-i.limiter c.value_end.new.limiter e c.in_err-next.ensures c.loop-i.invariant)
 
 pub row_end-returns-in-None : goal.row_end-returns-in-None
@@ -101,7 +101,7 @@ elements_end-returns-in_err-next g t c =
     let l = c.args.limiter.now in
     let r = err_from_is_err_and c.from_residual.result c.from_residual.ensures.1 in
     let e = c.in_err-next.field-0.0 in
-    refused_is (each_element (tree_at n s) p (words_there s p (count * (d + k))) d k count) elements_have_capability (λ es. StandElements s p d k head (trim_elements es)) (IsSmall s p) (from_elements (visits n s) p d k count) l c.row_end.new.limiter c.from_residual.result r.0 e r.1 r.2
+    refused_is (each_element (tree_at n s) p (words_there s p (count * (d + k))) d k count) (λ more. each_element (tree_at (more + n) s) p (words_there s p (count * (d + k))) d k count) elements_have_capability (λ es. StandElements s p d k head (trim_elements es)) (IsSmall s p) (from_elements (visits n s) p d k count) l c.row_end.new.limiter c.from_residual.result r.0 e r.1 r.2
     (elements_stopped n s p count d k head l c.loop-i.i c.loop-i.end c.loop-i-test.true c.requires.inside c.loop-i.invariant.there c.loop-i.limiter c.row_end.new.limiter e c.in_err-next.ensures c.loop-i.invariant)
 
 pub elements_end-returns-in-None : goal.elements_end-returns-in-None
@@ -132,7 +132,7 @@ value_end-returns-in_err-list g t c =
     let k = c.follow_near_list.new.limiter in
     let e = c.in_err-list.field-0.0 in
     let r = err_from_is_err_and c.from_residual.result c.from_residual.ensures.1 in
-    refused_is (tree_at n s p) has_capability (λ u. Stands s p c.args.head (trim u)) (IsSmall s p) (visits n s p) l k c.from_residual.result r.0 e r.1 r.2
+    refused_is (tree_at n s p) (λ more. tree_at (more + n) s p) has_capability (λ u. Stands s p c.args.head (trim u)) (IsSmall s p) (visits n s p) l k c.from_residual.result r.0 e r.1 r.2
     (unfollowed_at n s p l k (Err e) e e refl refl c.in_err-list.ensures.walked)
 
 pub value_end-returns-in-Some : goal.value_end-returns-in-Some
@@ -155,7 +155,7 @@ value_end-returns-in_err-near g t c =
     let r = err_from_is_err_and c.from_residual-in_err-near.result c.from_residual-in_err-near.ensures.1 in
     let same = untold list_object (FollowsWithin n s p) l c.follow_near_list.new.limiter c.in_ok-list.field-0 c.in_default.not-Some c.in_ok-list.ensures.walked in
     let stop : FollowsWithin n s p l (Err e) k = subst (λ (x : ReadLimiter). FollowsWithin n s p x (Err e) k) same c.in_err-near.ensures.walked in
-    refused_is (tree_at n s p) has_capability (λ u. Stands s p c.args.head (trim u)) (IsSmall s p) (visits n s p) l k c.from_residual-in_err-near.result r.0 e r.1 r.2
+    refused_is (tree_at n s p) (λ more. tree_at (more + n) s p) has_capability (λ u. Stands s p c.args.head (trim u)) (IsSmall s p) (visits n s p) l k c.from_residual-in_err-near.result r.0 e r.1 r.2
     (unfollowed_at n s p l k (Err e) e e refl refl stop)
 
 pub value_end-returns-in-Some-2 : goal.value_end-returns-in-Some-2
@@ -199,7 +199,7 @@ any_end-returns-in_err-object g t c =
     let l = c.args.limiter.now in
     let e = c.in_err-object.field-0.0 in
     let r = err_from_is_err_and c.from_residual.result c.from_residual.ensures.1 in
-    refused_is (tree_at n s p) has_capability (λ u. Stands s p c.args.head (trim u)) (IsSmall s p) (visits n s p) l c.follow_within.new.limiter c.from_residual.result r.0 e r.1 r.2
+    refused_is (tree_at n s p) (λ more. tree_at (more + n) s p) has_capability (λ u. Stands s p c.args.head (trim u)) (IsSmall s p) (visits n s p) l c.follow_within.new.limiter c.from_residual.result r.0 e r.1 r.2
     (unfollowed_at n s p l c.follow_within.new.limiter (Err e) e e refl refl c.in_err-object.ensures)
 
 pub any_end-returns-in-Null : goal.any_end-returns-in-Null
@@ -232,8 +232,8 @@ object_end-returns-then-head-place-gt-REACH g t c =
     let n = c.args.levels in
     let o = c.args.object in
     let far = c.if-head-place-gt-REACH.true in
-    differs_at (tree_in s (tree_at n s) o) has_capability (λ u. Stands s p c.args.head (trim u)) (IsSmall s p) (met_in (visits n s) o) c.args.limiter.now
-    (λ small u end is clean stand. let near = within_reach s p 1 c.args.head small c.requires.head in omega arith)
+    differs_at (λ more. tree_in s (tree_at (more + n) s) o) has_capability (λ u. Stands s p c.args.head (trim u)) (IsSmall s p) (met_in (visits n s) o) c.args.limiter.now
+    (λ small more u end is clean stand. let near = within_reach s p 1 c.args.head small c.requires.head in omega arith)
 
 pub object_end-returns-then-word_or_zero-eq-FAR : goal.object_end-returns-then-word_or_zero-eq-FAR
 object_end-returns-then-word_or_zero-eq-FAR g t c =
@@ -241,8 +241,8 @@ object_end-returns-then-word_or_zero-eq-FAR g t c =
     let p : Place = place_view c.args.place in
     let n = c.args.levels in
     let o = c.args.object in
-    differs_at (tree_in s (tree_at n s) o) has_capability (λ u. Stands s p c.args.head (trim u)) (IsSmall s p) (met_in (visits n s) o) c.args.limiter.now
-    (λ small u end is clean stand. far_differs s p c.args.head c.word_or_zero.result end (trim u) c.word_or_zero.ensures.word c.if-word_or_zero-eq-FAR.true stand)
+    differs_at (λ more. tree_in s (tree_at (more + n) s) o) has_capability (λ u. Stands s p c.args.head (trim u)) (IsSmall s p) (met_in (visits n s) o) c.args.limiter.now
+    (λ small more u end is clean stand. far_differs s p c.args.head c.word_or_zero.result end (trim u) c.word_or_zero.ensures.word c.if-word_or_zero-eq-FAR.true stand)
 
 pub object_end-struct_end-requires : goal.object_end-struct_end-requires
 object_end-struct_end-requires g t c =
@@ -289,9 +289,9 @@ struct_end-returns-then-near-struct_start g t c =
     let o = struct_object c.args.near in
     let head = c.args.head in
     let begins = c.struct_start.ensures in
-    differs_at (tree_in s (tree_at n s) o) has_capability (λ u. Stands s p head (trim u)) (IsSmall s p) (met_in (visits n s) o) c.args.limiter.now
-    (λ small u end e clean stand.
-    let x = struct_stands n s p head c.args.near.start c.args.near.size.data_words c.args.near.size.pointers c.requires.near.1.0 c.requires.head.whole c.requires.near.0 c.requires.head.behind end u (within_reach s p 1 head small c.requires.head) e stand in
+    differs_at (λ more. tree_in s (tree_at (more + n) s) o) has_capability (λ u. Stands s p head (trim u)) (IsSmall s p) (met_in (visits n s) o) c.args.limiter.now
+    (λ small more u end e clean stand.
+    let x = struct_stands (more + n) s p head c.args.near.start c.args.near.size.data_words c.args.near.size.pointers c.requires.near.1.0 c.requires.head.whole c.requires.near.0 c.requires.head.behind end u (within_reach s p 1 head small c.requires.head) e stand in
     elim x.1 [
       | inl here ↦ c.if-near-struct_start.true (ap (λ (r : Place). r.position) here.0 ∙ sym (begins.some (λ z. let more = here.1 in omega arith)))
       | inr here ↦ c.if-near-struct_start.true (ap (λ (r : Place). r.position) here.0 ∙ sym (begins.empty (let d_none = here.1 in let k_none = here.2 in omega arith)))
@@ -304,9 +304,9 @@ struct_end-returns-then-not-is_least g t c =
     let n = c.args.levels in
     let o = struct_object c.args.near in
     let head = c.args.head in
-    differs_at (tree_in s (tree_at n s) o) has_capability (λ u. Stands s p head (trim u)) (IsSmall s p) (met_in (visits n s) o) c.args.limiter.now
-    (λ small u end e clean stand.
-    let x = struct_stands n s p head c.args.near.start c.args.near.size.data_words c.args.near.size.pointers c.requires.near.1.0 c.requires.head.whole c.requires.near.0 c.requires.head.behind end u (within_reach s p 1 head small c.requires.head) e stand in
+    differs_at (λ more. tree_in s (tree_at (more + n) s) o) has_capability (λ u. Stands s p head (trim u)) (IsSmall s p) (met_in (visits n s) o) c.args.limiter.now
+    (λ small more u end e clean stand.
+    let x = struct_stands (more + n) s p head c.args.near.start c.args.near.size.data_words c.args.near.size.pointers c.requires.near.1.0 c.requires.head.whole c.requires.near.0 c.requires.head.behind end u (within_reach s p 1 head small c.requires.head) e stand in
     c.if-not-is_least.ensures.less x.0)
 
 pub struct_end-row_end-requires : goal.struct_end-row_end-requires
@@ -333,7 +333,7 @@ struct_end-returns g t c =
     let begins = c.struct_start.ensures in
     let least = c.if-not-is_least.ensures.least in
     let there = struct_there n s p head start d k c.requires.near.1.0 c.requires.head.whole c.requires.near.0 c.requires.head.behind c.struct_start.result c.if-near-struct_start.false begins.empty begins.some in
-    struct_tests n s p head start d k c.requires.near.1 c.requires.head there.0 (least_words n s p head start d k c.requires.near.1.0 c.requires.head.whole c.requires.near.0 c.requires.head.behind least) (least_count n s p head start d k c.requires.near.1.0 c.requires.head.whole c.requires.near.0 c.requires.head.behind least) there.1
+    struct_tests n s p head start d k c.requires.near.1 c.requires.head there.0 (least_words n s p head start d k c.requires.near.1.0 c.requires.head.whole c.requires.near.0 c.requires.head.behind least) (λ m. least_count m s p head start d k c.requires.near.1.0 c.requires.head.whole c.requires.near.0 c.requires.head.behind least) there.1
     c.args.limiter.now c.row_end.new.limiter c.row_end.result c.row_end.ensures
 
 pub pointers_end-returns-then-count-ge-REACH : goal.pointers_end-returns-then-count-ge-REACH
@@ -343,8 +343,8 @@ pointers_end-returns-then-count-ge-REACH g t c =
     let q : Place = place_view c.args.start in
     let n = c.args.levels in
     let o = object.PointerList c.args.start c.args.count in
-    differs_at (tree_in s (tree_at n s) o) has_capability (λ u. Stands s p c.args.head (trim u)) (IsSmall s p) (met_in (visits n s) o) c.args.limiter.now
-    (λ small u end e clean stand. wide_pointer s p (c.args.head - p.position - 1) 6 c.args.count c.requires.link.given.whole c.if-count-ge-REACH.true (pointers_word s p q c.args.head c.args.count end (tree_at n s) u e stand))
+    differs_at (λ more. tree_in s (tree_at (more + n) s) o) has_capability (λ u. Stands s p c.args.head (trim u)) (IsSmall s p) (met_in (visits n s) o) c.args.limiter.now
+    (λ small more u end e clean stand. wide_pointer s p (c.args.head - p.position - 1) 6 c.args.count c.requires.link.given.whole c.if-count-ge-REACH.true (pointers_word s p q c.args.head c.args.count end (tree_at (more + n) s) u e stand))
 
 pub pointers_end-returns-then-word_or_zero-pointer_to_list : goal.pointers_end-returns-then-word_or_zero-pointer_to_list
 pointers_end-returns-then-word_or_zero-pointer_to_list g t c =
@@ -353,8 +353,8 @@ pointers_end-returns-then-word_or_zero-pointer_to_list g t c =
     let q : Place = place_view c.args.start in
     let n = c.args.levels in
     let o = object.PointerList c.args.start c.args.count in
-    differs_at (tree_in s (tree_at n s) o) has_capability (λ u. Stands s p c.args.head (trim u)) (IsSmall s p) (met_in (visits n s) o) c.args.limiter.now
-    (λ small u end e clean stand. word_differs s p c.word_or_zero.result c.pointer_to_list.result c.word_or_zero.ensures.word c.if-word_or_zero-pointer_to_list.true (pointers_word s p q c.args.head c.args.count end (tree_at n s) u e stand ∙ ap (λ (j : ℕ). Some j) (sym c.pointer_to_list.ensures)))
+    differs_at (λ more. tree_in s (tree_at (more + n) s) o) has_capability (λ u. Stands s p c.args.head (trim u)) (IsSmall s p) (met_in (visits n s) o) c.args.limiter.now
+    (λ small more u end e clean stand. word_differs s p c.word_or_zero.result c.pointer_to_list.result c.word_or_zero.ensures.word c.if-word_or_zero-pointer_to_list.true (pointers_word s p q c.args.head c.args.count end (tree_at (more + n) s) u e stand ∙ ap (λ (j : ℕ). Some j) (sym c.pointer_to_list.ensures)))
 
 pub pointers_end-row_end-requires : goal.pointers_end-row_end-requires
 pointers_end-row_end-requires g t c =
@@ -398,9 +398,9 @@ structs_end-returns-then-own-ge-REACH g t c =
     let head = c.args.head in
     let cut = c.cut_of-cut.result in
     let o = object.StructList c.args.start c.args.words count d k in
-    differs_at (tree_in s (tree_at n s) o) has_capability (λ u. Stands s p head (trim u)) (IsSmall s p) (met_in (visits n s) o) c.args.limiter.now
-    (λ small u end e clean stand. wide_pointer s p (head - p.position - 1) 7 (count * (cut.kept_words + cut.kept_pointers)) c.requires.link.given.whole c.if-own-ge-REACH.true
-    (structs_read n s p q head c.args.words count d k cut.kept_words cut.kept_pointers end u c.requires.inside.0 c.requires.fit c.cut_of-cut.ensures.words c.cut_of-cut.ensures.pointers e stand).0)
+    differs_at (λ more. tree_in s (tree_at (more + n) s) o) has_capability (λ u. Stands s p head (trim u)) (IsSmall s p) (met_in (visits n s) o) c.args.limiter.now
+    (λ small more u end e clean stand. wide_pointer s p (head - p.position - 1) 7 (count * (cut.kept_words + cut.kept_pointers)) c.requires.link.given.whole c.if-own-ge-REACH.true
+    (structs_read (more + n) s p q head c.args.words count d k cut.kept_words cut.kept_pointers end u c.requires.inside.0 c.requires.fit c.cut_of-cut.ensures.words c.cut_of-cut.ensures.pointers e stand).0)
 
 pub structs_end-returns-then-word_or_zero-pointer_to_list : goal.structs_end-returns-then-word_or_zero-pointer_to_list
 structs_end-returns-then-word_or_zero-pointer_to_list g t c =
@@ -414,9 +414,9 @@ structs_end-returns-then-word_or_zero-pointer_to_list g t c =
     let head = c.args.head in
     let cut = c.cut_of-cut.result in
     let o = object.StructList c.args.start c.args.words count d k in
-    differs_at (tree_in s (tree_at n s) o) has_capability (λ u. Stands s p head (trim u)) (IsSmall s p) (met_in (visits n s) o) c.args.limiter.now
-    (λ small u end e clean stand. word_differs s p c.word_or_zero.result c.pointer_to_list.result c.word_or_zero.ensures.word c.if-word_or_zero-pointer_to_list.true
-    ((structs_read n s p q head c.args.words count d k cut.kept_words cut.kept_pointers end u c.requires.inside.0 c.requires.fit c.cut_of-cut.ensures.words c.cut_of-cut.ensures.pointers e stand).0
+    differs_at (λ more. tree_in s (tree_at (more + n) s) o) has_capability (λ u. Stands s p head (trim u)) (IsSmall s p) (met_in (visits n s) o) c.args.limiter.now
+    (λ small more u end e clean stand. word_differs s p c.word_or_zero.result c.pointer_to_list.result c.word_or_zero.ensures.word c.if-word_or_zero-pointer_to_list.true
+    ((structs_read (more + n) s p q head c.args.words count d k cut.kept_words cut.kept_pointers end u c.requires.inside.0 c.requires.fit c.cut_of-cut.ensures.words c.cut_of-cut.ensures.pointers e stand).0
     ∙ ap (λ (j : ℕ). Some j) (sym c.pointer_to_list.ensures)))
 
 pub structs_end-returns-then-word_or_zero-tag : goal.structs_end-returns-then-word_or_zero-tag
@@ -431,9 +431,9 @@ structs_end-returns-then-word_or_zero-tag g t c =
     let head = c.args.head in
     let cut = c.cut_of-cut.result in
     let o = object.StructList c.args.start c.args.words count d k in
-    differs_at (tree_in s (tree_at n s) o) has_capability (λ u. Stands s p head (trim u)) (IsSmall s p) (met_in (visits n s) o) c.args.limiter.now
-    (λ small u end e clean stand. word_differs s (place p.segment head) c.word_or_zero-2.result c.pointer_to_struct-tag.result c.word_or_zero-2.ensures.word c.if-word_or_zero-tag.true
-    ((structs_read n s p q head c.args.words count d k cut.kept_words cut.kept_pointers end u c.requires.inside.0 c.requires.fit c.cut_of-cut.ensures.words c.cut_of-cut.ensures.pointers e stand).1
+    differs_at (λ more. tree_in s (tree_at (more + n) s) o) has_capability (λ u. Stands s p head (trim u)) (IsSmall s p) (met_in (visits n s) o) c.args.limiter.now
+    (λ small more u end e clean stand. word_differs s (place p.segment head) c.word_or_zero-2.result c.pointer_to_struct-tag.result c.word_or_zero-2.ensures.word c.if-word_or_zero-tag.true
+    ((structs_read (more + n) s p q head c.args.words count d k cut.kept_words cut.kept_pointers end u c.requires.inside.0 c.requires.fit c.cut_of-cut.ensures.words c.cut_of-cut.ensures.pointers e stand).1
     ∙ ap (λ (j : ℕ). Some j) (sym c.pointer_to_struct-tag.ensures)))
 
 pub structs_end-elements_end-requires : goal.structs_end-elements_end-requires
@@ -484,7 +484,7 @@ structs_end-returns g t c =
     let own : c.args.words ≡ count * (d + k) = here.1 ∙ rows in
     let there = front_there s q c.args.words c.requires.inside.0 (count * (d + k)) c.requires.fit in
     structs_tests n s p head c.args.start c.args.words count d k here.0 own
-    (least_of n s q (count * (d + k)) count d k d k there (omega arith) (sizes.0 ∙ c.cut_of-cut.ensures.words) (sizes.1 ∙ c.cut_of-cut.ensures.pointers))
+    (λ m. least_of m s q (count * (d + k)) count d k d k there (omega arith) (sizes.0 ∙ c.cut_of-cut.ensures.words) (sizes.1 ∙ c.cut_of-cut.ensures.pointers))
     (word ∙ ap (λ (j : ℕ). Some (list_pointer (head - p.position - 1) 7 j)) rows)
     (tag ∙ ap (λ (j : ℕ). Some (struct_pointer count j b)) (sym sizes.0) ∙ ap (λ (j : ℕ). Some (struct_pointer count d j)) (sym sizes.1))
     l m c.elements_end.result (subst (λ (j : ℕ). TestsElements n s q count d k (q.position + j) l c.elements_end.result m) own c.elements_end.ensures)

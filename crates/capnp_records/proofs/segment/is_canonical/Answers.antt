@@ -1,4 +1,4 @@
-use Rattle.std.proofs.Common.{◌≡◌, ℕ, Bool, true, false, Ok, sym}
+use Rattle.std.proofs.Common.{◌≡◌, ℕ, Bool, true, false, Ok, sym, arith}
 use Rattle.capnp_model.specs.Segments.{Segments, root}
 use Rattle.capnp_model.specs.Canonical.{is_canonical_message}
 use Rattle.capnp_canonical.specs.Standing.{IsSmall}
@@ -15,7 +15,7 @@ returns-in-Err g c =
 -- What is told of a small message is so.
 told : (n : ℕ) (s : Segments) (old new : ReadLimiter) (stands : Bool) → IsSmall s root → TellsMessage n s old (Ok stands) new → stands ≡ is_canonical_message n s
 told n s old new true small tells = sym tells.0
-told n s old new false small tells = sym (tells.0 small)
+told n s old new false small tells = sym (tells.0 small n (omega arith))
 
 pub returns-in-Ok : goal.returns-in-Ok
 returns-in-Ok g c =
