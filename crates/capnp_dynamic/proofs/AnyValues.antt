@@ -1,6 +1,6 @@
 -- What is put into a slot for a value.
 use Rattle.std.proofs.Common.{◌≡◌, ℕ, true, false, Bor, List, Option, Some, None, Result, refl, sym, ap, subst, ◌∙◌}
-use Rattle.std.specs.Prelude.{⊤, ◌&&◌, Bool, option_map}
+use Rattle.std.specs.Prelude.{⊤, IfErr, ◌&&◌, Bool, option_map}
 use Rattle.capnp_model.specs.Kinds.{SettingDynamicCapabilitiesIsUnsupported}
 use Rattle.capnp_model.specs.Schemas.{Ty, struct, Shape, Body, void_slot, plain_slot, pointer_slot, group_slot}
 use Rattle.capnp_model.specs.Trees.{Tree}
@@ -25,7 +25,7 @@ use Rattle.capnp_values.specs.declared.dynamic_value.Reader.{Reader}
 use Rattle.capnp_model.proofs.lemmas.Tests.{same_some}
 use Rattle.capnp_dynamic.specs.Edits.{marked_in}
 use Rattle.capnp_dynamic.specs.Given.{flat_content, set_content, set_entry, set_edit}
-use Rattle.capnp_dynamic.specs.Puts.{PutsContent}
+use Rattle.capnp_dynamic.specs.Puts.{HasCause, PutsContent}
 use Rattle.capnp_dynamic.specs.Sources.{SourceView, source_given, Stands}
 use Rattle.capnp_dynamic.specs.Begun.{is_untyped}
 use Rattle.capnp_dynamic.specs.Values.{Given, made, copied, fields, is_capability, struct_given, group_refusal, sets_no_group, Leaves, made_behind, given, value_given, IsPointerBody, IsPointerSlot, entry_edit, content_edit, PutsGiven}
@@ -108,16 +108,16 @@ module _ {A : Type 0} (bytes : A → List (List ℕ)) (v : Reader A) where
   edit_same union None = refl
   edit_same union (Some e) = refl
 
-  pub flat_puts : (old new : ArenaState) (p : StructPlace) (f : Field) (r : Result ⊤ Error) → value_given bytes v (entry_of f) ≡ made (set_content v (entry_of f))
-      → PutsContent old new p (set_edit f v) (set_content v (entry_of f)) r → PutsGiven old new p f (value_given bytes v (entry_of f)) r
-  flat_puts old new p f r e h =
+  pub flat_puts : (old new : ArenaState) (p : StructPlace) (f : Field) (r : Result ⊤ Error) (told : Error → Type 0) → value_given bytes v (entry_of f) ≡ made (set_content v (entry_of f))
+      → PutsContent old new p (set_edit f v) (set_content v (entry_of f)) r → IfErr r (HasCause (set_content v (entry_of f)) told) → PutsGiven told old new p f (value_given bytes v (entry_of f)) r
+  flat_puts old new p f r told e h cause =
       let union = union_in (shape_of_struct f.parent) in
       let k = set_content v (entry_of f) in
       let put : PutsContent old new p (content_edit f k) k r = subst (λ (x : Edit). PutsContent old new p x k r) (edit_same union (entry_of f)) h in
-      subst (λ (x : Given). PutsGiven old new p f x r) (sym e) put
+      subst (λ (x : Given). PutsGiven told old new p f x r) (sym e) (put, cause)
 
-  pub given_puts : (old new : ArenaState) (p : StructPlace) (f : Field) (g : Given) (r : Result ⊤ Error) → value_given bytes v (entry_of f) ≡ g → PutsGiven old new p f g r → PutsGiven old new p f (value_given bytes v (entry_of f)) r
-  given_puts old new p f g r e h = subst (λ (x : Given). PutsGiven old new p f x r) (sym e) h
+  pub given_puts : (told : Error → Type 0) (old new : ArenaState) (p : StructPlace) (f : Field) (g : Given) (r : Result ⊤ Error) → value_given bytes v (entry_of f) ≡ g → PutsGiven told old new p f g r → PutsGiven told old new p f (value_given bytes v (entry_of f)) r
+  given_puts told old new p f g r e h = subst (λ (x : Given). PutsGiven told old new p f x r) (sym e) h
 
 -- the type of a group's field
 pub group_type : (o : Option Entry) (b : Body) (t : Ty) → option_map (λ e. e.body) o ≡ Some b → option_map (λ e. type_of_body e.body) o ≡ Some t → t ≡ type_of_body b

@@ -12,6 +12,7 @@ mod AnyValues
 mod CopiedFields
 mod SourceReadings
 mod EmptyValues
+mod Faultless
 mod FieldRefusals
 mod NullRefusals
 mod GroupExamples

@@ -25,6 +25,7 @@ use Rattle.capnp_queries.specs.Types.{is_pointer}
 use Rattle.capnp_queries.specs.Handles.{entry_of, IsFieldRecord}
 use Rattle.capnp_queries.specs.declared.fields.Field.{Field}
 use Rattle.capnp_model.proofs.lemmas.Tests.{same_some}
+use Rattle.capnp_values.specs.Standing.{IsPointerType}
 use Rattle.capnp_dynamic.specs.NewLists.{ObjectNotMade}
 use Rattle.capnp_dynamic.specs.GroupRefusals.{type_tested, CopyRefused, CopyUnplaced, NotPut, ValueUnplaced, NullRefused, NullBodyRefused, NullEntryRefused, NullFieldRefused}
 use Rattle.capnp_dynamic.specs.GroupSets.{PutsValue}
@@ -35,32 +36,32 @@ use Rattle.capnp_object.proofs.lemmas.Walks.{unstopped}
 -- ---- copies of values that can be read
 
 -- the copy of a value that can be read is refused for want of room alone
-copy_unplaced : (ws : List (List ℕ)) (t : Tree) (cost : ℕ) (u : Segments) (e : Error) → tree_at 64 (default_segments ws) root ≡ Some t → visits_cost (visits 64 (default_segments ws) root) ≡ Some cost → CopyRefused 64 (default_segments ws) root u e → CopyUnplaced u t e
-copy_unplaced ws t cost u e holds costs h =
+copy_unplaced : (told : Error → Type 0) (ws : List (List ℕ)) (t : Tree) (cost : ℕ) (u : Segments) (e : Error) → tree_at 64 (default_segments ws) root ≡ Some t → visits_cost (visits 64 (default_segments ws) root) ≡ Some cost → CopyRefused told 64 (default_segments ws) root u e → CopyUnplaced u t e × told e
+copy_unplaced told ws t cost u e holds costs h =
     let path = visits 64 (default_segments ws) root in
-    let why : Unplaced (default_segments ws) path u h.old e h.new = elim h.why [ inl x ↦ absurd (unstopped path cost h.old h.new e costs h.unlimited x) | inr x ↦ x ] in
-    record { words = ws; holds = holds; old = h.old; new = h.new; unlimited = h.unlimited; why = why }
+    let why : Unplaced (default_segments ws) path u h.old e h.new × told e = elim h.why [ inl x ↦ absurd (unstopped path cost h.old h.new e costs h.unlimited x) | inr x ↦ x ] in
+    (record { words = ws; holds = holds; old = h.old; new = h.new; unlimited = h.unlimited; why = why.0 }, why.1)
 
-pub copy_not_put : (old new : ArenaState) (segment : ℕ) (ws : List (List ℕ)) (t : Tree) (cost : ℕ) → tree_at 64 (default_segments ws) root ≡ Some t → visits_cost (visits 64 (default_segments ws) root) ≡ Some cost
-    → (r : Result ⊤ Error) → IfErr r (CopyRefused 64 (default_segments ws) root (words_in new.segments)) → IfErr r (NotPut old new segment t)
-copy_not_put old new segment ws t cost holds costs (Ok x) h = tt
-copy_not_put old new segment ws t cost holds costs (Err e) h = inr (inr (copy_unplaced ws t cost (words_in new.segments) e holds costs h))
+pub copy_not_put : (told : Error → Type 0) (old new : ArenaState) (segment : ℕ) (ws : List (List ℕ)) (t : Tree) (cost : ℕ) → tree_at 64 (default_segments ws) root ≡ Some t → visits_cost (visits 64 (default_segments ws) root) ≡ Some cost
+    → (r : Result ⊤ Error) → IfErr r (CopyRefused told 64 (default_segments ws) root (words_in new.segments)) → IfErr r (NotPut told old new segment t)
+copy_not_put told old new segment ws t cost holds costs (Ok x) h = tt
+copy_not_put told old new segment ws t cost holds costs (Err e) h = let x = copy_unplaced told ws t cost (words_in new.segments) e holds costs h in inr (inr x.0, x.1)
 
 -- ---- what is put
 
 -- a value by another name
-pub put_as : (old new : ArenaState) (at : code.Place) (t v : Tree) (r : Result ⊤ Error) → t ≡ v → PutsValue old new at t r → PutsValue old new at v r
-put_as old new at t v r e h = subst (λ y. PutsValue old new at y r) e h
+pub put_as : (told : Error → Type 0) (old new : ArenaState) (at : code.Place) (t v : Tree) (r : Result ⊤ Error) → t ≡ v → PutsValue told old new at t r → PutsValue told old new at v r
+put_as told old new at t v r e h = subst (λ y. PutsValue told old new at y r) e h
 
-module _ (old new : ArenaState) (at : code.Place) where
-  object_not_put : (t : Tree) (r : Result ⊤ Error) → IfErr r (ObjectNotMade old new at.segment t) → IfErr r (NotPut old new at.segment t)
-  object_not_put t (Ok x) h = tt
-  object_not_put t (Err e) h = inr (inl h)
+module _ (told : Error → Type 0) (old new : ArenaState) (at : code.Place) where
+  object_not_put : (t : Tree) (r : Result ⊤ Error) → IfErr r (ObjectNotMade old new at.segment t) → IfErr r told → IfErr r (NotPut told old new at.segment t)
+  object_not_put t (Ok x) h k = tt
+  object_not_put t (Err e) h k = inr (inl h, k)
 
   -- an object is made
-  pub object_put : (t v : Tree) (words : ℕ) (r : Result ⊤ Error) → t ≡ v → OnOk r (Makes old new at t words) → IfErr r (ObjectNotMade old new at.segment t) → OnOk r (Grows (words_in old.segments) (words_in new.segments)) → new.books ≡ old.books → PutsValue old new at v r
-  object_put t v words r same made refused grows books =
-      put_as old new at t v r same (record { puts = made_puts r old new at t t words refl made; stands = list_stands r old new at.segment t grows refused; why = object_not_put t r refused; books = books })
+  pub object_put : (t v : Tree) (words : ℕ) (r : Result ⊤ Error) → t ≡ v → OnOk r (Makes old new at t words) → IfErr r (ObjectNotMade old new at.segment t) → IfErr r told → OnOk r (Grows (words_in old.segments) (words_in new.segments)) → new.books ≡ old.books → PutsValue told old new at v r
+  object_put t v words r same made refused cause grows books =
+      put_as told old new at t v r same (record { puts = made_puts r old new at t t words refl made; stands = list_stands r old new at.segment t grows refused; why = object_not_put t r refused cause; books = books })
 
   bytes_words : (bs : List ℕ) → words_for (8 * length bs) ≡ object_words (blob_tree bs)
   unfolding object_words
@@ -71,8 +72,8 @@ module _ (old new : ArenaState) (at : code.Place) where
   bytes_not_made bs (Err e) h = (subst (λ n. ListRefused old at.segment (2 ^ 29 ≤ length bs) n e) (bytes_words bs) h.0, h.1)
 
   -- a text or data
-  pub blob_put : (bs : List ℕ) (words : ℕ) (r : Result ⊤ Error) → OnOk r (Makes old new at (blob_tree bs) words) → IfErr r (BytesNotSet old new at.segment (length bs)) → OnOk r (Grows (words_in old.segments) (words_in new.segments)) → new.books ≡ old.books → PutsValue old new at (blob_tree bs) r
-  blob_put bs words r made refused grows books = object_put (blob_tree bs) (blob_tree bs) words r refl made (bytes_not_made bs r refused) grows books
+  pub blob_put : (bs : List ℕ) (words : ℕ) (r : Result ⊤ Error) → OnOk r (Makes old new at (blob_tree bs) words) → IfErr r (BytesNotSet old new at.segment (length bs)) → IfErr r told → OnOk r (Grows (words_in old.segments) (words_in new.segments)) → new.books ≡ old.books → PutsValue told old new at (blob_tree bs) r
+  blob_put bs words r made refused cause grows books = object_put (blob_tree bs) (blob_tree bs) words r refl made (bytes_not_made bs r refused) cause grows books
 
 -- ---- a type that is set counts as no null
 
@@ -117,23 +118,44 @@ counts_some s ty (struct_list w p es) b k h = absurd (cc h)
 
 -- ---- a field
 
-in_slot : (s : Schema) (o : Option Entry) (i : ℕ) (ty : Ty) (d : Option Tree) (u : Segments) (e : Error) → option_map (λ e. e.body) o ≡ Some (pointer_slot i ty d) → NullRefused s ty d u e → NullEntryRefused s o u e
-in_slot s None i ty d u e body h = absurd (cc body)
-in_slot s (Some x) i ty d u e body h = subst (λ (y : Body). NullBodyRefused s y u e) (sym (same_some body)) h
+in_slot : (told : Error → Type 0) (s : Schema) (o : Option Entry) (i : ℕ) (ty : Ty) (d : Option Tree) (u : Segments) (e : Error) → option_map (λ e. e.body) o ≡ Some (pointer_slot i ty d) → NullRefused told s ty d u e → NullEntryRefused told s o u e
+in_slot told s None i ty d u e body h = absurd (cc body)
+in_slot told s (Some x) i ty d u e body h = subst (λ (y : Body). NullBodyRefused told s y u e) (sym (same_some body)) h
 
-unplaced : (old new : ArenaState) (segment : ℕ) (t : Tree) (e : Error) → (t ≡ null → ⊥) → NotPut old new segment t e → ValueUnplaced (words_in new.segments) t e
-unplaced old new segment t e some (inl x) = absurd (some x.0)
-unplaced old new segment t e some (inr (inl x)) = inl (record { state = old; words = ap words_in (sym x.1.0); segment = segment; why = x.0 })
-unplaced old new segment t e some (inr (inr x)) = inr x
+unplaced : (told : Error → Type 0) (old new : ArenaState) (segment : ℕ) (t : Tree) (e : Error) → (t ≡ null → ⊥) → NotPut told old new segment t e → ValueUnplaced (words_in new.segments) t e × told e
+unplaced told old new segment t e some (inl x) = absurd (some x.0)
+unplaced told old new segment t e some (inr (inl x, k)) = (inl (record { state = old; words = ap words_in (sym x.1.0); segment = segment; why = x.0 }), k)
+unplaced told old new segment t e some (inr (inr x, k)) = (inr x, k)
 
-module _ (f : Field) (i : ℕ) (ty : Ty) (d : Option Tree) (body : option_map (λ e. e.body) (entry_of f) ≡ Some (pointer_slot i ty d)) (e : Error) where
+module _ (told : Error → Type 0) (f : Field) (i : ℕ) (ty : Ty) (d : Option Tree) (body : option_map (λ e. e.body) (entry_of f) ≡ Some (pointer_slot i ty d)) (e : Error) where
   -- its type isn't set
-  pub null_untaken : (u : Segments) → type_tested ty ≡ Err (kind_of e.kind) → NullFieldRefused f u e
-  null_untaken u h = in_slot (schema_around f.parent) (entry_of f) i ty d u e body (inl h)
+  pub null_untaken : (u : Segments) → type_tested ty ≡ Err (kind_of e.kind) → NullFieldRefused told f u e
+  null_untaken u h = in_slot told (schema_around f.parent) (entry_of f) i ty d u e body (inl h)
 
   -- it is, but what it counts as isn't put
-  pub null_unplaced : (r : FieldNode) → IsFieldRecord f.parent f.index r → type_tested ty ≡ Ok tt → (old new : ArenaState) (segment : ℕ) → NotPut old new segment (source_tree (schema_around f.parent) ty (default_or_null d) null) e → NullFieldRefused f (words_in new.segments) e
+  pub null_unplaced : (r : FieldNode) → IsFieldRecord f.parent f.index r → type_tested ty ≡ Ok tt → (old new : ArenaState) (segment : ℕ) → NotPut told old new segment (source_tree (schema_around f.parent) ty (default_or_null d) null) e → NullFieldRefused told f (words_in new.segments) e
   null_unplaced r is taken old new segment h =
       let s = schema_around f.parent in
       let behind = kind_behind s.shape_of r.kind i ty d (body_is f r is (pointer_slot i ty d) body) in
-      in_slot s (entry_of f) i ty d (words_in new.segments) e body (inr (unplaced old new segment _ e (counts_some s ty (default_or_null d) behind taken) h))
+      in_slot told s (entry_of f) i ty d (words_in new.segments) e body (inr (unplaced told old new segment _ e (counts_some s ty (default_or_null d) behind taken) h))
+
+  -- and then memory is refused
+  pub null_told : (r : FieldNode) → IsFieldRecord f.parent f.index r → type_tested ty ≡ Ok tt → (old new : ArenaState) (segment : ℕ) → NotPut told old new segment (source_tree (schema_around f.parent) ty (default_or_null d) null) e → told e
+  null_told r is taken old new segment h =
+      let s = schema_around f.parent in
+      let behind = kind_behind s.shape_of r.kind i ty d (body_is f r is (pointer_slot i ty d) body) in
+      (unplaced told old new segment _ e (counts_some s ty (default_or_null d) behind taken) h).1
+
+-- the type of a field behind a pointer
+pub behind_pointer : (f : Field) (r : FieldNode) → IsFieldRecord f.parent f.index r → (i : ℕ) (ty : Ty) (d : Option Tree) → option_map (λ e. e.body) (entry_of f) ≡ Some (pointer_slot i ty d) → is_pointer ty ≡ true
+behind_pointer f r is i ty d body = kind_behind (schema_around f.parent).shape_of r.kind i ty d (body_is f r is (pointer_slot i ty d) body)
+
+pub is_behind : (ty : Ty) → is_pointer ty ≡ true → IsPointerType ty
+is_behind void h = absurd (cc h)
+is_behind (plain p) h = absurd (cc h)
+is_behind text h = tt
+is_behind blob h = tt
+is_behind untyped h = tt
+is_behind interface h = tt
+is_behind (struct id) h = tt
+is_behind (list ty) h = tt

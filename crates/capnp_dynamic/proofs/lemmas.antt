@@ -1,5 +1,6 @@
 pub mod Ready
 pub mod Writes
+pub mod Causes
 pub mod Deeper
 pub mod Grown
 pub mod StructTypes

@@ -1,5 +1,5 @@
 -- What contracts see of struct builders. (Encoding, "Structs")
-use Rattle.std.specs.Prelude.{◌≡◌, true, ⊤, ℕ, ℤ, List, length, map, Option, IfSome, Result, OnErr}
+use Rattle.std.specs.Prelude.{◌≡◌, true, ⊤, ℕ, ℤ, List, length, map, Option, IfSome, Result, OnErr, IfErr}
 use Rattle.capnp_model.specs.Segments.{Segments}
 use Rattle.capnp_model.specs.Calls.{Content}
 use Rattle.capnp_model.specs.Edits.{Edit}
@@ -13,7 +13,7 @@ use Rattle.capnp_queries.specs.declared.fields.Field.{Field}
 use Rattle.capnp_copy_from.specs.Copies.{GrowsByZeros}
 use Rattle.capnp_builders.specs.Making.{state_of}
 use Rattle.capnp_dynamic.specs.Edits.{IsThere, IsWide, Edits}
-use Rattle.capnp_dynamic.specs.Puts.{PutsContent}
+use Rattle.capnp_dynamic.specs.Puts.{PutsContent, HasCause}
 use Rattle.capnp_dynamic.specs.Inits.{LiesIn}
 use Rattle.capnp_dynamic.specs.Begun.{TellsBegun, IsPartThere}
 use Rattle.capnp_dynamic.specs.Values.{Given, PutsGiven, sets_no_group}
@@ -54,19 +54,20 @@ module _ {A : Type 0} (bytes : A → List (List ℕ)) where
   struct_of nesting b = struct_at (bytes b.memory.now.arena) (nesting b.memory.now.arena) (place_view b.place.start) b.place.data_words b.place.pointers
 
 module _ {A : Type 0} (segments : A → List (List ℕ)) (room : A → List ℕ) (books : A → List (List ℕ)) where
-  -- Content is put into a field of the struct, by a handle that stays where it was.
-  pub record Puts {X : Type 0} (old new : Builder A) (f : Edit) (content : Content) (r : Result X Error) : Type 0 where
+  -- Content is put into a field of the struct, by a handle that stays where it was; where an object isn't made, `told` says of the error why.
+  pub record Puts {X : Type 0} (told : Error → Type 0) (old new : Builder A) (f : Edit) (content : Content) (r : Result X Error) : Type 0 where
     pub same : new.memory.ghost_name ≡ old.memory.ghost_name
     pub place : new.place ≡ old.place
     pub schema : new.schema ≡ old.schema
     pub puts : PutsContent (state_of segments room books old.memory.now) (state_of segments room books new.memory.now) old.place f content r
+    pub cause : IfErr r (HasCause content told)
 
-  -- What is given for a value is put into a field of the struct, by a handle that stays where it was. After a refusal all words stand, and new ones are zero, but where a group was to be set to a struct.
-  pub record Sets (old new : Builder A) (f : Field) (given : Given) (r : Result ⊤ Error) : Type 0 where
+  -- What is given for a value is put into a field of the struct, by a handle that stays where it was. After a refusal all words stand, and new ones are zero, but where a group was to be set to a struct; where memory lacks, `told` says of the error why.
+  pub record Sets (told : Error → Type 0) (old new : Builder A) (f : Field) (given : Given) (r : Result ⊤ Error) : Type 0 where
     pub same : new.memory.ghost_name ≡ old.memory.ghost_name
     pub place : new.place ≡ old.place
     pub schema : new.schema ≡ old.schema
-    pub puts : PutsGiven (state_of segments room books old.memory.now) (state_of segments room books new.memory.now) old.place f given r
+    pub puts : PutsGiven told (state_of segments room books old.memory.now) (state_of segments room books new.memory.now) old.place f given r
     pub stands : sets_no_group given ≡ true → OnErr r (GrowsByZeros (words_around segments old) (words_around segments new))
 
 -- The struct that was put into a field: where it lies behind the field's pointer, under which schema; it is there, and wide enough.

@@ -26,6 +26,7 @@ use Rattle.capnp_queries.specs.Structs.{schema_around, shape_of_struct}
 use Rattle.capnp_queries.specs.Handles.{entry_of}
 use Rattle.capnp_queries.specs.declared.fields.Field.{Field}
 use Rattle.capnp_builders.specs.Making.{ArenaState}
+use Rattle.capnp_dynamic.specs.GroupFaults.{StandsAt, IsFieldFaultless}
 use Rattle.capnp_dynamic.specs.GroupRefusals.{NotPut, FieldRefused}
 use Rattle.capnp_dynamic.specs.Sources.{Stands}
 
@@ -87,10 +88,11 @@ copied_fields s members g from = field_writes s members (fields_in g) (union_in 
 abbrev pub copied_group : Schema → Shape → Cell → List Edit
 copied_group s g from = copied_fields s true g from ++ copied_fields s false g from
 
--- A field that is a group is set to the fields of a struct that is read: the model's writes of the group (`group_writes`) are done, or a beginning of them, and then one of the fields isn't set.
-pub record SetsFields (v : StructView) (s u : Segments) (p : StructPlace) (f : Field) (r : Result ⊤ Error) : Type 0 where
+-- A field that is a group is set to the fields of a struct that is read: the model's writes of the group (`group_writes`) are done, or a beginning of them, and then one of the fields isn't set; where memory lacks, `told` says why, and so it is where the model finds no fault in what is read.
+pub record SetsFields (told : Error → Type 0) (v : StructView) (s u : Segments) (p : StructPlace) (f : Field) (r : Result ⊤ Error) : Type 0 where
   pub writes : (from : Cell) → IsSource v from → WritesAsFar s u p (copied_field f from) r
-  pub why : IfErr r (FieldRefused f v u)
+  pub why : IfErr r (FieldRefused told f v u)
+  pub cause : (from : Cell) → StandsAt v from → IfErr r (λ e. IsFieldFaultless f from → told e)
 
 -- ---- pointers
 
@@ -115,11 +117,11 @@ pub record IsDefault (d : Option Tree) (said : Option Value) : Type 0 where
   pub readable : IsReadable said
   pub value : default_tree said ≡ d
 
--- A value is put in place of that of the pointer at a place, whatever this was; where it isn't, all words stand, and new ones are zero.
-pub record PutsValue (old new : ArenaState) (slot : code.Place) (t : Tree) (r : Result ⊤ Error) : Type 0 where
+-- A value is put in place of that of the pointer at a place, whatever this was; where it isn't, all words stand, and new ones are zero; where memory lacks, `told` says why.
+pub record PutsValue (told : Error → Type 0) (old new : ArenaState) (slot : code.Place) (t : Tree) (r : Result ⊤ Error) : Type 0 where
   pub puts : OnOk r (PutsAny (words_in old.segments) (words_in new.segments) (place_view slot) t)
   pub stands : Stands (words_in old.segments) (words_in new.segments) r
-  pub why : IfErr r (NotPut old new slot.segment t)
+  pub why : IfErr r (NotPut told old new slot.segment t)
   pub books : new.books ≡ old.books
 
 -- The words of a default hold this value, at most 64 levels deep.

@@ -8,6 +8,7 @@ pub mod Blobs
 pub mod Puts
 pub mod Sources
 pub mod GroupSets
+pub mod GroupFaults
 pub mod GroupRefusals
 pub mod Inits
 pub mod Begun

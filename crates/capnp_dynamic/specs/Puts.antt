@@ -56,6 +56,12 @@ IsTooLong (struct_list words pointers es) = (2 ^ 29 ≤ element_count es) ⊎ (2
 abbrev pub ObjectRefused : ArenaState → ℕ → Tree → Error → Type 0
 ObjectRefused old segment t = ListRefused old segment (IsTooLong t) (object_words t)
 
+-- Why content isn't put: where it is an object, `told` says of the error why it came.
+abbrev pub HasCause : Content → (Error → Type 0) → Error → Type 0
+HasCause (refused_by k) told e = Unit {0}
+HasCause (bits_of n) told e = Unit {0}
+HasCause (object t) told e = told e
+
 -- What is answered, and what the struct becomes, by the content: what is refused by its type is just that; bits are never refused, and take no memory; an object is refused only for want of it.
 abbrev pub PutsContent : {X : Type 0} → ArenaState → ArenaState → StructPlace → Edit → Content → Result X Error → Type 0
 PutsContent old new p f (refused_by k) r = answered r ≡ Err k

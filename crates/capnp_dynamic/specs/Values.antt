@@ -1,5 +1,5 @@
 -- What `set` puts into a slot for any value. (Encoding, "Structs", "Lists", "Blobs")
-use Rattle.std.specs.Prelude.{◌≡◌, ⊤, ℕ, if◌then◌else◌, Bool, true, false, ◌&&◌, List, Option, Some, None, Result, OnErr}
+use Rattle.std.specs.Prelude.{◌≡◌, ⊤, ℕ, if◌then◌else◌, Bool, true, false, ◌&&◌, List, Option, Some, None, Result, OnErr, IfErr}
 use Rattle.capnp_model.specs.Kinds.{Kind, TypeMismatch, NotAStruct, SettingDynamicCapabilitiesIsUnsupported}
 use Rattle.capnp_model.specs.Schemas.{Ty, void, plain, text, blob, untyped, interface, struct, list, Body, void_slot, plain_slot, pointer_slot, group_slot}
 use Rattle.capnp_model.specs.Trees.{Tree}
@@ -24,7 +24,7 @@ use Rattle.capnp_values.specs.declared.dynamic_value.Reader.TheVariants as value
 use Rattle.capnp_dynamic.specs.Begun.{is_untyped}
 use Rattle.capnp_dynamic.specs.Given.{flat_content}
 use Rattle.capnp_dynamic.specs.GroupSets.{SetsFields}
-use Rattle.capnp_dynamic.specs.Puts.{PutsContent}
+use Rattle.capnp_dynamic.specs.Puts.{PutsContent, HasCause}
 use Rattle.capnp_dynamic.specs.Sources.{SourceView, source_given, PutsSource, EditsWithin}
 
 -- What is put: content that is made, a copy, or the fields of a struct, to which a group is set.
@@ -148,14 +148,14 @@ content_edit f k = entry_edit (union_in (shape_of_struct f.parent)) k (entry_of 
 abbrev pub tree_edit : Field → Tree → Edit
 tree_edit f t = content_edit f (object t)
 
--- What is answered, and what the struct becomes, by what is put: content as `PutsContent` says; a copy as the whole tree that is read, under no limit of words; of the fields of a struct the model's writes of a group, or a beginning of them, and why a field isn't set.
-abbrev pub PutsGiven : ArenaState → ArenaState → StructPlace → Field → Given → Result ⊤ Error → Type 0
-PutsGiven old new p f (made k) r = PutsContent old new p (content_edit f k) k r
-PutsGiven old new p f (copied x) r =
+-- What is answered, and what the struct becomes, by what is put: content as `PutsContent` says; a copy as the whole tree that is read, under no limit of words; of the fields of a struct the model's writes of a group, or a beginning of them, and why a field isn't set. Where memory lacks, `told` says of the error why.
+abbrev pub PutsGiven : (Error → Type 0) → ArenaState → ArenaState → StructPlace → Field → Given → Result ⊤ Error → Type 0
+PutsGiven told old new p f (made k) r = PutsContent old new p (content_edit f k) k r × IfErr r (HasCause k told)
+PutsGiven told old new p f (copied x) r =
     let s = words_in old.segments in
     let u = words_in new.segments in
     WithoutLimit (PutsSource x s u (λ n t. EditsWithin n s u p (tree_edit f t))) r
-PutsGiven old new p f (fields v) r = SetsFields v (words_in old.segments) (words_in new.segments) p f r
+PutsGiven told old new p f (fields v) r = SetsFields told v (words_in old.segments) (words_in new.segments) p f r
 
 -- No group is set to the fields of a struct.
 abbrev pub sets_no_group : Given → Bool

@@ -1,14 +1,17 @@
 //! Fields that are begun.
-ghost use Rattle.std.specs.Prelude.{◌≡◌, IfOk, OnErr};
+ghost use Rattle.std.specs.Prelude.{◌≡◌, IfOk, IfErr, OnErr};
 ghost use Rattle.capnp_model.specs.Accepted.{areas_of};
 ghost use Rattle.capnp_model.specs.Coverage.{Grows};
 ghost use Rattle.capnp_units.specs.Segments.{words_in};
-ghost use Rattle.capnp_queries.specs.Structs.{shape_of_struct};
+ghost use Rattle.capnp_queries.specs.Handles.{entry_of};
+ghost use Rattle.capnp_queries.specs.Structs.{schema_around, shape_of_struct};
 ghost use Rattle.capnp_queries.specs.Types.{ty_of};
 ghost use Rattle.capnp_dynamic.specs.Edits.{IsThere};
 ghost use Rattle.capnp_dynamic.specs.Inside.{LieIn};
-ghost use Rattle.capnp_dynamic.specs.Begun.{PutsBegun, TellsField, IsThereIfTold, is_untyped};
+ghost use Rattle.capnp_dynamic.specs.Begun.{begun_field, PutsBegun, TellsField, IsThereIfTold, is_untyped};
+ghost use Rattle.capnp_copy.specs.Refusals.{IsSizeOrRefusal};
 ghost use Rattle.capnp_copy.specs.States.{state_in};
+ghost use Rattle.capnp_dynamic.specs.Puts.{HasCause};
 
 use crate::init::{Part, init_slot};
 use crate::slots::clear_field;
@@ -46,6 +49,8 @@ pub fn begin_field<'a, A: BuilderArena>(
     ensures tells { IfOk result (TellsField (words_in (A.segments arena.old))
         (words_in (A.segments arena.new)) object field.entry) }
     ensures there { IfOk result (IsThereIfTold (words_in (A.segments arena.new))) }
+    ensures cause { IfErr result (HasCause (begun_field (schema_around field.entry.parent)
+        (entry_of field.entry)) (IsSizeOrRefusal A.refuses)) }
     ensures refused { OnErr result (A.segments arena.new ≡ A.segments arena.old) }
     ensures grows { Grows (words_in (A.segments arena.old)) (words_in (A.segments arena.new)) }
     ensures books { A.books arena.new ≡ A.books arena.old }

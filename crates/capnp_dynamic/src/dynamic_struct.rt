@@ -2,6 +2,7 @@
 ghost use Rattle.std.specs.Prelude.{◌≡◌, ◌↔◌, true, None, Ok, IsOkAnd, IfOk, OnOk, OnErr};
 ghost use Rattle.capnp_model.specs.Calls.{clear, init, initn};
 ghost use Rattle.capnp_dynamic.specs.Builders.{IsReady, WritesInPlace, Stays, Puts, Sets, IsPartOf, IsBegunBy, struct_of};
+ghost use Rattle.capnp_copy.specs.Refusals.{IsSizeOrRefusal};
 ghost use Rattle.capnp_dynamic.specs.Calls.{edit_of};
 ghost use Rattle.capnp_dynamic.specs.Given.{is_flat};
 ghost use Rattle.capnp_dynamic.specs.Values.{value_given};
@@ -165,8 +166,8 @@ impl<'a, A: BuilderArena> Builder<'a, A> {
         requires ready { IsReady A.segments self.old }
         requires field { field.parent ≡ self.old.schema }
         ensures same { self.new.memory.ghost_name ≡ self.old.memory.ghost_name }
-        ensures sets { Sets A.segments A.room A.books self.old self.new field.entry
-            (value_given B.segments value.entry (entry_of field.entry)) result }
+        ensures sets { Sets A.segments A.room A.books (IsSizeOrRefusal A.refuses) self.old self.new
+            field.entry (value_given B.segments value.entry (entry_of field.entry)) result }
         ensures flat { is_flat value.entry ≡ true
             → OnErr result (Stays A.segments self.old self.new) }
         ensures books { A.books self.new.memory.now.arena ≡ A.books self.old.memory.now.arena }
@@ -185,7 +186,7 @@ impl<'a, A: BuilderArena> Builder<'a, A> {
         requires ready { IsReady A.segments self.old }
         ensures same { self.new.memory.ghost_name ≡ self.old.memory.ghost_name }
         ensures set { AnswersNamed self.old.schema name.now (λ f r.
-            Sets A.segments A.room A.books self.old self.new f
+            Sets A.segments A.room A.books (IsSizeOrRefusal A.refuses) self.old self.new f
             (value_given B.segments value.entry (entry_of f)) r) result }
         ensures unknown { place_of_name name.now (fields_of_struct self.old.schema) ≡ None
             → Stays A.segments self.old self.new }
@@ -226,7 +227,8 @@ impl<'a, A: BuilderArena> Builder<'a, A> {
         requires field { field.parent ≡ self.old.schema }
         requires slot { is_slot (entry_of field) ≡ true }
         ensures same { self.new.memory.ghost_name ≡ self.old.memory.ghost_name }
-        ensures puts { Puts A.segments A.room A.books self.old self.new (edit_of field.entry init)
+        ensures puts { Puts A.segments A.room A.books (IsSizeOrRefusal A.refuses)
+            self.old self.new (edit_of field.entry init)
             (init_content (schema_around field.entry.parent) (entry_of field.entry)) result }
         ensures part { IfOk result (IsPartOf A.segments self.old self.new field.entry) }
         ensures refused { OnErr result (Stays A.segments self.old self.new) }
@@ -244,7 +246,8 @@ impl<'a, A: BuilderArena> Builder<'a, A> {
         requires ready { IsReady A.segments self.old }
         requires field { field.parent ≡ self.old.schema }
         ensures same { self.new.memory.ghost_name ≡ self.old.memory.ghost_name }
-        ensures puts { Puts A.segments A.room A.books self.old self.new (edit_of field.entry init)
+        ensures puts { Puts A.segments A.room A.books (IsSizeOrRefusal A.refuses)
+            self.old self.new (edit_of field.entry init)
             (begun_field (schema_around field.entry.parent) (entry_of field.entry)) result }
         ensures begun { IfOk result (IsBegunBy A.segments self.old self.new field.entry) }
         ensures refused { OnErr result (Stays A.segments self.old self.new) }
@@ -262,8 +265,8 @@ impl<'a, A: BuilderArena> Builder<'a, A> {
         requires ready { IsReady A.segments self.old }
         requires field { field.parent ≡ self.old.schema }
         ensures same { self.new.memory.ghost_name ≡ self.old.memory.ghost_name }
-        ensures puts { Puts A.segments A.room A.books self.old self.new
-            (edit_of field.entry (initn count))
+        ensures puts { Puts A.segments A.room A.books (IsSizeOrRefusal A.refuses)
+            self.old self.new (edit_of field.entry (initn count))
             (initn_field (schema_around field.entry.parent) count (entry_of field.entry)) result }
         ensures refused { OnErr result (Stays A.segments self.old self.new) }
         ensures books { A.books self.new.memory.now.arena ≡ A.books self.old.memory.now.arena }
@@ -278,7 +281,7 @@ impl<'a, A: BuilderArena> Builder<'a, A> {
         requires ready { IsReady A.segments self.old }
         ensures same { self.new.memory.ghost_name ≡ self.old.memory.ghost_name }
         ensures puts { AnswersNamed self.old.schema name.now (λ f r. Puts A.segments A.room A.books
-            self.old self.new (edit_of f init) (begun_field (schema_around f.parent) (entry_of f)) r
+            (IsSizeOrRefusal A.refuses) self.old self.new (edit_of f init) (begun_field (schema_around f.parent) (entry_of f)) r
             × IfOk r (IsBegunBy A.segments self.old self.new f)) result }
         ensures refused { OnErr result (Stays A.segments self.old self.new) }
         ensures books { A.books self.new.memory.now.arena ≡ A.books self.old.memory.now.arena }
@@ -295,7 +298,7 @@ impl<'a, A: BuilderArena> Builder<'a, A> {
         requires ready { IsReady A.segments self.old }
         ensures same { self.new.memory.ghost_name ≡ self.old.memory.ghost_name }
         ensures puts { AnswersNamed self.old.schema name.now (λ f r. Puts A.segments A.room A.books
-            self.old self.new (edit_of f (initn count))
+            (IsSizeOrRefusal A.refuses) self.old self.new (edit_of f (initn count))
             (initn_field (schema_around f.parent) count (entry_of f)) r) result }
         ensures refused { OnErr result (Stays A.segments self.old self.new) }
         ensures books { A.books self.new.memory.now.arena ≡ A.books self.old.memory.now.arena }

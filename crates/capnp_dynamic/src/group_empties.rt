@@ -13,6 +13,7 @@ ghost use Rattle.capnp_queries.specs.Types.{ty_of, is_type_of};
 ghost use Rattle.capnp_dynamic.specs.NewLists.{tree_of_new, IsMade};
 ghost use Rattle.capnp_dynamic.specs.GroupSets.{PutsValue, is_struct_list};
 ghost use Rattle.capnp_copy.specs.States.{state_in};
+ghost use Rattle.capnp_copy.specs.Refusals.{IsSizeOrRefusal};
 
 use crate::initn::{NewList, list_for, put_list};
 use capnp_copy::arena::BuilderArena;
@@ -59,7 +60,7 @@ fn empty_list(set: &SchemaSet, ty: Type) -> Option<NewList>
     list_for(set, ty)
 }
 
-/// Puts the empty value of a type in place of the value of the pointer at a place. A type without one is refused with `TypeMismatch`, others only for want of room.
+/// Puts the empty value of a type in place of the value of the pointer at a place. A type without one is refused with `TypeMismatch`, others only for want of room: with `SizeOverflow`, or as the allocator refuses.
 pub(crate) fn put_empty<A: BuilderArena>(
     arena: &mut A,
     slot: Place,
@@ -71,7 +72,7 @@ pub(crate) fn put_empty<A: BuilderArena>(
     requires near { slot.position < 2 ^ 61 }
     requires known { is_type_of (nodes_of set.now) ty ≡ true }
     ensures { let at = state_in A.segments A.room A.books in
-        PutsValue (at arena.old) (at arena.new) slot
+        PutsValue (IsSizeOrRefusal A.refuses) (at arena.old) (at arena.new) slot
         (empty_tree (schema_of (nodes_of set.now)) (ty_of ty)) result }
 {
     if let TypeVariant::Struct(_) = ty.which() {

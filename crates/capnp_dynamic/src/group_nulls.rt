@@ -15,6 +15,7 @@ ghost use Rattle.capnp_queries.specs.Handles.{entry_of};
 ghost use Rattle.capnp_queries.specs.Types.{ty_of, is_type_of};
 ghost use Rattle.capnp_dynamic.specs.GroupSets.{PutsValue, null_tree, IsReadable, IsDefault};
 ghost use Rattle.capnp_copy.specs.States.{state_in};
+ghost use Rattle.capnp_copy.specs.Refusals.{IsSizeOrRefusal};
 
 use crate::group_empties::put_empty;
 use crate::roots::{copy_root, default_said, has_null_root, words_of};
@@ -52,7 +53,8 @@ fn put_segment<A: BuilderArena>(
     requires reads { IsSome (decode bytes.now) }
     ensures { let at = state_in A.segments A.room A.books in
         let around = schema_of (nodes_of set.now) in let d = default_or_null (decode bytes.now) in
-        PutsValue (at arena.old) (at arena.new) slot (source_tree around (ty_of ty) d null) result }
+        PutsValue (IsSizeOrRefusal A.refuses) (at arena.old) (at arena.new) slot
+        (source_tree around (ty_of ty) d null) result }
 {
     values_on_walks();
     let words = words_of(bytes);
@@ -62,7 +64,7 @@ fn put_segment<A: BuilderArena>(
     copy_root(arena, slot, words)
 }
 
-/// Puts what a null pointer counts as in place of the value of the pointer at a place: its default, else, and where the default is null, the empty value of its type. A type that has neither is refused with `TypeMismatch`, others only for want of room.
+/// Puts what a null pointer counts as in place of the value of the pointer at a place: its default, else, and where the default is null, the empty value of its type. A type that has neither is refused with `TypeMismatch`, others only for want of room: with `SizeOverflow`, or as the allocator refuses.
 pub(crate) fn put_null<A: BuilderArena>(
     arena: &mut A,
     slot: Place,
@@ -76,7 +78,7 @@ pub(crate) fn put_null<A: BuilderArena>(
     requires known { is_type_of (nodes_of set.now) ty ≡ true }
     requires readable { IsReadable (option_map value_of (option_copied default)) }
     ensures { let at = state_in A.segments A.room A.books in
-        PutsValue (at arena.old) (at arena.new) slot
+        PutsValue (IsSizeOrRefusal A.refuses) (at arena.old) (at arena.new) slot
         (null_tree (schema_of (nodes_of set.now)) (ty_of ty)
         (option_map value_of (option_copied default.entry))) result }
 {

@@ -11,11 +11,14 @@ ghost use Rattle.capnp_queries.specs.Handles.{entry_of};
 ghost use Rattle.capnp_queries.specs.Structs.{nodes_around, schema_around, shape_of_struct, fields_of_struct};
 ghost use Rattle.capnp_queries.specs.Types.{ty_of, is_type_of};
 ghost use Rattle.capnp_values.specs.Sources.{struct_seen};
+ghost use Rattle.capnp_copy.specs.Refusals.{IsSizeOrRefusal};
 ghost use Rattle.capnp_dynamic.specs.Edits.{IsThere};
 ghost use Rattle.capnp_dynamic.specs.Inside.{LieIn};
 ghost use Rattle.capnp_dynamic.specs.Puts.{answered};
+ghost use Rattle.capnp_queries.specs.Fields.{union_in};
+ghost use Rattle.capnp_dynamic.specs.GroupFaults.{StandsAt, IsFieldFaultless, AreFaultless, IsGroupFaultless};
 ghost use Rattle.capnp_dynamic.specs.GroupRefusals.{type_tested, NullFieldRefused, SomeRefused, FieldsRefused, FieldRefused};
-ghost use Rattle.capnp_dynamic.specs.GroupSets.{IsSource, WritesAsFar, IsPointerAt, SetsFields, copied_field, copied_turn, copied_fields, copied_group};
+ghost use Rattle.capnp_dynamic.specs.GroupSets.{IsSource, entry_turn, WritesAsFar, IsPointerAt, SetsFields, copied_field, copied_turn, copied_fields, copied_group};
 
 use crate::group_nulls::{default_value, put_null};
 use crate::group_sources::{bits_in, copy_child, has_turn};
@@ -30,6 +33,7 @@ use capnp_records::node::NO_DISCRIMINANT;
 use capnp_units::errors::{Error, Result};
 use capnp_units::kinds::ErrorKind;
 use capnp_values::dynamic_struct::Reader;
+use capnp_values::laws::{nulls_are_read, pointers_are_read};
 use capnp_values::source::StructSource;
 use capnp_wire::arena::ReaderArena;
 use capnp_wire::structs::StructReader;
@@ -62,7 +66,10 @@ fn copy_null<A: BuilderArena>(
     ensures writes { (from : Cell) → child from.kids index ≡ null
         → WritesAsFar (words_in (A.segments arena.old)) (words_in (A.segments arena.new)) object
         (copied_field field.entry from) result }
-    ensures why { IfErr result (NullFieldRefused field.entry (words_in (A.segments arena.new))) }
+    ensures why { IfErr result (NullFieldRefused (IsSizeOrRefusal A.refuses) field.entry
+        (words_in (A.segments arena.new))) }
+    ensures cause { (from : Cell) → child from.kids index ≡ null → IfErr result (λ e.
+        IsFieldFaultless field.entry from → IsSizeOrRefusal A.refuses e) }
     ensures grows { Grows (words_in (A.segments arena.old)) (words_in (A.segments arena.new)) }
     ensures books { A.books arena.new ≡ A.books arena.old }
 {
@@ -94,11 +101,15 @@ fn copy_some<'a, A: BuilderArena, B: ReaderArena>(
     ensures writes { (from : Cell) → IsSource (seen_struct B.segments source.now) from
         → WritesAsFar (words_in (A.segments arena.old)) (words_in (A.segments arena.new)) object
         (copied_field field.entry from) result }
-    ensures why { IfErr result (SomeRefused (schema_around field.entry.parent)
+    ensures why { IfErr result (SomeRefused (IsSizeOrRefusal A.refuses) (schema_around field.entry.parent)
         (seen_struct B.segments source.now) index (ty_of ty) (words_in (A.segments arena.new))) }
+    ensures cause { (from : Cell) → StandsAt (seen_struct B.segments source.now) from
+        → IfErr result (λ e. IsFieldFaultless field.entry from → IsSizeOrRefusal A.refuses e) }
     ensures grows { Grows (words_in (A.segments arena.old)) (words_in (A.segments arena.new)) }
     ensures books { A.books arena.new ≡ A.books arena.old }
 {
+    nulls_are_read();
+    pointers_are_read();
     let _said = field.get_proto();
     test_type(ty)?;
     Reader::new(*source, field.parent()).get(field)?;
@@ -121,11 +132,14 @@ fn copy_field<'a, A: BuilderArena, B: ReaderArena>(
     ensures writes { (from : Cell) → IsSource (seen_struct B.segments source.now) from
         → WritesAsFar (words_in (A.segments arena.old)) (words_in (A.segments arena.new)) object
         (copied_field field.entry from) result }
-    ensures why { IfErr result (FieldRefused field.entry (seen_struct B.segments source.now)
-        (words_in (A.segments arena.new))) }
+    ensures why { IfErr result (FieldRefused (IsSizeOrRefusal A.refuses) field.entry
+        (seen_struct B.segments source.now) (words_in (A.segments arena.new))) }
+    ensures cause { (from : Cell) → StandsAt (seen_struct B.segments source.now) from
+        → IfErr result (λ e. IsFieldFaultless field.entry from → IsSizeOrRefusal A.refuses e) }
     ensures grows { Grows (words_in (A.segments arena.old)) (words_in (A.segments arena.new)) }
     ensures books { A.books arena.new ≡ A.books arena.old }
 {
+    nulls_are_read();
     let _said = field.get_proto();
     match field.place() {
         FieldPlace::Void { .. } => {
@@ -167,8 +181,12 @@ fn copy_turn<'a, A: BuilderArena, B: ReaderArena>(
     ensures writes { (from : Cell) → IsSource (seen_struct B.segments source.now) from
         → WritesAsFar (words_in (A.segments arena.old)) (words_in (A.segments arena.new)) object
         (copied_turn field.entry members from) result }
-    ensures why { IfErr result (FieldRefused field.entry (seen_struct B.segments source.now)
-        (words_in (A.segments arena.new))) }
+    ensures why { IfErr result (FieldRefused (IsSizeOrRefusal A.refuses) field.entry
+        (seen_struct B.segments source.now) (words_in (A.segments arena.new))) }
+    ensures cause { (from : Cell) → StandsAt (seen_struct B.segments source.now) from
+        → IfErr result (λ e. (entry_turn members (union_in (shape_of_struct field.entry.parent))
+        (entry_of field.entry) from ≡ true → IsFieldFaultless field.entry from)
+        → IsSizeOrRefusal A.refuses e) }
     ensures grows { Grows (words_in (A.segments arena.old)) (words_in (A.segments arena.new)) }
     ensures books { A.books arena.new ≡ A.books arena.old }
 {
@@ -193,9 +211,12 @@ fn copy_fields<'a, A: BuilderArena, B: ReaderArena>(
         → WritesAsFar (words_in (A.segments arena.old)) (words_in (A.segments arena.new)) object
         (copied_fields (schema_around schema.entry) members (shape_of_struct schema.entry) from)
         result }
-    ensures why { IfErr result (FieldsRefused (schema_around schema.entry)
-        (fields_of_struct schema.entry) (seen_struct B.segments source.now)
-        (words_in (A.segments arena.new))) }
+    ensures why { IfErr result (FieldsRefused (IsSizeOrRefusal A.refuses)
+        (schema_around schema.entry) (fields_of_struct schema.entry)
+        (seen_struct B.segments source.now) (words_in (A.segments arena.new))) }
+    ensures cause { (from : Cell) → StandsAt (seen_struct B.segments source.now) from
+        → IfErr result (λ e. AreFaultless (schema_around schema.entry) members
+        (shape_of_struct schema.entry) from → IsSizeOrRefusal A.refuses e) }
     ensures grows { Grows (words_in (A.segments arena.old)) (words_in (A.segments arena.new)) }
     ensures books { A.books arena.new ≡ A.books arena.old }
 {
@@ -220,9 +241,12 @@ fn copy_group<'a, A: BuilderArena, B: ReaderArena>(
     ensures writes { (from : Cell) → IsSource (seen_struct B.segments source.now) from
         → WritesAsFar (words_in (A.segments arena.old)) (words_in (A.segments arena.new)) object
         (copied_group (schema_around schema.entry) (shape_of_struct schema.entry) from) result }
-    ensures why { IfErr result (FieldsRefused (schema_around schema.entry)
-        (fields_of_struct schema.entry) (seen_struct B.segments source.now)
-        (words_in (A.segments arena.new))) }
+    ensures why { IfErr result (FieldsRefused (IsSizeOrRefusal A.refuses)
+        (schema_around schema.entry) (fields_of_struct schema.entry)
+        (seen_struct B.segments source.now) (words_in (A.segments arena.new))) }
+    ensures cause { (from : Cell) → StandsAt (seen_struct B.segments source.now) from
+        → IfErr result (λ e. IsGroupFaultless (schema_around schema.entry)
+        (shape_of_struct schema.entry) from → IsSizeOrRefusal A.refuses e) }
     ensures grows { Grows (words_in (A.segments arena.old)) (words_in (A.segments arena.new)) }
     ensures books { A.books arena.new ≡ A.books arena.old }
 {
@@ -230,7 +254,7 @@ fn copy_group<'a, A: BuilderArena, B: ReaderArena>(
     copy_fields(arena, object, schema, source, false)
 }
 
-/// Sets a field that is a group to a struct, of a message or of a default, whatever its schema, and marks its union: the group is cleared, then the struct's active member is set, then its other fields by index. It is refused where one of these fields is: a pointer that can't be read as the field's type, or whose value isn't copied, an untyped one and a capability, and where a null pointer of the active member finds no room for its default or its empty value. After a refusal a beginning of the writes stands, and all else.
+/// Sets a field that is a group to a struct, of a message or of a default, whatever its schema, and marks its union: the group is cleared, then the struct's active member is set, then its other fields by index. It is refused where one of these fields is: a pointer that can't be read as the field's type, or whose value isn't copied, an untyped one and a capability, and where a null pointer of the active member finds no room for its default or its empty value. Want of room is `SizeOverflow`, or as the allocator refuses. After a refusal a beginning of the writes stands, and all else.
 pub fn set_group<'a, A: BuilderArena, B: ReaderArena>(
     arena: &mut A,
     object: StructPlace,
@@ -240,7 +264,7 @@ pub fn set_group<'a, A: BuilderArena, B: ReaderArena>(
     requires there { IsThere (words_in (A.segments arena.old)) object }
     requires inside { LieIn object.data_words object.pointers
         (areas_of (shape_of_struct field.parent)) }
-    ensures sets { SetsFields (struct_seen B.segments source.entry)
+    ensures sets { SetsFields (IsSizeOrRefusal A.refuses) (struct_seen B.segments source.entry)
         (words_in (A.segments arena.old)) (words_in (A.segments arena.new)) object field.entry
         result }
     ensures grows { Grows (words_in (A.segments arena.old)) (words_in (A.segments arena.new)) }

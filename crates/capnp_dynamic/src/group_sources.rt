@@ -1,11 +1,11 @@
 //! Structs that are read, as groups are set from them.
-ghost use Rattle.std.specs.Prelude.{◌≡◌, ◌≢◌, ◌*◌, ◌<◌, ◌^◌, true, false, IfErr, OnOk};
+ghost use Rattle.std.specs.Prelude.{ℕ, ◌≡◌, ◌≢◌, ◌*◌, ◌<◌, ◌^◌, true, false, IfErr, OnOk};
 ghost use Rattle.std.specs.Option.{is_some};
 ghost use Rattle.capnp_model.specs.Edits.{Cell};
 ghost use Rattle.capnp_model.specs.Readings.{discriminant, field_bits, is_active, whole_words};
 ghost use Rattle.capnp_model.specs.Schemas.{width};
 ghost use Rattle.capnp_model.specs.Segments.{words_at};
-ghost use Rattle.capnp_model.specs.Trees.{child, null};
+ghost use Rattle.capnp_model.specs.Trees.{Tree, child, null};
 ghost use Rattle.capnp_units.specs.Segments.{words_in};
 ghost use Rattle.capnp_wire.specs.Places.{place_view};
 ghost use Rattle.capnp_wire.specs.Reads.{is_null};
@@ -13,7 +13,9 @@ ghost use Rattle.capnp_wire.specs.Views.{seen_struct, pointer_field};
 ghost use Rattle.capnp_queries.specs.Fields.{union_in};
 ghost use Rattle.capnp_queries.specs.Handles.{entry_of, plain_of};
 ghost use Rattle.capnp_queries.specs.Structs.{shape_of_struct};
+ghost use Rattle.capnp_copy.specs.Refusals.{IsSizeOrRefusal};
 ghost use Rattle.capnp_dynamic.specs.GroupRefusals.{ChildRefused};
+ghost use Rattle.capnp_values.specs.Standing.{Leads};
 ghost use Rattle.capnp_dynamic.specs.GroupSets.{IsSource, PutsAny, entry_turn};
 ghost use Rattle.capnp_dynamic.specs.Sources.{Stands};
 
@@ -104,8 +106,11 @@ pub(crate) fn copy_child<A: BuilderArena, B: ReaderArena>(
         (words_in (A.segments arena.new)) (place_view slot) (child from.kids index)) }
     ensures stands { Stands (words_in (A.segments arena.old)) (words_in (A.segments arena.new))
         result }
-    ensures why { IfErr result (ChildRefused (seen_struct B.segments source.now) index
-        (words_in (A.segments arena.new))) }
+    ensures why { IfErr result (ChildRefused (IsSizeOrRefusal A.refuses)
+        (seen_struct B.segments source.now) index (words_in (A.segments arena.new))) }
+    ensures cause { (n : ℕ) (t : Tree)
+        → Leads n (pointer_field (seen_struct B.segments source.now) index) t
+        → IfErr result (IsSizeOrRefusal A.refuses) }
     ensures books { A.books arena.new ≡ A.books arena.old }
 {
     let Some(levels) = source.levels() else {

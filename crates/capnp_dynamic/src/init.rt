@@ -7,14 +7,15 @@ ghost use Rattle.capnp_units.specs.Segments.{words_in};
 ghost use Rattle.capnp_units.specs.Errors.{kind_of};
 ghost use Rattle.capnp_wire.specs.Places.{place_view};
 ghost use Rattle.capnp_records.specs.Sets.{nodes_of};
-ghost use Rattle.capnp_queries.specs.Structs.{nodes_around, shape_of_struct, id_of};
+ghost use Rattle.capnp_queries.specs.Structs.{nodes_around, schema_around, shape_of_struct, id_of};
 ghost use Rattle.capnp_queries.specs.Handles.{entry_of};
 ghost use Rattle.capnp_queries.specs.Types.{ty_of, is_type_of};
 ghost use Rattle.capnp_dynamic.specs.Inside.{HasFields, size_of_shape};
 ghost use Rattle.capnp_dynamic.specs.Edits.{IsThere, IsWide};
-ghost use Rattle.capnp_dynamic.specs.Inits.{struct_named, no_struct, is_slot, MakesEmptyStruct, LeadsToStruct, PutsNewStruct, LiesInField, StructNotMade};
+ghost use Rattle.capnp_dynamic.specs.Inits.{struct_named, no_struct, is_slot, init_content, MakesEmptyStruct, LeadsToStruct, PutsNewStruct, LiesInField, StructNotMade};
+ghost use Rattle.capnp_copy.specs.Refusals.{IsSizeOrRefusal};
 ghost use Rattle.capnp_copy.specs.States.{state_in};
-ghost use Rattle.capnp_dynamic.specs.Puts.{BytesGrow};
+ghost use Rattle.capnp_dynamic.specs.Puts.{BytesGrow, HasCause};
 
 use crate::slots::{mark, pointer_place};
 use capnp_copy::arena::BuilderArena;
@@ -87,6 +88,7 @@ fn put_struct<A: BuilderArena>(
     ensures wide { IfOk result (λ o. IsWide o (shape_of_struct schema.entry)) }
     ensures refused { let at = state_in A.segments A.room A.books in IfErr result
         (StructNotMade (at arena.old) (at arena.new) slot (shape_of_struct schema.entry)) }
+    ensures cause { IfErr result (IsSizeOrRefusal A.refuses) }
     ensures grows { OnOk result (BytesGrow (A.segments arena.old) (A.segments arena.new)) }
     ensures books { A.books arena.new ≡ A.books arena.old }
 {
@@ -110,6 +112,8 @@ pub fn init_slot<'a, A: BuilderArena>(
         (words_in (A.segments arena.new)) object field.entry) }
     ensures there { IfOk result (λ o. IsThere (words_in (A.segments arena.new)) o.place) }
     ensures wide { IfOk result (λ o. IsWide o.place (shape_of_struct o.schema)) }
+    ensures cause { IfErr result (HasCause (init_content (schema_around field.entry.parent)
+        (entry_of field.entry)) (IsSizeOrRefusal A.refuses)) }
     ensures refused { OnErr result (A.segments arena.new ≡ A.segments arena.old) }
     ensures grows { Grows (words_in (A.segments arena.old)) (words_in (A.segments arena.new)) }
     ensures books { A.books arena.new ≡ A.books arena.old }

@@ -22,8 +22,9 @@ ghost use Rattle.capnp_dynamic.specs.Inside.{LieIn};
 ghost use Rattle.capnp_dynamic.specs.Edits.{IsThere};
 ghost use Rattle.capnp_dynamic.specs.Calls.{edit_of};
 ghost use Rattle.capnp_dynamic.specs.NewLists.{tree_of_new, IsMade, content_of_list, initn_field, ObjectNotMade};
+ghost use Rattle.capnp_copy.specs.Refusals.{IsSizeOrRefusal};
 ghost use Rattle.capnp_copy.specs.States.{state_in};
-ghost use Rattle.capnp_dynamic.specs.Puts.{BytesGrow, PutsContent};
+ghost use Rattle.capnp_dynamic.specs.Puts.{BytesGrow, HasCause, PutsContent};
 
 use crate::init::struct_size;
 use crate::slots::{mark, pointer_place};
@@ -103,6 +104,7 @@ fn put_text<A: BuilderArena>(arena: &mut A, slot: Place, count: u32) -> Result<(
         OnOk result (Makes (at arena.old) (at arena.new) slot t (object_words t)) }
     ensures refused { let at = state_in A.segments A.room A.books in IfErr result
         (ObjectNotMade (at arena.old) (at arena.new) slot.segment (plain_list 2 (suc count) 0)) }
+    ensures cause { IfErr result (IsSizeOrRefusal A.refuses) }
     ensures grows { OnOk result (BytesGrow (A.segments arena.old) (A.segments arena.new)) }
     ensures books { A.books arena.new ≡ A.books arena.old }
 {
@@ -130,6 +132,7 @@ fn put_elements<A: BuilderArena>(
     ensures refused { let at = state_in A.segments A.room A.books in
         let t = new_tree (zeros_of (size_number size) count) in
         IfErr result (ObjectNotMade (at arena.old) (at arena.new) slot.segment t) }
+    ensures cause { IfErr result (IsSizeOrRefusal A.refuses) }
     ensures grows { OnOk result (BytesGrow (A.segments arena.old) (A.segments arena.new)) }
     ensures books { A.books arena.new ≡ A.books arena.old }
 {
@@ -153,6 +156,7 @@ fn put_structs<A: BuilderArena>(
     ensures refused { let at = state_in A.segments A.room A.books in
         let t = struct_list size.data_words size.pointers (zero_elements count size.pointers) in
         IfErr result (ObjectNotMade (at arena.old) (at arena.new) slot.segment t) }
+    ensures cause { IfErr result (IsSizeOrRefusal A.refuses) }
     ensures grows { OnOk result (BytesGrow (A.segments arena.old) (A.segments arena.new)) }
     ensures books { A.books arena.new ≡ A.books arena.old }
 {
@@ -175,6 +179,7 @@ pub fn put_list<A: BuilderArena>(
         OnOk result (Makes (at arena.old) (at arena.new) slot t (object_words t)) }
     ensures refused { let at = state_in A.segments A.room A.books in IfErr result
         (ObjectNotMade (at arena.old) (at arena.new) slot.segment (tree_of_new list count)) }
+    ensures cause { IfErr result (IsSizeOrRefusal A.refuses) }
     ensures grows { OnOk result (BytesGrow (A.segments arena.old) (A.segments arena.new)) }
     ensures books { A.books arena.new ≡ A.books arena.old }
 {
@@ -200,6 +205,8 @@ pub fn initn_slot<A: BuilderArena>(
     ensures puts { let at = state_in A.segments A.room A.books in
         PutsContent (at arena.old) (at arena.new) object (edit_of field.entry (initn count))
         (initn_field (schema_around field.entry.parent) count (entry_of field.entry)) result }
+    ensures cause { IfErr result (HasCause (initn_field (schema_around field.entry.parent) count
+        (entry_of field.entry)) (IsSizeOrRefusal A.refuses)) }
     ensures refused { OnErr result (A.segments arena.new ≡ A.segments arena.old) }
     ensures grows { Grows (words_in (A.segments arena.old)) (words_in (A.segments arena.new)) }
     ensures books { A.books arena.new ≡ A.books arena.old }

@@ -8,6 +8,7 @@ ghost use Rattle.capnp_model.specs.Traversal.{tree_at};
 ghost use Rattle.capnp_model.specs.Trees.{Tree};
 ghost use Rattle.capnp_units.specs.Segments.{words_in};
 ghost use Rattle.capnp_wire.specs.Places.{place_view};
+ghost use Rattle.capnp_copy.specs.Refusals.{IsSizeOrRefusal};
 ghost use Rattle.capnp_copy_from.specs.Defaults.{default_segments, is_null_at};
 ghost use Rattle.capnp_records.specs.NodeViews.{kind_of_field, value_of};
 ghost use Rattle.capnp_values.specs.Shown.{default_said};
@@ -69,7 +70,7 @@ pub fn has_null_root(words: &[Word]) -> bool
     word_at(&source, ROOT).unwrap_or(0) == 0
 }
 
-/// Puts the value of the root that words hold in place of the value of the pointer at a place. It is refused as its copy is, under no limit of words: where it can't be read, is nested deeper than 64 levels, holds a capability, or finds no room. After a refusal all words stand, and new ones are zero.
+/// Puts the value of the root that words hold in place of the value of the pointer at a place. It is refused as its copy is, under no limit of words: where it can't be read, is nested deeper than 64 levels, or finds no room: with `SizeOverflow`, or as the allocator refuses. After a refusal all words stand, and new ones are zero.
 pub fn copy_root<A: BuilderArena>(arena: &mut A, slot: Place, words: &[Word]) -> Result<()>
     requires there { is_some (words_at (words_in (A.segments arena.old)) (place_view slot) 1)
         ≡ true }
@@ -79,8 +80,8 @@ pub fn copy_root<A: BuilderArena>(arena: &mut A, slot: Place, words: &[Word]) ->
         (place_view slot) t) }
     ensures stands { Stands (words_in (A.segments arena.old)) (words_in (A.segments arena.new))
         result }
-    ensures why { IfErr result (CopyRefused 64 (default_segments words.now) root
-        (words_in (A.segments arena.new))) }
+    ensures why { IfErr result (CopyRefused (IsSizeOrRefusal A.refuses) 64
+        (default_segments words.now) root (words_in (A.segments arena.new))) }
     ensures books { A.books arena.new ≡ A.books arena.old }
 {
     let source: Backing<NullArena> = default_backing(words);

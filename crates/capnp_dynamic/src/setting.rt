@@ -18,8 +18,9 @@ ghost use Rattle.capnp_dynamic.specs.Inside.{LieIn};
 ghost use Rattle.capnp_dynamic.specs.Blobs.{bytes_of};
 ghost use Rattle.capnp_dynamic.specs.Edits.{IsThere};
 ghost use Rattle.capnp_dynamic.specs.Given.{plain_given, bits_given, bytes_given, pointer_refusal, set_content, set_edit};
+ghost use Rattle.capnp_copy.specs.Refusals.{IsSizeOrRefusal};
 ghost use Rattle.capnp_copy.specs.States.{state_in};
-ghost use Rattle.capnp_dynamic.specs.Puts.{PutsContent};
+ghost use Rattle.capnp_dynamic.specs.Puts.{HasCause, PutsContent};
 
 use crate::slots::{mark, pointer_place, width_of};
 use capnp_copy::arena::BuilderArena;
@@ -83,7 +84,7 @@ fn blob_for<'a, B>(ty: Type, value: &Reader<'a, B>) -> Option<Blob<'a>>
     }
 }
 
-/// Puts a text, with its zero byte, or data in place of the value of the pointer at a place, which is cleared: behind the pointers of structs, and of elements of lists (`capnp_dynamic_lists`). It is refused for want of room, or with `SizeOverflow` where its list has 2^29 bytes or more; then all stands as it was.
+/// Puts a text, with its zero byte, or data in place of the value of the pointer at a place, which is cleared: behind the pointers of structs, and of elements of lists (`capnp_dynamic_lists`). It is refused with `SizeOverflow` just where its list has 2^29 bytes or more, or the message's words, a pad counted, would pass 2^29 - 1, else as the allocator refuses; then all stands as it was.
 pub fn put_blob<A: BuilderArena>(arena: &mut A, slot: Place, blob: Blob<'_>) -> Result<()>
     requires there { is_some (words_at (words_in (A.segments arena.old)) (place_view slot) 1)
         ≡ true }
@@ -93,6 +94,7 @@ pub fn put_blob<A: BuilderArena>(arena: &mut A, slot: Place, blob: Blob<'_>) -> 
         (words_for (8 * length (bytes_of blob.entry)))) }
     ensures refused { let at = state_in A.segments A.room A.books in IfErr result
         (BytesNotSet (at arena.old) (at arena.new) slot.segment (length (bytes_of blob.entry))) }
+    ensures cause { IfErr result (IsSizeOrRefusal A.refuses) }
     ensures grows { OnOk result
         (Grows (words_in (A.segments arena.old)) (words_in (A.segments arena.new))) }
     ensures books { A.books arena.new ≡ A.books arena.old }
@@ -116,6 +118,8 @@ pub fn set_flat<A: BuilderArena, B>(
     ensures puts { let at = state_in A.segments A.room A.books in
         PutsContent (at arena.old) (at arena.new) object (set_edit field.entry value.now)
         (set_content value.now (entry_of field.entry)) result }
+    ensures cause { IfErr result (HasCause (set_content value.now (entry_of field.entry))
+        (IsSizeOrRefusal A.refuses)) }
     ensures refused { OnErr result (A.segments arena.new ≡ A.segments arena.old) }
     ensures grows { Grows (words_in (A.segments arena.old)) (words_in (A.segments arena.new)) }
     ensures books { A.books arena.new ≡ A.books arena.old }

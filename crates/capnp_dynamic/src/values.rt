@@ -8,6 +8,7 @@ ghost use Rattle.capnp_units.specs.Segments.{words_in};
 ghost use Rattle.capnp_wire.specs.Places.{place_view};
 ghost use Rattle.capnp_builders.specs.Copied.{SetsStruct, SetsList};
 ghost use Rattle.capnp_builders.specs.Making.{state_of};
+ghost use Rattle.capnp_copy.specs.Refusals.{IsSizeOrRefusal};
 ghost use Rattle.capnp_queries.specs.Structs.{shape_of_struct};
 ghost use Rattle.capnp_queries.specs.Handles.{entry_of};
 ghost use Rattle.capnp_queries.specs.Types.{ty_of};
@@ -209,7 +210,7 @@ pub fn set_value<'a, A: BuilderArena, B: ReaderArena>(
     requires inside { LieIn object.data_words object.pointers
         (areas_of (shape_of_struct field.parent)) }
     ensures puts { let at = state_of A.segments A.room A.books in
-        PutsGiven (at memory.old) (at memory.new) object field.entry
+        PutsGiven (IsSizeOrRefusal A.refuses) (at memory.old) (at memory.new) object field.entry
         (value_given B.segments value.now (entry_of field.entry)) result }
     ensures leaves { Leaves (value_given B.segments value.now (entry_of field.entry))
         (words_in (A.segments memory.old.arena)) (words_in (A.segments memory.new.arena)) result }

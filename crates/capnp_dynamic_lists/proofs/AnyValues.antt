@@ -137,8 +137,8 @@ module _ {A : Type 0} (bytes : A → List (List ℕ)) (v : Reader A) (ty : Ty) w
   pub given_flat : struct_given bytes v ty ≡ None → list_given bytes v ty ≡ None → are_capabilities ty && is_capability v ≡ false → element_given bytes v ty ≡ made (flat_element v ty)
   given_flat other none not = given_else other none ∙ ap (λ (b : Bool). made (made_element b v ty)) not
 
-  pub puts : (old new : ArenaState) (o : ListPlace) (i : ℕ) (g : Given) (r : Result ⊤ Error) → element_given bytes v ty ≡ g → PutsGiven old new o (element_edit v ty) i g r → PutsGiven old new o (element_edit v ty) i (element_given bytes v ty) r
-  puts old new o i g r e h = subst (λ (x : Given). PutsGiven old new o (element_edit v ty) i x r) (sym e) h
+  pub puts : (told : Error → Type 0) (old new : ArenaState) (o : ListPlace) (i : ℕ) (g : Given) (r : Result ⊤ Error) → element_given bytes v ty ≡ g → PutsGiven told old new o (element_edit v ty) i g r → PutsGiven told old new o (element_edit v ty) i (element_given bytes v ty) r
+  puts told old new o i g r e h = subst (λ (x : Given). PutsGiven told old new o (element_edit v ty) i x r) (sym e) h
 
 pub leaves : (source : Option StructView) (s u : Segments) (r : Result ⊤ Error) → Grows s u → OnErr r (GrowsByZeros s u) → Leaves source s u r
 leaves source s u r g h = record { grows = g; stands = λ _. h }

@@ -17,7 +17,7 @@ use Rattle.capnp_copy.specs.declared.init.ListPlace.{ListPlace}
 use Rattle.capnp_builders.specs.Making.{ArenaState, Makes, Stays, BytesRefused}
 use Rattle.capnp_values.specs.declared.dynamic_value.Reader.{Reader}
 use Rattle.capnp_dynamic.specs.Given.{plain_given, bits_given}
-use Rattle.capnp_dynamic.specs.Puts.{ObjectRefused}
+use Rattle.capnp_dynamic.specs.Puts.{ObjectRefused, HasCause}
 use Rattle.capnp_dynamic.proofs.lemmas.Grown.{same_grows}
 use Rattle.capnp_dynamic_lists.specs.Lists.{HasPointer, IsListThere, EditsElement}
 use Rattle.capnp_dynamic_lists.specs.Places.{IsPointerAt}
@@ -146,3 +146,25 @@ module _ {A : Type 0} (v : Reader A) where
       let put = single_as ty (single_element v ty) refl old new o (single_edit v ty) i r a h sizes in
       let as_edit = subst (λ g. PutsContent old new o g i (single_element v ty) r) (sym (edit_with ty (single_element v ty) content)) put in
       subst (λ k. PutsContent old new o (element_edit v ty) i k r) (sym content) as_edit
+
+-- ---- a single value is no object
+
+bits_cause : (o : Option ℕ) (told : Error → Type 0) (e : Error) → HasCause (elim o [ None ↦ refused_by TypeMismatch | Some n ↦ bits_of n ]) told e
+bits_cause None told e = tt
+bits_cause (Some n) told e = tt
+
+single_caused : {A : Type 0} (v : Reader A) (ty : Ty) (told : Error → Type 0) (e : Error) → HasCause (single_element v ty) told e
+single_caused v void told e = tt
+single_caused v (plain p) told e = bits_cause (bits_given p (plain_given v)) told e
+single_caused v text told e = tt
+single_caused v blob told e = tt
+single_caused v untyped told e = tt
+single_caused v interface told e = tt
+single_caused v (struct id) told e = tt
+single_caused v (list ty) told e = tt
+
+pub single_cause : {A : Type 0} (v : Reader A) (ty : Ty) → blob_given v ty ≡ None → (told : Error → Type 0) (r : Result ⊤ Error) → IfErr r (HasCause (flat_element v ty) told)
+single_cause v ty none told (Ok x) = tt
+single_cause v ty none told (Err e) =
+    let is : flat_element v ty ≡ single_element v ty = ap (λ (o : Option (List ℕ)). elim o as (λ (y : Option (List ℕ)). Content) [ None ↦ single_element v ty | Some bytes ↦ object (blob_tree bytes) ]) none in
+    subst (λ k. HasCause k told e) (sym is) (single_caused v ty told e)

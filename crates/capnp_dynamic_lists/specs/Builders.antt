@@ -1,5 +1,5 @@
 -- What contracts see of list builders. (Encoding, "Lists")
-use Rattle.std.specs.Prelude.{◌≡◌, ⊤, ℕ, List, Result, OnOk, true}
+use Rattle.std.specs.Prelude.{◌≡◌, ⊤, ℕ, List, Result, OnOk, IfErr, true}
 use Rattle.capnp_model.specs.Segments.{Segments}
 use Rattle.capnp_model.specs.Accepted.{schema_of}
 use Rattle.capnp_model.specs.Schemas.{struct}
@@ -13,6 +13,7 @@ use Rattle.capnp_records.specs.Sets.{nodes_of}
 use Rattle.capnp_queries.specs.Structs.{nodes_around, shape_of_struct, id_of}
 use Rattle.capnp_queries.specs.Types.{ty_of, is_type_of}
 use Rattle.capnp_dynamic.specs.Edits.{IsThere, IsWide}
+use Rattle.capnp_dynamic.specs.Puts.{HasCause}
 use Rattle.capnp_dynamic.specs.declared.init.Part.{Part}
 use Rattle.capnp_dynamic_lists.specs.Lists.{IsListThere}
 use Rattle.capnp_dynamic_lists.specs.Elements.{Holds, HoldsStructs}
@@ -59,18 +60,19 @@ module _ {A : Type 0} (bytes : A → List (List ℕ)) where
     pub ready : IsReady new
 
 module _ {A : Type 0} (segments : A → List (List ℕ)) (room : A → List ℕ) (books : A → List (List ℕ)) where
-  -- Content is put into an element, by a handle that stays where it was.
-  pub record Puts (old new : Builder A) (f : ℕ → ℕ → Edit) (index : ℕ) (content : Content) (r : Result ⊤ Error) : Type 0 where
+  -- Content is put into an element, by a handle that stays where it was; where an object isn't made, `told` says of the error why.
+  pub record Puts (told : Error → Type 0) (old new : Builder A) (f : ℕ → ℕ → Edit) (index : ℕ) (content : Content) (r : Result ⊤ Error) : Type 0 where
     pub same : new.memory.ghost_name ≡ old.memory.ghost_name
     pub place : new.place ≡ old.place
     pub set : new.set.now ≡ old.set.now
     pub element_type : new.element_type ≡ old.element_type
     pub puts : PutsContent (state_of segments room books old.memory.now) (state_of segments room books new.memory.now) old.place f index content r
+    pub cause : IfErr r (HasCause content told)
 
-  -- What is given for a value is put into an element, by a handle that stays where it was.
-  pub record Sets (old new : Builder A) (f : ℕ → ℕ → Edit) (index : ℕ) (given : Given) (r : Result ⊤ Error) : Type 0 where
+  -- What is given for a value is put into an element, by a handle that stays where it was; where memory lacks, `told` says of the error why.
+  pub record Sets (told : Error → Type 0) (old new : Builder A) (f : ℕ → ℕ → Edit) (index : ℕ) (given : Given) (r : Result ⊤ Error) : Type 0 where
     pub same : new.memory.ghost_name ≡ old.memory.ghost_name
     pub place : new.place ≡ old.place
     pub set : new.set.now ≡ old.set.now
     pub element_type : new.element_type ≡ old.element_type
-    pub puts : PutsGiven (state_of segments room books old.memory.now) (state_of segments room books new.memory.now) old.place f index given r
+    pub puts : PutsGiven told (state_of segments room books old.memory.now) (state_of segments room books new.memory.now) old.place f index given r

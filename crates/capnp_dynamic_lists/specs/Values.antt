@@ -1,5 +1,5 @@
 -- What `set` puts into an element for any value. (Encoding, "Lists", "Structs", "Blobs")
-use Rattle.std.specs.Prelude.{◌≡◌, ⊤, ℕ, ◌≤◌, min, Bool, true, false, ◌&&◌, List, Option, Some, None, MatchOption, Result, OnErr}
+use Rattle.std.specs.Prelude.{◌≡◌, ⊤, ℕ, ◌≤◌, min, Bool, true, false, ◌&&◌, List, Option, Some, None, MatchOption, Result, OnErr, IfErr}
 use Rattle.capnp_model.specs.Kinds.{ListCapabilityNotSupported}
 use Rattle.capnp_model.specs.Segments.{Segments}
 use Rattle.capnp_model.specs.Schemas.{Ty, void, plain, text, blob, untyped, interface, struct, list}
@@ -26,6 +26,7 @@ use Rattle.capnp_builders.specs.Copied.{Walk, Charged, WithoutLevels, IsSourceOf
 use Rattle.capnp_values.specs.Sources.{WithoutLimit}
 use Rattle.capnp_values.specs.declared.dynamic_value.Reader.{Reader}
 use Rattle.capnp_values.specs.declared.dynamic_value.Reader.TheVariants as value
+use Rattle.capnp_dynamic.specs.Puts.{HasCause}
 use Rattle.capnp_dynamic.specs.Sources.{SourceView, source_given, PutsSource}
 use Rattle.capnp_dynamic.specs.Values.{is_capability, struct_given}
 use Rattle.capnp_dynamic_lists.specs.Lists.{IsListOf}
@@ -108,14 +109,14 @@ TakesStruct v s u o i old result new =
     MatchOption v.levels (WithoutLevels s u old result new) (λ n.
     Charged v.basis.paid (λ l r m. (x : StructSource) × IsSourceOf v x × TakesFields n v.basis.segments x s u o i l r m) old result new)
 
--- What is answered, and what the element becomes, by what is put; copies are made under no limit of words.
-abbrev pub PutsGiven : ArenaState → ArenaState → ListPlace → (ℕ → ℕ → Edit) → ℕ → Given → Result ⊤ Error → Type 0
-PutsGiven old new o f i (made k) r = PutsContent old new o f i k r
-PutsGiven old new o f i (copied x) r =
+-- What is answered, and what the element becomes, by what is put; copies are made under no limit of words. Where memory lacks, `told` says of the error why.
+abbrev pub PutsGiven : (Error → Type 0) → ArenaState → ArenaState → ListPlace → (ℕ → ℕ → Edit) → ℕ → Given → Result ⊤ Error → Type 0
+PutsGiven told old new o f i (made k) r = PutsContent old new o f i k r × IfErr r (HasCause k told)
+PutsGiven told old new o f i (copied x) r =
     let s = words_in old.segments in
     let u = words_in new.segments in
     WithoutLimit (PutsSource x s u (λ n t. ElementWithin n s u o (λ words pointers. put_child 0 t) i)) r
-PutsGiven old new o f i (taken v) r = WithoutLimit (TakesStruct v (words_in old.segments) (words_in new.segments) o i) r
+PutsGiven told old new o f i (taken v) r = WithoutLimit (TakesStruct v (words_in old.segments) (words_in new.segments) o i) r
 
 -- ---- what is there later too
 

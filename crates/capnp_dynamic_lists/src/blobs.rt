@@ -7,6 +7,7 @@ ghost use Rattle.capnp_model.specs.Sizes.{object_words};
 ghost use Rattle.capnp_units.specs.Segments.{words_in};
 ghost use Rattle.capnp_queries.specs.Types.{ty_of};
 ghost use Rattle.capnp_dynamic.specs.Blobs.{bytes_of};
+ghost use Rattle.capnp_copy.specs.Refusals.{IsSizeOrRefusal};
 ghost use Rattle.capnp_copy.specs.States.{state_in};
 ghost use Rattle.capnp_dynamic.specs.Puts.{ObjectRefused};
 ghost use Rattle.capnp_dynamic_lists.specs.Elements.{blob_given};
@@ -49,6 +50,7 @@ pub(crate) fn put_blob<A: BuilderArena>(
         (object_words (blob_tree (bytes_of blob.entry)))) }
     ensures refused { let at = state_in A.segments A.room A.books in IfErr result
         (ObjectRefused (at arena.old) list.start.segment (blob_tree (bytes_of blob.entry))) }
+    ensures cause { IfErr result (IsSizeOrRefusal A.refuses) }
     ensures stays { OnErr result (A.segments arena.new ≡ A.segments arena.old) }
     ensures grows { Grows (words_in (A.segments arena.old)) (words_in (A.segments arena.new)) }
     ensures books { A.books arena.new ≡ A.books arena.old }

@@ -18,6 +18,7 @@ ghost use Rattle.capnp_copy.specs.Elements.{first_element};
 ghost use Rattle.capnp_wire.specs.Views.{list_at};
 ghost use Rattle.capnp_values.specs.Sources.{list_seen};
 ghost use Rattle.capnp_dynamic_lists.specs.Readers.{IsBytewise, list_of};
+ghost use Rattle.capnp_copy.specs.Refusals.{IsSizeOrRefusal};
 ghost use Rattle.capnp_dynamic_lists.specs.Builders.{IsReady, IsPartAt, Stays, KeepsWords, Puts, Sets};
 ghost use Rattle.capnp_dynamic.specs.Values.{struct_given};
 ghost use Rattle.capnp_dynamic_lists.specs.Values.{element_given};
@@ -243,8 +244,8 @@ impl<'a, A: BuilderArena> Builder<'a, A> {
         requires index { index < self.old.place.count }
         ensures same { self.new.memory.ghost_name ≡ self.old.memory.ghost_name }
         ensures sets { let ty = ty_of self.old.element_type in
-            Sets A.segments A.room A.books self.old self.new (element_edit value.entry ty) index
-            (element_given B.segments value.entry ty) result }
+            Sets A.segments A.room A.books (IsSizeOrRefusal A.refuses) self.old self.new
+            (element_edit value.entry ty) index (element_given B.segments value.entry ty) result }
         ensures refused { struct_given B.segments value.entry (ty_of self.old.element_type) ≡ None
             → OnErr result (KeepsWords A.segments self.old self.new) }
         ensures flat { is_flat value.entry ≡ true
@@ -266,8 +267,8 @@ impl<'a, A: BuilderArena> Builder<'a, A> {
         ensures same { self.new.memory.ghost_name ≡ self.old.memory.ghost_name }
         ensures puts { let ty = ty_of self.old.element_type in
             let s = schema_of (nodes_of self.old.set.now) in
-            Puts A.segments A.room A.books self.old self.new (edit_element s [] (initn size) ty)
-            index (element_content s (initn size) ty) result }
+            Puts A.segments A.room A.books (IsSizeOrRefusal A.refuses) self.old self.new
+            (edit_element s [] (initn size) ty) index (element_content s (initn size) ty) result }
         ensures refused { OnErr result (Stays A.segments self.old self.new) }
         ensures books { A.books self.new.memory.now.arena ≡ A.books self.old.memory.now.arena }
         ensures ready { IsReady A.segments self.new }

@@ -1,12 +1,14 @@
 //! Plain elements of lists that are built, over places.
-ghost use Rattle.std.specs.Prelude.{◌≡◌, ◌<◌, ◌^◌, length, map, option_map, OnOk, OnErr};
+ghost use Rattle.std.specs.Prelude.{◌≡◌, ◌<◌, ◌^◌, length, map, option_map, IfErr, OnOk, OnErr};
 ghost use Rattle.capnp_model.specs.Coverage.{Grows};
 ghost use Rattle.capnp_model.specs.Edits.{put_bits};
 ghost use Rattle.capnp_units.specs.Segments.{words_in};
 ghost use Rattle.capnp_object.specs.Places.{seen};
 ghost use Rattle.capnp_queries.specs.Handles.{plain_of};
 ghost use Rattle.capnp_queries.specs.Types.{ty_of};
+ghost use Rattle.capnp_copy.specs.Refusals.{IsSizeOrRefusal};
 ghost use Rattle.capnp_copy.specs.States.{state_in};
+ghost use Rattle.capnp_dynamic.specs.Puts.{HasCause};
 ghost use Rattle.capnp_dynamic_lists.specs.Puts.{PutsContent};
 ghost use Rattle.capnp_dynamic_lists.specs.Lists.{IsListThere, HasRoom, EditsElement};
 ghost use Rattle.capnp_dynamic_lists.specs.Elements.{plain_in, Holds, answer_of, single_element, single_edit, flat_element, element_edit};
@@ -122,6 +124,8 @@ pub fn set_flat<A: BuilderArena, B>(
     ensures puts { let at = state_in A.segments A.room A.books in
         PutsContent (at arena.old) (at arena.new) list (element_edit value.now (ty_of ty)) index
         (flat_element value.now (ty_of ty)) result }
+    ensures cause { IfErr result (HasCause (flat_element value.now (ty_of ty))
+        (IsSizeOrRefusal A.refuses)) }
     ensures refused { OnErr result (A.segments arena.new ≡ A.segments arena.old) }
     ensures grows { Grows (words_in (A.segments arena.old)) (words_in (A.segments arena.new)) }
     ensures books { A.books arena.new ≡ A.books arena.old }

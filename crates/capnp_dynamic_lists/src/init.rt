@@ -1,5 +1,5 @@
 //! Lists of zeros, nulls and empty structs, and texts and data of zero bytes, put into elements, over places.
-ghost use Rattle.std.specs.Prelude.{◌≡◌, ◌<◌, [], true, OnErr};
+ghost use Rattle.std.specs.Prelude.{◌≡◌, ◌<◌, [], true, IfErr, OnErr};
 ghost use Rattle.capnp_model.specs.Accepted.{schema_of};
 ghost use Rattle.capnp_model.specs.Calls.{initn, element_content};
 ghost use Rattle.capnp_model.specs.Coverage.{Grows};
@@ -8,7 +8,9 @@ ghost use Rattle.capnp_units.specs.Errors.{kind_of};
 ghost use Rattle.capnp_units.specs.Segments.{words_in};
 ghost use Rattle.capnp_records.specs.Sets.{nodes_of};
 ghost use Rattle.capnp_queries.specs.Types.{ty_of, is_type_of};
+ghost use Rattle.capnp_copy.specs.Refusals.{IsSizeOrRefusal};
 ghost use Rattle.capnp_copy.specs.States.{state_in};
+ghost use Rattle.capnp_dynamic.specs.Puts.{HasCause};
 ghost use Rattle.capnp_dynamic_lists.specs.Elements.{Holds, no_new_element};
 ghost use Rattle.capnp_dynamic_lists.specs.Lists.{IsListThere};
 ghost use Rattle.capnp_dynamic_lists.specs.Puts.{PutsContent};
@@ -52,6 +54,8 @@ pub fn init_element<A: BuilderArena>(
         PutsContent (at arena.old) (at arena.new) list
         (edit_element s [] (initn size) (ty_of ty)) index
         (element_content s (initn size) (ty_of ty)) result }
+    ensures cause { let s = schema_of (nodes_of set.now) in IfErr result (HasCause
+        (element_content s (initn size) (ty_of ty)) (IsSizeOrRefusal A.refuses)) }
     ensures refused { OnErr result (A.segments arena.new ≡ A.segments arena.old) }
     ensures grows { Grows (words_in (A.segments arena.old)) (words_in (A.segments arena.new)) }
     ensures books { A.books arena.new ≡ A.books arena.old }

@@ -5,6 +5,7 @@ ghost use Rattle.capnp_model.specs.Edits.{put_child};
 ghost use Rattle.capnp_units.specs.Segments.{words_in};
 ghost use Rattle.capnp_units.specs.Sizes.{size_number};
 ghost use Rattle.capnp_wire.specs.Views.{seen_struct};
+ghost use Rattle.capnp_copy.specs.Refusals.{IsSizeOrRefusal};
 ghost use Rattle.capnp_copy_from.specs.Copies.{GrowsByZeros};
 ghost use Rattle.capnp_builders.specs.Copied.{TakesOver};
 ghost use Rattle.capnp_builders.specs.Making.{state_of};
@@ -149,7 +150,8 @@ pub fn set_value<A: BuilderArena, B: ReaderArena>(
     requires holds { Holds list (ty_of ty) × AreStructs list (ty_of ty) }
     requires index { index < list.count }
     ensures puts { let at = state_of A.segments A.room A.books in
-        PutsGiven (at memory.old) (at memory.new) list (element_edit value.now (ty_of ty)) index
+        PutsGiven (IsSizeOrRefusal A.refuses) (at memory.old) (at memory.new) list
+        (element_edit value.now (ty_of ty)) index
         (element_given B.segments value.now (ty_of ty)) result }
     ensures leaves { Leaves (struct_given B.segments value.now (ty_of ty))
         (words_in (A.segments memory.old.arena)) (words_in (A.segments memory.new.arena)) result }

@@ -12,6 +12,7 @@ ghost use Rattle.capnp_call_messages.specs.Messages.{tree_of_message};
 ghost use Rattle.capnp_queries.specs.Handles.{entry_of};
 ghost use Rattle.capnp_queries.specs.Structs.{shape_of_struct};
 ghost use Rattle.capnp_queries.specs.Types.{ty_of};
+ghost use Rattle.capnp_copy.specs.Refusals.{IsSizeOrRefusal};
 ghost use Rattle.capnp_dynamic.specs.Edits.{IsThere, IsWide};
 ghost use Rattle.capnp_dynamic.specs.GroupSets.{PutsAny, SetsFields};
 ghost use Rattle.capnp_dynamic.specs.Inside.{LieIn};
@@ -87,7 +88,7 @@ fn set_fields<A: BuilderArena, B: ReaderArena>(
     requires there { IsThere (words_in (A.segments arena.old)) object }
     requires inside { LieIn object.data_words object.pointers
         (areas_of (shape_of_struct field.parent)) }
-    ensures sets { SetsFields (seen_struct B.segments source.entry)
+    ensures sets { SetsFields (IsSizeOrRefusal A.refuses) (seen_struct B.segments source.entry)
         (words_in (A.segments arena.old)) (words_in (A.segments arena.new)) object field.entry
         result }
     ensures grows { Grows (words_in (A.segments arena.old)) (words_in (A.segments arena.new)) }

@@ -9,6 +9,7 @@ use Rattle.capnp_wire.specs.Places.{place_view}
 use Rattle.capnp_records.specs.Sets.{nodes_of}
 use Rattle.capnp_queries.specs.Types.{ty_of}
 use Rattle.capnp_dynamic.specs.NewLists.{tree_of_new}
+use Rattle.capnp_copy.specs.Refusals.{IsSizeOrRefusal}
 use Rattle.capnp_copy.specs.States.{state_in}
 use Rattle.capnp_dynamic.specs.GroupSets.{PutsAny}
 use Rattle.capnp_dynamic.proofs.lemmas.AnyEdits.{puts_becomes}
@@ -21,7 +22,7 @@ returns g c =
     let at = state_in g.A.ReaderArena.segments g.A.BuilderArena.room g.A.BuilderArena.books in
     let t = tree_of_new c.in-Some.list 0 in
     let e = c.put_list.ensures in
-    object_put (at c.args.arena.now) (at c.put_list.new.arena) c.args.slot t (empty_tree (schema_of (nodes_of c.args.set.now)) (ty_of c.args.ty)) (object_words t) c.put_list.result c.in-Some.ensures.list e.made e.refused e.grows e.books
+    object_put (IsSizeOrRefusal g.A.BuilderArena.refuses) (at c.args.arena.now) (at c.put_list.new.arena) c.args.slot t (empty_tree (schema_of (nodes_of c.args.set.now)) (ty_of c.args.ty)) (object_words t) c.put_list.result c.in-Some.ensures.list e.made e.refused e.cause e.grows e.books
 
 pub returns-in-Struct : goal.returns-in-Struct
 returns-in-Struct g c =

@@ -9,6 +9,7 @@ use Rattle.capnp_records.specs.NodeViews.{value_of}
 use Rattle.capnp_records.specs.Sets.{nodes_of}
 use Rattle.capnp_records.specs.declared.node.Value.TheVariants as V
 use Rattle.capnp_queries.specs.Types.{ty_of}
+use Rattle.capnp_copy.specs.Refusals.{IsSizeOrRefusal}
 use Rattle.capnp_copy.specs.States.{state_in}
 use Rattle.capnp_dynamic.specs.GroupSets.{null_tree}
 use Rattle.capnp_dynamic.proofs.lemmas.NullMembers.{value_said, none_said, plain_said, empty_stands}
@@ -22,7 +23,7 @@ returns-in_default g c =
     let ty = ty_of c.args.ty in
     let v = option_map value_of (option_copied c.args.default) in
     let same = empty_stands around ty (default_or_null (default_tree v)) (none_said c.args.default c.in_default.is) in
-    put_as (at c.args.arena.now) (at c.put_empty.new.arena) c.args.slot (empty_tree around ty) (null_tree around ty v) c.put_empty.result same c.put_empty.ensures
+    put_as (IsSizeOrRefusal g.A.BuilderArena.refuses) (at c.args.arena.now) (at c.put_empty.new.arena) c.args.slot (empty_tree around ty) (null_tree around ty v) c.put_empty.result same c.put_empty.ensures
 
 pub returns-in-Text : goal.returns-in-Text
 returns-in-Text g c =
@@ -35,8 +36,8 @@ returns-in-Text g c =
     let v = option_map value_of (option_copied c.args.default) in
     let said : v ≡ Some (text_bytes c.deref.result.now) = value_said c.args.default c.in-Some.value (V.Text c.in-Text.text) c.in-Some.is c.in-Text.is ∙ ap (λ x. Some (text_bytes x)) (sym c.deref.ensures.value) in
     let e = c.put_blob.ensures in
-    put_as old new c.args.slot (text_tree c.deref.result.now) (null_tree around ty v) c.put_blob.result (ap (λ (x : Option Value). null_tree around ty x) (sym said))
-    (blob_put old new c.args.slot bs (words_for (8 * length bs)) c.put_blob.result e.made e.refused e.grows e.books)
+    put_as (IsSizeOrRefusal g.A.BuilderArena.refuses) old new c.args.slot (text_tree c.deref.result.now) (null_tree around ty v) c.put_blob.result (ap (λ (x : Option Value). null_tree around ty x) (sym said))
+    (blob_put (IsSizeOrRefusal g.A.BuilderArena.refuses) old new c.args.slot bs (words_for (8 * length bs)) c.put_blob.result e.made e.refused e.cause e.grows e.books)
 
 pub returns-in-Data : goal.returns-in-Data
 returns-in-Data g c =
@@ -49,8 +50,8 @@ returns-in-Data g c =
     let v = option_map value_of (option_copied c.args.default) in
     let said : v ≡ Some (blob_bytes bs) = value_said c.args.default c.in-Some.value (V.Data c.in-Data.data) c.in-Some.is c.in-Data.is ∙ ap (λ x. Some (blob_bytes x)) (sym c.deref-in-Data.ensures.value) in
     let e = c.put_blob-in-Data.ensures in
-    put_as old new c.args.slot (blob_tree bs) (null_tree around ty v) c.put_blob-in-Data.result (ap (λ (x : Option Value). null_tree around ty x) (sym said))
-    (blob_put old new c.args.slot bs (words_for (8 * length bs)) c.put_blob-in-Data.result e.made e.refused e.grows e.books)
+    put_as (IsSizeOrRefusal g.A.BuilderArena.refuses) old new c.args.slot (blob_tree bs) (null_tree around ty v) c.put_blob-in-Data.result (ap (λ (x : Option Value). null_tree around ty x) (sym said))
+    (blob_put (IsSizeOrRefusal g.A.BuilderArena.refuses) old new c.args.slot bs (words_for (8 * length bs)) c.put_blob-in-Data.result e.made e.refused e.cause e.grows e.books)
 
 pub returns-in-Struct : goal.returns-in-Struct
 returns-in-Struct g c =
@@ -60,7 +61,7 @@ returns-in-Struct g c =
     let v = option_map value_of (option_copied c.args.default) in
     let w : Option Value = Some (struct_segment c.deref-in-Struct.result.now) in
     let said : v ≡ w = value_said c.args.default c.in-Some.value (V.Struct c.in-Struct.segment) c.in-Some.is c.in-Struct.is ∙ ap (λ x. Some (struct_segment x)) (sym c.deref-in-Struct.ensures.value) in
-    put_as (at c.args.arena.now) (at c.put_segment.new.arena) c.args.slot (null_tree around ty w) (null_tree around ty v) c.put_segment.result (ap (λ (x : Option Value). null_tree around ty x) (sym said)) c.put_segment.ensures
+    put_as (IsSizeOrRefusal g.A.BuilderArena.refuses) (at c.args.arena.now) (at c.put_segment.new.arena) c.args.slot (null_tree around ty w) (null_tree around ty v) c.put_segment.result (ap (λ (x : Option Value). null_tree around ty x) (sym said)) c.put_segment.ensures
 
 pub returns-in-List : goal.returns-in-List
 returns-in-List g c =
@@ -70,7 +71,7 @@ returns-in-List g c =
     let v = option_map value_of (option_copied c.args.default) in
     let w : Option Value = Some (list_segment c.deref-in-List.result.now) in
     let said : v ≡ w = value_said c.args.default c.in-Some.value (V.List c.in-List.segment) c.in-Some.is c.in-List.is ∙ ap (λ x. Some (list_segment x)) (sym c.deref-in-List.ensures.value) in
-    put_as (at c.args.arena.now) (at c.put_segment-in-List.new.arena) c.args.slot (null_tree around ty w) (null_tree around ty v) c.put_segment-in-List.result (ap (λ (x : Option Value). null_tree around ty x) (sym said)) c.put_segment-in-List.ensures
+    put_as (IsSizeOrRefusal g.A.BuilderArena.refuses) (at c.args.arena.now) (at c.put_segment-in-List.new.arena) c.args.slot (null_tree around ty w) (null_tree around ty v) c.put_segment-in-List.result (ap (λ (x : Option Value). null_tree around ty x) (sym said)) c.put_segment-in-List.ensures
 
 pub returns-in_default-value : goal.returns-in_default-value
 returns-in_default-value g c =
@@ -81,4 +82,4 @@ returns-in_default-value g c =
     let v = option_map value_of (option_copied c.args.default) in
     let bare = plain_said c.args.default c.in-Some.value c.in-Some.is not.not-Text not.not-Data not.not-List not.not-Struct in
     let same = empty_stands around ty (default_or_null (default_tree v)) bare in
-    put_as (at c.args.arena.now) (at c.put_empty-in_default-value.new.arena) c.args.slot (empty_tree around ty) (null_tree around ty v) c.put_empty-in_default-value.result same c.put_empty-in_default-value.ensures
+    put_as (IsSizeOrRefusal g.A.BuilderArena.refuses) (at c.args.arena.now) (at c.put_empty-in_default-value.new.arena) c.args.slot (empty_tree around ty) (null_tree around ty v) c.put_empty-in_default-value.result same c.put_empty-in_default-value.ensures

@@ -9,6 +9,7 @@ use Rattle.capnp_model.specs.Trees.{null}
 use Rattle.capnp_records.specs.Sets.{nodes_of}
 use Rattle.capnp_copy_from.specs.Defaults.{default_segments}
 use Rattle.capnp_queries.specs.Types.{ty_of}
+use Rattle.capnp_copy.specs.Refusals.{IsSizeOrRefusal}
 use Rattle.capnp_copy.specs.States.{state_in}
 use Rattle.capnp_dynamic.proofs.lemmas.NullMembers.{null_root, some_root}
 use Rattle.capnp_dynamic.proofs.NullRefusals.{put_as, copy_not_put}
@@ -21,7 +22,7 @@ returns-then-has_null_root g c =
     let ty = ty_of c.args.ty in
     let d = default_or_null (decode c.args.bytes.now) in
     let same = null_root around ty d c.words_of-words.result.now (c.words_of-words.ensures.value c.requires.reads) (sym c.has_null_root.ensures ∙ c.if-has_null_root.true) in
-    put_as (at c.args.arena.now) (at c.put_empty.new.arena) c.args.slot (empty_tree around ty) (source_tree around ty d null) c.put_empty.result same c.put_empty.ensures
+    put_as (IsSizeOrRefusal g.A.BuilderArena.refuses) (at c.args.arena.now) (at c.put_empty.new.arena) c.args.slot (empty_tree around ty) (source_tree around ty d null) c.put_empty.result same c.put_empty.ensures
 
 pub returns : goal.returns
 returns g c =
@@ -36,5 +37,5 @@ returns g c =
     let holds = c.words_of-words.ensures.value c.requires.reads in
     let same = some_root around ty d ws holds (sym c.has_null_root.ensures ∙ c.if-has_null_root.false) in
     let e = c.copy_root.ensures in
-    let why = copy_not_put old new c.args.slot.segment ws d (cost_at 64 from root) holds (c.values_on_walks.ensures.cost 64 from root d holds) c.copy_root.result e.why in
-    put_as old new c.args.slot d (source_tree around ty d null) c.copy_root.result same (record { puts = e.puts d holds; stands = e.stands; why = why; books = e.books })
+    let why = copy_not_put (IsSizeOrRefusal g.A.BuilderArena.refuses) old new c.args.slot.segment ws d (cost_at 64 from root) holds (c.values_on_walks.ensures.cost 64 from root d holds) c.copy_root.result e.why in
+    put_as (IsSizeOrRefusal g.A.BuilderArena.refuses) old new c.args.slot d (source_tree around ty d null) c.copy_root.result same (record { puts = e.puts d holds; stands = e.stands; why = why; books = e.books })

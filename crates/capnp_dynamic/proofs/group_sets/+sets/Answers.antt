@@ -10,6 +10,7 @@ use Rattle.capnp_queries.specs.Fields.{field_count, union_in}
 use Rattle.capnp_queries.specs.Structs.{schema_around, shape_of_struct, fields_of_struct}
 use Rattle.capnp_queries.specs.Handles.{entry_of, body_of_place, plain_of}
 use Rattle.capnp_queries.specs.declared.slots.FieldPlace.TheVariants as F
+use Rattle.capnp_copy.specs.Refusals.{IsSizeOrRefusal}
 use Rattle.capnp_copy.proofs.lemmas.RoomLaws.{sizes_grow}
 use Rattle.capnp_footprints.proofs.lemmas.Spans.{grows_same, grows_then}
 use Rattle.capnp_dynamic.specs.GroupSets.{copied_fields}
@@ -22,6 +23,9 @@ use Rattle.capnp_dynamic.proofs.SourceReadings.{null_child}
 use Rattle.capnp_dynamic.proofs.CopiedFields.{void_field, plain_field, group_field, in_turn, out_of_turn, front_begins, front_goes, front_ends, front_stops}
 use Rattle.capnp_queries.specs.Types.{ty_of}
 use Rattle.capnp_dynamic.proofs.FieldRefusals.{null_refused, some_refused, group_isnt_set, one_refused}
+use Rattle.capnp_wire.specs.Views.{pointer_field as pointer_seen}
+use Rattle.capnp_model.specs.Trees.{is_null, child, null}
+use Rattle.capnp_dynamic.proofs.Faultless.{on_err, source_of, null_tree_is, group_faultless, one_faultless, first_turn, second_turn}
 use Rattle.capnp_dynamic.proofs.group_sets.+sets.Goals as goal
 
 -- ---- one field
@@ -186,22 +190,54 @@ copy_field-returns-in-Group-clause-grows g t c =
 pub copy_field-returns-then-is_pointer_field_null-clause-why : goal.copy_field-returns-then-is_pointer_field_null-clause-why
 copy_field-returns-then-is_pointer_field_null-clause-why g t c =
     let f = c.args.field in
-    null_refused (schema_around f.parent) (seen_struct g.B.ReaderArena.segments c.args.source.now) (words_in (g.A.ReaderArena.segments c.copy_null.new.arena)) (entry_of f) c.in-Pointer.index (ty_of c.in-Pointer.ty) _ c.in-Pointer.ensures.body (sym c.is_pointer_field_null.ensures ∙ c.if-is_pointer_field_null.true) c.copy_null.result c.copy_null.ensures.why
+    null_refused (IsSizeOrRefusal g.A.BuilderArena.refuses) (schema_around f.parent) (seen_struct g.B.ReaderArena.segments c.args.source.now) (words_in (g.A.ReaderArena.segments c.copy_null.new.arena)) (entry_of f) c.in-Pointer.index (ty_of c.in-Pointer.ty) _ c.in-Pointer.ensures.body (sym c.is_pointer_field_null.ensures ∙ c.if-is_pointer_field_null.true) c.copy_null.result c.copy_null.ensures.why
 
 pub copy_field-returns-else-is_pointer_field_null-clause-why : goal.copy_field-returns-else-is_pointer_field_null-clause-why
 copy_field-returns-else-is_pointer_field_null-clause-why g t c =
     let f = c.args.field in
-    some_refused (schema_around f.parent) (seen_struct g.B.ReaderArena.segments c.args.source.now) (words_in (g.A.ReaderArena.segments c.copy_some.new.arena)) (entry_of f) c.in-Pointer.index (ty_of c.in-Pointer.ty) _ c.in-Pointer.ensures.body (sym c.is_pointer_field_null.ensures ∙ c.if-is_pointer_field_null.false) c.copy_some.result c.copy_some.ensures.why
+    some_refused (IsSizeOrRefusal g.A.BuilderArena.refuses) (schema_around f.parent) (seen_struct g.B.ReaderArena.segments c.args.source.now) (words_in (g.A.ReaderArena.segments c.copy_some.new.arena)) (entry_of f) c.in-Pointer.index (ty_of c.in-Pointer.ty) _ c.in-Pointer.ensures.body (sym c.is_pointer_field_null.ensures ∙ c.if-is_pointer_field_null.false) c.copy_some.result c.copy_some.ensures.why
 
 pub copy_field-returns-in-Group-clause-why : goal.copy_field-returns-in-Group-clause-why
-copy_field-returns-in-Group-clause-why g t c = group_isnt_set c.args.field c.in-Group.schema (seen_struct g.B.ReaderArena.segments c.args.source.now) (words_in (g.A.ReaderArena.segments c.copy_group.new.arena)) c.in-Group.ensures.body c.in-Group.ensures.of_set c.copy_group.result c.copy_group.ensures.why
+copy_field-returns-in-Group-clause-why g t c = group_isnt_set (IsSizeOrRefusal g.A.BuilderArena.refuses) c.args.field c.in-Group.schema (seen_struct g.B.ReaderArena.segments c.args.source.now) (words_in (g.A.ReaderArena.segments c.copy_group.new.arena)) c.in-Group.ensures.body c.in-Group.ensures.of_set c.copy_group.result c.copy_group.ensures.why
 
 pub copy_fields-returns-in_err-copy_turn-clause-why : goal.copy_fields-returns-in_err-copy_turn-clause-why
 copy_fields-returns-in_err-copy_turn-clause-why g t c =
     let h = err_from_is_err_and c.from_residual.result c.from_residual.ensures.1 in
-    rw (h.1, h.2) (one_refused c.args.schema c.get.result (c.get.ensures.parent ∙ c.in-Ok.ensures) (seen_struct g.B.ReaderArena.segments c.args.source.now) (words_in (g.A.ReaderArena.segments c.copy_turn.new.arena)) c.in_err-copy_turn.field-0.0 c.in_err-copy_turn.ensures.why)
+    rw (h.1, h.2) (one_refused (IsSizeOrRefusal g.A.BuilderArena.refuses) c.args.schema c.get.result (c.get.ensures.parent ∙ c.in-Ok.ensures) (seen_struct g.B.ReaderArena.segments c.args.source.now) (words_in (g.A.ReaderArena.segments c.copy_turn.new.arena)) c.in_err-copy_turn.field-0.0 c.in_err-copy_turn.ensures.why)
 
 pub copy_group-returns-in_err-copy_fields-clause-why : goal.copy_group-returns-in_err-copy_fields-clause-why
 copy_group-returns-in_err-copy_fields-clause-why g t c =
     let h = err_from_is_err_and c.from_residual.result c.from_residual.ensures.1 in
     rw (h.1, h.2) c.in_err-copy_fields.ensures.why
+
+-- ---- where nothing has a fault
+
+pub copy_field-returns-then-is_pointer_field_null-clause-cause : goal.copy_field-returns-then-is_pointer_field_null-clause-cause
+copy_field-returns-then-is_pointer_field_null-clause-cause g t c from stands =
+    let i = c.in-Pointer.index in
+    let v = seen_struct g.B.ReaderArena.segments c.args.source.now in
+    let empty = null_tree_is (child from.kids i) (sym (c.nulls_are_read.ensures stands.0 (pointer_seen v i) (child from.kids i) (stands.1.children i)) ∙ (sym c.is_pointer_field_null.ensures ∙ c.if-is_pointer_field_null.true)) in
+    c.copy_null.ensures.cause from empty
+
+pub copy_field-returns-in-Group-clause-cause : goal.copy_field-returns-in-Group-clause-cause
+copy_field-returns-in-Group-clause-cause g t c from stands =
+    on_err c.copy_group.result _ _ (λ e told free. told (group_faultless c.args.field (field_of c.get_proto-said.result.now) c.get_proto-said.ensures (body_of_place (F.Group c.in-Group.schema)) c.in-Group.ensures.body from c.in-Group.schema refl c.in-Group.ensures.of_set free)) (c.copy_group.ensures.cause from stands)
+
+pub copy_turn-returns-clause-cause : goal.copy_turn-returns-clause-cause
+copy_turn-returns-clause-cause g t c from stands =
+    let turn = sym (c.has_turn.ensures from (source_of (seen_struct g.B.ReaderArena.segments c.args.source.now) from stands)) ∙ c.if-not-has_turn.false in
+    on_err c.copy_field.result _ _ (λ e told free. told (free turn)) (c.copy_field.ensures.cause from stands)
+
+pub copy_fields-returns-in_err-copy_turn-clause-cause : goal.copy_fields-returns-in_err-copy_turn-clause-cause
+copy_fields-returns-in_err-copy_turn-clause-cause g t c from stands =
+    let h = err_from_is_err_and c.from_residual.result c.from_residual.ensures.1 in
+    rw (h.1, h.2) (λ free. c.in_err-copy_turn.ensures.cause from stands (one_faultless c.args.schema c.get.result (c.get.ensures.parent ∙ c.in-Ok.ensures) c.args.members from free))
+
+pub copy_group-returns-in_err-copy_fields-clause-cause : goal.copy_group-returns-in_err-copy_fields-clause-cause
+copy_group-returns-in_err-copy_fields-clause-cause g t c from stands =
+    let h = err_from_is_err_and c.from_residual.result c.from_residual.ensures.1 in
+    rw (h.1, h.2) (λ free. c.in_err-copy_fields.ensures.cause from stands (first_turn (schema_around c.args.schema) (shape_of_struct c.args.schema) from free))
+
+pub copy_group-returns-clause-cause : goal.copy_group-returns-clause-cause
+copy_group-returns-clause-cause g t c from stands =
+    on_err c.copy_fields-2.result _ _ (λ e told free. told (second_turn (schema_around c.args.schema) (shape_of_struct c.args.schema) from free)) (c.copy_fields-2.ensures.cause from stands)

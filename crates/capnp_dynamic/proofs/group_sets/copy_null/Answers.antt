@@ -5,6 +5,7 @@ use Rattle.std.specs.Prelude.{option_map, option_copied}
 use Rattle.capnp_model.specs.Accepted.{schema_of}
 use Rattle.capnp_model.specs.Groups.{source_tree}
 use Rattle.capnp_model.specs.Schemas.{pointer_slot, default_or_null}
+use Rattle.capnp_model.specs.Readings.{null_pointer}
 use Rattle.capnp_model.specs.Trees.{null}
 use Rattle.capnp_units.specs.Segments.{words_in}
 use Rattle.capnp_wire.specs.Places.{place_view}
@@ -14,6 +15,7 @@ use Rattle.capnp_queries.specs.Types.{ty_of}
 use Rattle.capnp_copy.proofs.lemmas.RoomLaws.{sizes_grow}
 use Rattle.capnp_footprints.proofs.lemmas.Algebra.{changes_nothing}
 use Rattle.capnp_footprints.proofs.lemmas.Spans.{grows_then}
+use Rattle.capnp_copy.specs.Refusals.{IsSizeOrRefusal}
 use Rattle.capnp_copy.specs.States.{state_in}
 use Rattle.capnp_dynamic.specs.GroupRefusals.{NotPut}
 use Rattle.capnp_dynamic.specs.GroupSets.{PutsAny, null_tree, copied_field}
@@ -22,7 +24,8 @@ use Rattle.capnp_dynamic.proofs.lemmas.Ready.{slot_there}
 use Rattle.capnp_dynamic.proofs.lemmas.Grown.{there_grown}
 use Rattle.capnp_dynamic.proofs.lemmas.AnyEdits.{far_refused, far_err}
 use Rattle.capnp_dynamic.proofs.CopiedFields.{null_field, member_field}
-use Rattle.capnp_dynamic.proofs.NullRefusals.{null_untaken, null_unplaced}
+use Rattle.capnp_dynamic.proofs.NullRefusals.{null_untaken, null_unplaced, null_told}
+use Rattle.capnp_dynamic.proofs.Faultless.{untaken, null_faultless}
 use Rattle.capnp_dynamic.proofs.group_sets.copy_null.Goals as goal
 
 pub returns-then-said-clause-writes : goal.returns-then-said-clause-writes
@@ -96,7 +99,7 @@ pub returns-in_err-test_type-clause-why : goal.returns-in_err-test_type-clause-w
 returns-in_err-test_type-clause-why g c =
     let slot = c.requires.slot.0 in
     let h = err_from_is_err_and c.from_residual.result c.from_residual.ensures.1 in
-    rw (h.1, h.2) (null_untaken c.args.field c.args.index (ty_of c.args.ty) slot.0 slot.1 c.in_err-test_type.field-0.0 (words_in (g.A.ReaderArena.segments c.args.arena.now)) (sym c.in_err-test_type.ensures))
+    rw (h.1, h.2) (null_untaken (IsSizeOrRefusal g.A.BuilderArena.refuses) c.args.field c.args.index (ty_of c.args.ty) slot.0 slot.1 c.in_err-test_type.field-0.0 (words_in (g.A.ReaderArena.segments c.args.arena.now)) (sym c.in_err-test_type.ensures))
 
 pub returns-in_err-put_null-clause-why : goal.returns-in_err-put_null-clause-why
 returns-in_err-put_null-clause-why g c =
@@ -112,6 +115,35 @@ returns-in_err-put_null-clause-why g c =
     let at_segment = c.pointer_place-slot.result.segment in
     let nodes = c.set.ensures ∙ ap nodes_around c.parent.ensures in
     let value = (c.default_value.ensures i ty slot.0 slot.1).value in
-    let why = subst (λ o. NotPut old new at_segment (source_tree (schema_of (nodes_around f.parent)) ty (default_or_null o) null) e) value
-    (subst (λ ns. NotPut old new at_segment (null_tree (schema_of ns) ty (option_map value_of (option_copied c.default_value.result))) e) nodes c.in_err-put_null.ensures.why) in
-    rw (h.1, h.2) (null_unplaced f i ty slot.0 slot.1 e (field_of c.get_proto-said.result.now) c.get_proto-said.ensures (sym c.in_ok-test_type.ensures) old new at_segment why)
+    let why = subst (λ o. NotPut (IsSizeOrRefusal g.A.BuilderArena.refuses) old new at_segment (source_tree (schema_of (nodes_around f.parent)) ty (default_or_null o) null) e) value
+    (subst (λ ns. NotPut (IsSizeOrRefusal g.A.BuilderArena.refuses) old new at_segment (null_tree (schema_of ns) ty (option_map value_of (option_copied c.default_value.result))) e) nodes c.in_err-put_null.ensures.why) in
+    rw (h.1, h.2) (null_unplaced (IsSizeOrRefusal g.A.BuilderArena.refuses) f i ty slot.0 slot.1 e (field_of c.get_proto-said.result.now) c.get_proto-said.ensures (sym c.in_ok-test_type.ensures) old new at_segment why)
+
+-- ---- where nothing has a fault
+
+pub returns-in_err-test_type-clause-cause : goal.returns-in_err-test_type-clause-cause
+returns-in_err-test_type-clause-cause g c from empty =
+    let slot = c.requires.slot.0 in
+    let h = err_from_is_err_and c.from_residual.result c.from_residual.ensures.1 in
+    let k = c.get_proto-said.result.now.discriminant_value in
+    let i = c.args.index in
+    let ty = ty_of c.args.ty in
+    rw (h.1, h.2) (λ free. absurd (untaken ty _ null_pointer (sym c.in_err-test_type.ensures) (null_faultless c.args.field (field_of c.get_proto-said.result.now) c.get_proto-said.ensures (pointer_slot i ty slot.0) slot.1 from i ty slot.0 k refl (member_there k c.if-said.false) empty free)))
+
+pub returns-in_err-put_null-clause-cause : goal.returns-in_err-put_null-clause-cause
+returns-in_err-put_null-clause-cause g c from empty =
+    let h = err_from_is_err_and c.from_residual-in_err-put_null.result c.from_residual-in_err-put_null.ensures.1 in
+    let at = state_in g.A.ReaderArena.segments g.A.BuilderArena.room g.A.BuilderArena.books in
+    let old = at c.args.arena.now in
+    let new = at c.put_null.new.arena in
+    let slot = c.requires.slot.0 in
+    let f = c.args.field in
+    let i = c.args.index in
+    let ty = ty_of c.args.ty in
+    let e = c.in_err-put_null.field-0.0 in
+    let at_segment = c.pointer_place-slot.result.segment in
+    let nodes = c.set.ensures ∙ ap nodes_around c.parent.ensures in
+    let value = (c.default_value.ensures i ty slot.0 slot.1).value in
+    let why = subst (λ o. NotPut (IsSizeOrRefusal g.A.BuilderArena.refuses) old new at_segment (source_tree (schema_of (nodes_around f.parent)) ty (default_or_null o) null) e) value
+    (subst (λ ns. NotPut (IsSizeOrRefusal g.A.BuilderArena.refuses) old new at_segment (null_tree (schema_of ns) ty (option_map value_of (option_copied c.default_value.result))) e) nodes c.in_err-put_null.ensures.why) in
+    rw (h.1, h.2) (λ free. null_told (IsSizeOrRefusal g.A.BuilderArena.refuses) f i ty slot.0 slot.1 e (field_of c.get_proto-said.result.now) c.get_proto-said.ensures (sym c.in_ok-test_type.ensures) old new at_segment why)

@@ -1,5 +1,5 @@
 -- A pointer that is refused, or copied and then marked.
-use Rattle.std.proofs.Common.{Err, inl, inr, refl, sym, subst}
+use Rattle.std.proofs.Common.{not, ◌≡◌, true, ◌∙◌, ap, Err, inl, inr, refl, sym, subst}
 use Rattle.std.proofs.lemmas.Result.{err_from_is_err_and}
 use Rattle.capnp_model.specs.Schemas.{pointer_slot}
 use Rattle.capnp_units.specs.Segments.{words_in}
@@ -17,6 +17,12 @@ use Rattle.capnp_dynamic.proofs.CopiedFields.{pointer_field}
 use Rattle.capnp_wire.specs.Views.{StructView, seen_struct}
 use Rattle.capnp_values.specs.Shown.{ShowsField}
 use Rattle.capnp_dynamic.proofs.FieldRefusals.{read_refused}
+use Rattle.capnp_queries.specs.Structs.{schema_around}
+use Rattle.capnp_wire.specs.Views.{pointer_field as pointer_seen}
+use Rattle.capnp_model.specs.Trees.{Tree, is_null, child}
+use Rattle.capnp_model.specs.Readings.{read}
+use Rattle.capnp_dynamic.proofs.NullRefusals.{behind_pointer, is_behind}
+use Rattle.capnp_dynamic.proofs.Faultless.{untaken, unreadable, some_faultless}
 use Rattle.capnp_dynamic.proofs.group_sets.copy_some.Goals as goal
 
 pub returns-in_err-test_type-clause-writes : goal.returns-in_err-test_type-clause-writes
@@ -89,3 +95,35 @@ pub returns-in_err-copy_child-clause-why : goal.returns-in_err-copy_child-clause
 returns-in_err-copy_child-clause-why g c =
     let h = err_from_is_err_and c.from_residual-in_err-copy_child.result c.from_residual-in_err-copy_child.ensures.1 in
     rw (h.1, h.2) (inr (inr c.in_err-copy_child.ensures.why))
+
+-- ---- where nothing has a fault
+
+pub returns-in_err-test_type-clause-cause : goal.returns-in_err-test_type-clause-cause
+returns-in_err-test_type-clause-cause g c from stands =
+    let slot = c.requires.slot in
+    let h = err_from_is_err_and c.from_residual.result c.from_residual.ensures.1 in
+    let i = c.args.index in
+    let ty = ty_of c.args.ty in
+    let v = seen_struct g.B.ReaderArena.segments c.args.source.now in
+    let some : not (is_null (child from.kids i)) ≡ true = ap not (sym (c.nulls_are_read.ensures stands.0 (pointer_seen v i) (child from.kids i) (stands.1.children i)) ∙ c.requires.some) in
+    rw (h.1, h.2) (λ free. absurd (untaken ty _ (read (schema_around c.args.field.parent) (child from.kids i) ty) (sym c.in_err-test_type.ensures) (some_faultless c.args.field (field_of c.get_proto-said.result.now) c.get_proto-said.ensures (pointer_slot i ty slot.0) slot.1 from i ty slot.0 refl some free)))
+
+pub returns-in_err-get-clause-cause : goal.returns-in_err-get-clause-cause
+returns-in_err-get-clause-cause g c from stands =
+    let slot = c.requires.slot in
+    let h = err_from_is_err_and c.from_residual-in_err-get.result c.from_residual-in_err-get.ensures.1 in
+    let bytes = g.B.ReaderArena.segments in
+    let e = c.in_err-get.field-0.0 in
+    let i = c.args.index in
+    let ty = ty_of c.args.ty in
+    let v = seen_struct bytes c.args.source.now in
+    let shows = subst (λ (v : StructView). ShowsField bytes v c.args.field (Err e)) c.new.ensures.source c.in_err-get.ensures in
+    let unread = read_refused bytes c.args.field v i ty slot.0 slot.1 c.requires.some e shows in
+    let behind = is_behind ty (behind_pointer c.args.field (field_of c.get_proto-said.result.now) c.get_proto-said.ensures i ty slot.0 slot.1) in
+    let some : not (is_null (child from.kids i)) ≡ true = ap not (sym (c.nulls_are_read.ensures stands.0 (pointer_seen v i) (child from.kids i) (stands.1.children i)) ∙ c.requires.some) in
+    rw (h.1, h.2) (λ free. absurd (unreadable c.pointers_are_read.ensures stands.0 v i (child from.kids i) (schema_around c.args.field.parent) ty _ behind (stands.1.children i) unread (some_faultless c.args.field (field_of c.get_proto-said.result.now) c.get_proto-said.ensures (pointer_slot i ty slot.0) slot.1 from i ty slot.0 refl some free)))
+
+pub returns-in_err-copy_child-clause-cause : goal.returns-in_err-copy_child-clause-cause
+returns-in_err-copy_child-clause-cause g c from stands =
+    let h = err_from_is_err_and c.from_residual-in_err-copy_child.result c.from_residual-in_err-copy_child.ensures.1 in
+    rw (h.1, h.2) (λ free. c.in_err-copy_child.ensures.cause stands.0 (child from.kids c.args.index) (stands.1.children c.args.index))

@@ -7,7 +7,7 @@ use Rattle.capnp_records.specs.NodeViews.{field_of}
 use Rattle.capnp_footprints.proofs.lemmas.Spans.{grows_then}
 use Rattle.capnp_wire.specs.Places.{place_view}
 use Rattle.capnp_copy.proofs.lemmas.RoomLaws.{sizes_grow}
-use Rattle.capnp_queries.specs.Structs.{nodes_around, shape_of_struct, id_of}
+use Rattle.capnp_queries.specs.Structs.{nodes_around, schema_around, shape_of_struct, id_of}
 use Rattle.capnp_queries.specs.Types.{ty_of}
 use Rattle.capnp_queries.specs.declared.slots.FieldPlace.TheVariants as F
 use Rattle.capnp_model.specs.Schemas.{words_of_shape, pointers_of_shape}
@@ -18,6 +18,10 @@ use Rattle.capnp_dynamic.proofs.lemmas.GroupFields.{slot_inside}
 use Rattle.capnp_dynamic.proofs.lemmas.SetPointers.{object_made}
 use Rattle.capnp_dynamic.proofs.DataWords.{leads_from}
 use Rattle.capnp_dynamic.proofs.InitSlots.{empty_words, inits, lies, refuses}
+use Rattle.capnp_dynamic.proofs.lemmas.Causes.{caused}
+use Rattle.capnp_queries.specs.Handles.{entry_of}
+use Rattle.capnp_dynamic.specs.Inits.{init_content}
+use Rattle.capnp_copy.specs.Refusals.{IsSizeOrRefusal}
 use Rattle.capnp_dynamic.proofs.init.init_slot.Goals as goal
 
 pub pointer_place-requires-clause-inside : goal.pointer_place-requires-clause-inside
@@ -89,3 +93,8 @@ returns-in_ok-place-in-Pointer-clause-grows g c =
     let m = words_in (g.A.ReaderArena.segments c.put_struct.new.arena) in
     let u = words_in (g.A.ReaderArena.segments c.mark.new.arena) in
     grows_then s m u c.in_ok-place-in-Pointer.ensures.grows (sizes_grow m u c.mark.ensures.sizes)
+
+pub returns-in_err-place-in-Pointer-clause-cause : goal.returns-in_err-place-in-Pointer-clause-cause
+returns-in_err-place-in-Pointer-clause-cause g c =
+    let h = err_from_is_err_and c.from_residual.result c.from_residual.ensures.1 in
+    rw (h.1, h.2) (caused (init_content (schema_around c.args.field.parent) (entry_of c.args.field)) (IsSizeOrRefusal g.A.BuilderArena.refuses) c.in_err-place-in-Pointer.field-0.0 c.in_err-place-in-Pointer.ensures.cause)

@@ -12,13 +12,16 @@ use Rattle.capnp_wire.specs.Places.{place_view}
 use Rattle.capnp_queries.specs.Structs.{nodes_around, schema_around}
 use Rattle.capnp_queries.specs.Types.{ty_of}
 use Rattle.capnp_queries.specs.declared.slots.FieldPlace.TheVariants as F
-use Rattle.capnp_dynamic.specs.NewLists.{tree_of_new}
+use Rattle.capnp_dynamic.specs.NewLists.{tree_of_new, initn_field}
 use Rattle.capnp_copy.specs.States.{state_in}
 use Rattle.capnp_dynamic.proofs.lemmas.Ready.{slot_there}
 use Rattle.capnp_dynamic.proofs.lemmas.Grown.{same_grows}
 use Rattle.capnp_dynamic.proofs.lemmas.GroupFields.{slot_inside}
 use Rattle.capnp_dynamic.proofs.Verbs.{child_put, child_refused}
 use Rattle.capnp_dynamic.proofs.NewLists.{initn_as, list_put}
+use Rattle.capnp_dynamic.proofs.lemmas.Causes.{caused}
+use Rattle.capnp_queries.specs.Handles.{entry_of}
+use Rattle.capnp_copy.specs.Refusals.{IsSizeOrRefusal}
 use Rattle.capnp_dynamic.proofs.initn.initn_slot.Goals as goal
 
 pub pointer_place-requires-clause-inside : goal.pointer_place-requires-clause-inside
@@ -68,3 +71,8 @@ returns-in_ok-put_list-in-Pointer-clause-puts g c =
     initn_as c.args.field r c.get_proto-said.ensures c.in-Pointer.index ty _ c.in-Pointer.ensures.body c.args.count (object t) content (at c.args.arena.now) (at c.mark.new.arena) c.args.object _
     (child_put c.args.field r c.get_proto-said.ensures c.in-Pointer.index ty _ c.in-Pointer.ensures.body (initn c.args.count) t put {X = ⊤} (at c.args.arena.now) (at c.put_list.new.arena) (at c.mark.new.arena) c.args.object c.pointer_place.result tt (object_words t) refl c.pointer_place.ensures.place l
     c.in_ok-put_list-in-Pointer.ensures.made c.mark.ensures.edits c.mark.ensures.sizes)
+
+pub returns-in_err-put_list-in-Pointer-clause-cause : goal.returns-in_err-put_list-in-Pointer-clause-cause
+returns-in_err-put_list-in-Pointer-clause-cause g c =
+    let h = err_from_is_err_and c.from_residual.result c.from_residual.ensures.1 in
+    rw (h.1, h.2) (caused (initn_field (schema_around c.args.field.parent) c.args.count (entry_of c.args.field)) (IsSizeOrRefusal g.A.BuilderArena.refuses) c.in_err-put_list-in-Pointer.field-0.0 c.in_err-put_list-in-Pointer.ensures.cause)

@@ -1,9 +1,12 @@
 use Rattle.std.proofs.Common.{ap, subst}
 use Rattle.capnp_model.specs.Segments.{Segments, Place, root}
+use Rattle.capnp_model.specs.Visits.{visits}
 use Rattle.capnp_units.specs.Segments.{words_in}
+use Rattle.capnp_units.specs.declared.errors.Error.{Error}
+use Rattle.capnp_copy.specs.Refusals.{IsSizeOrRefusal}
 use Rattle.capnp_wire.specs.Places.{place_view}
 use Rattle.capnp_wire.specs.Views.{Ground}
-use Rattle.capnp_copy_from.specs.Copies.{CopiesValue}
+use Rattle.capnp_copy_from.specs.Copies.{CopiesValue, IsStoppedOr}
 use Rattle.capnp_copy_from.specs.Defaults.{default_segments}
 use Rattle.capnp_dynamic.proofs.SourceReadings.{value_copied, copy_stands}
 use Rattle.capnp_dynamic.proofs.FieldRefusals.{copy_refused}
@@ -33,5 +36,7 @@ returns-clause-why g c =
     let u : Segments = words_in (g.A.ReaderArena.segments c.copy_from.new.arena) in
     let p : Place = place_view c.args.slot in
     let is = ap (λ (x : Ground). x.segments) c.default_backing-source.ensures in
-    copy_refused 64 (default_segments c.args.words.now) s u root p c.new-limiter.result c.copy_from.new.limiter c.copy_from.result c.new-limiter.ensures.left
-    (subst (λ (f : Segments). CopiesValue 64 f root s u p c.new-limiter.result c.copy_from.result c.copy_from.new.limiter) is c.copy_from.ensures.copy)
+    let told : Error → Type 0 = IsSizeOrRefusal g.A.BuilderArena.refuses in
+    let stopped = subst (λ (f : Segments). IsStoppedOr (visits 64 f root) c.new-limiter.result c.copy_from.new.limiter told c.copy_from.result) is c.copy_from.ensures.cause in
+    copy_refused told 64 (default_segments c.args.words.now) s u root p c.new-limiter.result c.copy_from.new.limiter c.copy_from.result c.new-limiter.ensures.left
+    (subst (λ (f : Segments). CopiesValue 64 f root s u p c.new-limiter.result c.copy_from.result c.copy_from.new.limiter) is c.copy_from.ensures.copy) stopped

@@ -6,7 +6,7 @@ use Rattle.capnp_records.specs.NodeViews.{field_of}
 use Rattle.capnp_footprints.proofs.lemmas.Spans.{grows_then}
 use Rattle.capnp_wire.specs.Places.{place_view}
 use Rattle.capnp_copy.proofs.lemmas.RoomLaws.{sizes_grow}
-use Rattle.capnp_queries.specs.Handles.{plain_of, body_of_place}
+use Rattle.capnp_queries.specs.Handles.{plain_of, body_of_place, entry_of}
 use Rattle.capnp_queries.specs.Types.{ty_of}
 use Rattle.capnp_queries.specs.declared.slots.FieldPlace.TheVariants as F
 use Rattle.capnp_dynamic.specs.Blobs.{bytes_of}
@@ -16,6 +16,9 @@ use Rattle.capnp_dynamic.proofs.lemmas.Grown.{same_grows}
 use Rattle.capnp_dynamic.proofs.lemmas.GroupFields.{slot_inside, plain_inside, member_inside}
 use Rattle.capnp_dynamic.proofs.lemmas.SetSlots.{fits_slot, sets_bits, sets_plain}
 use Rattle.capnp_dynamic.proofs.lemmas.SetPointers.{sets_bytes, refuses_bytes}
+use Rattle.capnp_dynamic.proofs.lemmas.Causes.{caused}
+use Rattle.capnp_dynamic.specs.Given.{set_content}
+use Rattle.capnp_copy.specs.Refusals.{IsSizeOrRefusal}
 use Rattle.capnp_dynamic.proofs.setting.set_flat.Goals as goal
 
 pub set_bits-requires-clause-there : goal.set_bits-requires-clause-there
@@ -94,3 +97,8 @@ returns-in_err-put_blob-in-Pointer-clause-puts g c =
 pub returns-in_err-put_blob-in-Pointer-clause-grows : goal.returns-in_err-put_blob-in-Pointer-clause-grows
 returns-in_err-put_blob-in-Pointer-clause-grows g c =
     same_grows (g.A.ReaderArena.segments c.args.arena.now) (g.A.ReaderArena.segments c.put_blob.new.arena) c.in_err-put_blob-in-Pointer.ensures.refused.1.0
+
+pub returns-in_err-put_blob-in-Pointer-clause-cause : goal.returns-in_err-put_blob-in-Pointer-clause-cause
+returns-in_err-put_blob-in-Pointer-clause-cause g c =
+    let h = err_from_is_err_and c.from_residual.result c.from_residual.ensures.1 in
+    rw (h.1, h.2) (caused (set_content c.args.value.now (entry_of c.args.field)) (IsSizeOrRefusal g.A.BuilderArena.refuses) c.in_err-put_blob-in-Pointer.field-0.0 c.in_err-put_blob-in-Pointer.ensures.cause)

@@ -8,6 +8,7 @@ use Rattle.capnp_units.specs.Segments.{words_in}
 use Rattle.capnp_records.specs.NodeViews.{field_of}
 use Rattle.capnp_footprints.proofs.lemmas.Algebra.{changes_nothing}
 use Rattle.capnp_footprints.proofs.lemmas.Spans.{grows_same}
+use Rattle.capnp_copy.specs.Refusals.{IsSizeOrRefusal}
 use Rattle.capnp_builders.specs.Making.{state_of}
 use Rattle.capnp_values.specs.Sources.{struct_seen}
 use Rattle.capnp_queries.specs.Fields.{shape_id}
@@ -42,8 +43,8 @@ returns-else-is_untyped_capability-clause-puts g c =
     let bytes = g.B.ReaderArena.segments in
     let none = none_given (source_seen bytes) c.source_for.result (source_given bytes c.args.value.now (ty_of c.in-Pointer.ty)) c.source_for.ensures.given c.in_default-source_for.is in
     let plain = told c.is_untyped_capability.result _ false c.is_untyped_capability.ensures c.if-is_untyped_capability.false in
-    flat_puts bytes c.args.value.now (at c.args.memory.now) (at (record { arena = c.set_flat.new.arena })) c.args.object c.args.field c.set_flat.result
-    (flat_behind bytes c.args.value.now (entry_of c.args.field) c.in-Pointer.index (ty_of c.in-Pointer.ty) _ c.in-Pointer.ensures.body none plain) c.set_flat.ensures.puts
+    flat_puts bytes c.args.value.now (at c.args.memory.now) (at (record { arena = c.set_flat.new.arena })) c.args.object c.args.field c.set_flat.result (IsSizeOrRefusal g.A.BuilderArena.refuses)
+    (flat_behind bytes c.args.value.now (entry_of c.args.field) c.in-Pointer.index (ty_of c.in-Pointer.ty) _ c.in-Pointer.ensures.body none plain) c.set_flat.ensures.puts c.set_flat.ensures.cause
 
 pub returns-else-is_untyped_capability-clause-leaves : goal.returns-else-is_untyped_capability-clause-leaves
 returns-else-is_untyped_capability-clause-leaves g c =
@@ -55,8 +56,8 @@ pub returns-in_default-clause-puts : goal.returns-in_default-clause-puts
 returns-in_default-clause-puts g c =
     let at = state_of g.A.ReaderArena.segments g.A.BuilderArena.room g.A.BuilderArena.books in
     let bytes = g.B.ReaderArena.segments in
-    flat_puts bytes c.args.value.now (at c.args.memory.now) (at (record { arena = c.set_flat-in_default.new.arena })) c.args.object c.args.field c.set_flat-in_default.result
-    (flat_elsewhere bytes c.args.value.now (entry_of c.args.field) c.place.result c.place.ensures.body c.in_default.not-Pointer c.in_default.not-Group) c.set_flat-in_default.ensures.puts
+    flat_puts bytes c.args.value.now (at c.args.memory.now) (at (record { arena = c.set_flat-in_default.new.arena })) c.args.object c.args.field c.set_flat-in_default.result (IsSizeOrRefusal g.A.BuilderArena.refuses)
+    (flat_elsewhere bytes c.args.value.now (entry_of c.args.field) c.place.result c.place.ensures.body c.in_default.not-Pointer c.in_default.not-Group) c.set_flat-in_default.ensures.puts c.set_flat-in_default.ensures.cause
 
 pub returns-in_default-clause-leaves : goal.returns-in_default-clause-leaves
 returns-in_default-clause-leaves g c =
@@ -75,8 +76,8 @@ returns-in_default-struct_for-clause-puts g c =
     let own = shape_of_struct c.in-Group.schema in
     let ty = group_type (entry_of f) (group_slot own) (ty_of c.get_type.result) c.in-Group.ensures.body c.get_type.ensures.ty in
     let none = none_given (struct_seen bytes) c.struct_for.result (struct_given bytes v (struct (shape_id own))) (c.struct_for.ensures.given ∙ ap (struct_given bytes v) ty) c.in_default-struct_for.is in
-    given_puts bytes v (at c.args.memory.now) (at c.args.memory.now) c.args.object f (made (refused_by (group_refusal v))) (Err c.from-in_default-struct_for.result)
-    (group_refused bytes v (entry_of f) own c.in-Group.ensures.body none) (ap (λ k. Err k) (ap kind_of c.from-in_default-struct_for.ensures ∙ c.group_refusal.ensures))
+    given_puts bytes v (IsSizeOrRefusal g.A.BuilderArena.refuses) (at c.args.memory.now) (at c.args.memory.now) c.args.object f (made (refused_by (group_refusal v))) (Err c.from-in_default-struct_for.result)
+    (group_refused bytes v (entry_of f) own c.in-Group.ensures.body none) (ap (λ k. Err k) (ap kind_of c.from-in_default-struct_for.ensures ∙ c.group_refusal.ensures), tt)
 
 pub returns-in_default-struct_for-clause-leaves : goal.returns-in_default-struct_for-clause-leaves
 returns-in_default-struct_for-clause-leaves g c =
@@ -93,7 +94,7 @@ returns-in-Some-struct_for-clause-puts g c =
     let x = struct_seen bytes c.in-Some-struct_for.source in
     let ty = group_type (entry_of f) (group_slot own) (ty_of c.get_type.result) c.in-Group.ensures.body c.get_type.ensures.ty in
     let some = sym (c.struct_for.ensures.given ∙ ap (struct_given bytes v) ty) ∙ ap (option_map (struct_seen bytes)) c.in-Some-struct_for.is in
-    given_puts bytes v (at c.args.memory.now) (at (record { arena = c.set_group.new.arena })) c.args.object f (fields x) c.set_group.result
+    given_puts bytes v (IsSizeOrRefusal g.A.BuilderArena.refuses) (at c.args.memory.now) (at (record { arena = c.set_group.new.arena })) c.args.object f (fields x) c.set_group.result
     (fields_given bytes v (entry_of f) own x c.in-Group.ensures.body some) c.set_group.ensures.sets
 
 pub returns-in-Some-struct_for-clause-leaves : goal.returns-in-Some-struct_for-clause-leaves

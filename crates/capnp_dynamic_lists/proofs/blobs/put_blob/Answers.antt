@@ -35,6 +35,7 @@ returns g c =
       puts = put_if old new r (Makes old new slot (blob_tree bytes) (words_for (8 * length bytes))) (PutsObject old new o (λ words pointers. put_child 0 (blob_tree bytes)) i (object_words (blob_tree bytes)))
           (object_put old new o slot i where_it_is.segment (blob_tree bytes) (words_for (8 * length bytes)) (bytes_words bytes) c.requires.pointer c.requires.index where_it_is.place c.requires.there) e.made;
       refused = not_put_if old new r (BytesRefused old slot.segment (length bytes)) (ObjectRefused old o.start.segment (blob_tree bytes)) (blob_not_put old new o slot i where_it_is.segment bytes) e.refused;
+      cause = e.cause;
       stays = stays_if old new r (BytesRefused old slot.segment (length bytes)) e.refused;
       grows = grows_if old new r (BytesRefused old slot.segment (length bytes)) e.grows e.refused;
       books = e.books;

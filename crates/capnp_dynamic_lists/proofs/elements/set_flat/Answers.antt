@@ -6,7 +6,10 @@ use Rattle.capnp_copy.proofs.lemmas.RoomLaws.{sizes_grow}
 use Rattle.capnp_queries.specs.Types.{ty_of}
 use Rattle.capnp_dynamic.specs.Blobs.{bytes_of}
 use Rattle.capnp_copy.specs.States.{state_in}
-use Rattle.capnp_dynamic_lists.proofs.Contents.{has_pointer, puts_blob, puts_single}
+use Rattle.capnp_dynamic_lists.proofs.Contents.{has_pointer, puts_blob, puts_single, single_cause}
+use Rattle.capnp_copy.specs.Refusals.{IsSizeOrRefusal}
+use Rattle.capnp_dynamic.proofs.lemmas.Causes.{caused_if}
+use Rattle.capnp_dynamic_lists.specs.Elements.{flat_element}
 use Rattle.capnp_dynamic_lists.proofs.elements.set_flat.Goals as goal
 
 pub put_blob-requires-clause-pointer : goal.put_blob-requires-clause-pointer
@@ -28,3 +31,10 @@ returns-in-None-clause-puts g c =
 pub returns-in-None-clause-grows : goal.returns-in-None-clause-grows
 returns-in-None-clause-grows g c =
     sizes_grow (words_in (g.A.ReaderArena.segments c.args.arena.now)) (words_in (g.A.ReaderArena.segments c.set_single.new.arena)) c.set_single.ensures.sizes
+
+pub returns-in-Some-clause-cause : goal.returns-in-Some-clause-cause
+returns-in-Some-clause-cause g c = caused_if (flat_element c.args.value.now (ty_of c.args.ty)) (IsSizeOrRefusal g.A.BuilderArena.refuses) c.put_blob.result c.put_blob.ensures.cause
+
+pub returns-in-None-clause-cause : goal.returns-in-None-clause-cause
+returns-in-None-clause-cause g c =
+    single_cause c.args.value.now (ty_of c.args.ty) (sym c.blob_for.ensures ∙ ap (option_map bytes_of) c.in-None.is) (IsSizeOrRefusal g.A.BuilderArena.refuses) c.set_single.result

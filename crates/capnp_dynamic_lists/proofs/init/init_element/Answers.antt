@@ -17,6 +17,8 @@ use Rattle.capnp_dynamic_lists.specs.Puts.{PutsObject, PutsContent}
 use Rattle.capnp_dynamic_lists.proofs.Pointers.{pointer_there}
 use Rattle.capnp_dynamic_lists.proofs.Contents.{object_put, put_if, not_put_if, grows_if}
 use Rattle.capnp_dynamic_lists.proofs.NewElements.{no_list, pointers_held, puts_new}
+use Rattle.capnp_copy.specs.Refusals.{IsSizeOrRefusal}
+use Rattle.capnp_dynamic.proofs.lemmas.Causes.{caused_if, refused_cause}
 use Rattle.capnp_dynamic_lists.proofs.init.init_element.Goals as goal
 
 pub returns-in-None-clause-puts : goal.returns-in-None-clause-puts
@@ -69,3 +71,15 @@ pub returns-in-Some-clause-grows : goal.returns-in-Some-clause-grows
 returns-in-Some-clause-grows g c =
     let at = state_in g.A.ReaderArena.segments g.A.BuilderArena.room g.A.BuilderArena.books in
     grows_if (at c.args.arena.now) (at c.put_list.new.arena) c.put_list.result (ObjectRefused (at c.args.arena.now) c.element_pointer.result.segment (tree_of_new c.in-Some.new c.args.size)) c.put_list.ensures.grows c.put_list.ensures.refused
+
+-- ---- why not
+
+pub returns-in-Some-clause-cause : goal.returns-in-Some-clause-cause
+returns-in-Some-clause-cause g c =
+    caused_if (element_content (schema_of (nodes_of c.args.set.now)) (initn c.args.size) (ty_of c.args.ty)) (IsSizeOrRefusal g.A.BuilderArena.refuses) c.put_list.result c.put_list.ensures.cause
+
+pub returns-in-None-clause-cause : goal.returns-in-None-clause-cause
+returns-in-None-clause-cause g c =
+    let s = schema_of (nodes_of c.args.set.now) in
+    let ty = ty_of c.args.ty in
+    refused_cause (element_content s (initn c.args.size) ty) (no_new_element ty) (IsSizeOrRefusal g.A.BuilderArena.refuses) c.from.result (no_list s c.args.size ty (c.in-None.ensures.list c.args.size))

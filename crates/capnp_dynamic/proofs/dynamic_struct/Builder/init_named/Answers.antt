@@ -23,7 +23,7 @@ returns-clause-puts g c =
       c.in_ok-found.found,
       c.in_ok-found.ensures.found,
       (
-        record { same = refl; place = refl; schema = refl; puts = c.begin_field.ensures.puts },
+        record { same = refl; place = refl; schema = refl; puts = c.begin_field.ensures.puts; cause = c.begin_field.ensures.cause },
         both_told c.begin_field.result (λ part tells there. record { tells = tells; there = there }) c.begin_field.ensures.tells c.begin_field.ensures.there,
       ),
     )

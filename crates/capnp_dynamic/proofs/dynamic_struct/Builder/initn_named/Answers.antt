@@ -13,4 +13,4 @@ returns-clause-ready g c =
     record { there = there_grown (words_in (g.A.ReaderArena.segments old.memory.now.arena)) (words_in (g.A.ReaderArena.segments c.initn_slot.new.arena)) old.place c.initn_slot.ensures.grows c.requires.ready.there; wide = c.requires.ready.wide }
 
 pub returns-clause-puts : goal.returns-clause-puts
-returns-clause-puts g c = inl (c.in_ok-found.found, c.in_ok-found.ensures.found, record { same = refl; place = refl; schema = refl; puts = c.initn_slot.ensures.puts })
+returns-clause-puts g c = inl (c.in_ok-found.found, c.in_ok-found.ensures.found, record { same = refl; place = refl; schema = refl; puts = c.initn_slot.ensures.puts; cause = c.initn_slot.ensures.cause })
