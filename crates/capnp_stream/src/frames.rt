@@ -3,17 +3,17 @@ ghost use Rattle.std.specs.Prelude.{◌≡◌, ◌≤◌, ◌*◌, ◌^◌, ◌<
 ghost use Rattle.std.specs.List.{concat};
 ghost use Rattle.std.specs.Io.KnownBytes.{Keeps};
 ghost use Rattle.capnp_units.specs.declared.kinds.ErrorKind.{ErrorKind};
-ghost use Rattle.capnp_model.specs.Messages.{plain_words, within};
+ghost use Rattle.capnp_model.specs.Messages.{within};
 ghost use Rattle.capnp_model.specs.Spelling.{AreShort, CanSpell};
 ghost use Rattle.capnp_io.specs.Counting.{Counts};
-ghost use Rattle.capnp_stream.specs.Pieces.{TakesPiece, is_framed_fault};
+ghost use Rattle.capnp_stream.specs.Pieces.{TakesPiece};
 ghost use Rattle.capnp_model.specs.Bytes.{AreBytes};
 ghost use Rattle.capnp_stream.specs.Segments.{whole_words, lengths_of, owned_bytes, segment_bytes, segments_of};
 ghost use Rattle.capnp_stream.specs.Frames.{TellsFault, TakesMessage, TakesStart, TakesTable, IsReadKind, IsCut};
 ghost use Rattle.capnp_stream.specs.Reading.{WantsBetweenPieces, TriesMessage, ReadsMessage, source_seen};
 ghost use Rattle.capnp_stream.specs.Writing.{AreWritable};
 
-use crate::forms::{Framed, MessageForm};
+use crate::forms::MessageForm;
 use crate::segments::{OwnedSegments, SegmentLengthsBuilder};
 use crate::tables::{LONGEST_TABLE, fill_count, fill_others};
 use capnp_io::traits::{BufRead, Read};
@@ -165,32 +165,4 @@ pub fn read_message_in<F: MessageForm, R: BufRead>(
         Some(message) => Ok(message),
         None => Err(Error::from(ErrorKind::PrematureEndOfFile)),
     }
-}
-
-/// The segments of the next framed message, or `None` where no byte is left.
-///
-/// A message of more words than the limit is refused. `OutOfMemory`: some byte is left, and the memory for the table or the segments was refused. After a refusal less than a message was taken, and no byte behind the first that is at fault.
-pub fn try_read_message<R: BufRead>(
-    alloc: Global,
-    source: &mut R,
-    limit: Option<usize>,
-) -> Result<Option<OwnedSegments>>
-    ensures { TriesMessage plain_words is_framed_fault limit
-        (source_seen R.remaining R.failures source.old) result
-        (source_seen R.remaining R.failures source.new) }
-{
-    try_read_message_in::<Framed, R>(alloc, source, limit)
-}
-
-/// The segments of the next framed message. `PrematureEndOfFile`: no byte is left.
-pub fn read_message<R: BufRead>(
-    alloc: Global,
-    source: &mut R,
-    limit: Option<usize>,
-) -> Result<OwnedSegments>
-    ensures { ReadsMessage plain_words is_framed_fault limit
-        (source_seen R.remaining R.failures source.old) result
-        (source_seen R.remaining R.failures source.new) }
-{
-    read_message_in::<Framed, R>(alloc, source, limit)
 }

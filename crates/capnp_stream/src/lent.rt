@@ -3,9 +3,9 @@ ghost use Rattle.std.specs.Prelude.{◌≡◌, ◌≤◌, ◌+◌, ◌*◌, ◌/
 ghost use Rattle.std.specs.Int.{from_le_bytes, w64};
 ghost use Rattle.capnp_units.specs.declared.kinds.ErrorKind.{ErrorKind};
 ghost use Rattle.capnp_units.specs.Segments.{words_in};
-ghost use Rattle.capnp_model.specs.Messages.{plain_words, within};
+ghost use Rattle.capnp_model.specs.Messages.{within};
 ghost use Rattle.capnp_io.specs.Counting.{Counts};
-ghost use Rattle.capnp_stream.specs.Pieces.{IsPieceKind, is_framed_fault};
+ghost use Rattle.capnp_stream.specs.Pieces.{IsPieceKind};
 ghost use Rattle.capnp_stream.specs.Frames.{TellsFault, TakesMessage, TakesStart, TakesTable, TakesBody, IsCut};
 ghost use Rattle.capnp_stream.specs.Flat.{table_lengths, frame_segments, CountsTable, Describes};
 ghost use Rattle.capnp_stream.specs.Lent.{HoldsMessage, TellsNeed, LacksBetweenPieces, IsFillKind};
@@ -14,7 +14,7 @@ ghost use Rattle.capnp_stream.specs.Filling.{TriesFilling, FillsMessage};
 
 use crate::buffers::{NoAllocBufferSegments, NoAllocSliceSegments};
 use crate::flat::{NoAllocSegmentTableInfo, words_before};
-use crate::forms::{Framed, MessageForm};
+use crate::forms::MessageForm;
 use crate::frames::{is_at_end, is_within};
 use crate::tables::{fill_count, fill_front, fill_others};
 use capnp_io::traits::BufRead;
@@ -143,34 +143,4 @@ pub fn read_message_no_alloc_in<'a, F: MessageForm, R: BufRead>(
     }
     let info = fill_message::<F, R>(source, buffer, limit)?;
     Ok(NoAllocBufferSegments::from_segment_table_info(&*buffer, info))
-}
-
-/// The segments of the next framed message, or `None` where no byte is left. The message lies in the buffer as it was read.
-///
-/// A message of more words than the limit is refused. `BufferNotLargeEnough`: some byte is left, and the buffer has fewer bytes than the message. After a refusal less than a message was taken, and no byte behind the first that is at fault.
-pub fn try_read_message_no_alloc<'a, R: BufRead>(
-    source: &mut R,
-    buffer: &'a mut [u8],
-    limit: Option<usize>,
-) -> Result<Option<NoAllocSliceSegments<'a>>>
-    ensures { TriesFilling plain_words is_framed_fault limit (length buffer.old)
-        (source_seen R.remaining R.failures source.old) result
-        (source_seen R.remaining R.failures source.new) }
-{
-    try_read_message_no_alloc_in::<Framed, R>(source, buffer, limit)
-}
-
-/// The segments of the next framed message, which lies in the buffer as it was read. `PrematureEndOfFile`: no byte is left.
-///
-/// Refused otherwise as `try_read_message_no_alloc`.
-pub fn read_message_no_alloc<'a, R: BufRead>(
-    source: &mut R,
-    buffer: &'a mut [u8],
-    limit: Option<usize>,
-) -> Result<NoAllocSliceSegments<'a>>
-    ensures { FillsMessage plain_words is_framed_fault limit (length buffer.old)
-        (source_seen R.remaining R.failures source.old) result
-        (source_seen R.remaining R.failures source.new) }
-{
-    read_message_no_alloc_in::<Framed, R>(source, buffer, limit)
 }

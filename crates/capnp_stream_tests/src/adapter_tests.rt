@@ -2,7 +2,8 @@
 use crate::messages::{TWO, WRITTEN, expect_two};
 use capnp_io::adapters::{Sink, Source};
 use capnp_io::traits::{BufRead, Read, Write};
-use capnp_stream::frames::try_read_message;
+use capnp_stream::forms::Framed;
+use capnp_stream::frames::try_read_message_in;
 use capnp_units::errors::Error;
 use capnp_units::kinds::ErrorKind;
 use capnp_writing::messages::write_segment;
@@ -91,7 +92,7 @@ fn a_failed_read_is_no_end(rt: HostRuntime) -> std::result::Result<(), Fail> {
     for n in 0..40 {
         let reader = Stumbling::new(&TWO, n, io::ErrorKind::Other);
         let mut source = Source::new(alloc, reader)?;
-        let failed = try_read_message(alloc, &mut source, None).err();
+        let failed = try_read_message_in::<Framed, _>(alloc, &mut source, None).err();
         assert!(rt; failed == Some(Error::from(ErrorKind::Device)), "at {n}");
         assert!(rt; source.failures() == 1, "at {n}");
     }
@@ -124,7 +125,7 @@ fn the_end_of_input_is_no_failure(rt: HostRuntime) -> std::result::Result<(), Fa
     assert!(rt; &buf[..40] == TWO.as_slice());
     assert!(rt; source.read(&mut buf)? == 0);
     assert!(rt; source.fill_buf()?.is_empty());
-    assert!(rt; try_read_message(alloc, &mut source, None)?.is_none());
+    assert!(rt; try_read_message_in::<Framed, _>(alloc, &mut source, None)?.is_none());
     assert!(rt; source.failures() == 0);
     Ok(())
 }

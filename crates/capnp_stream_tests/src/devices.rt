@@ -1,7 +1,8 @@
 //! Readers and writers of a program that do what they may at each call, and reads of much at once.
 use capnp_io::adapters::{Sink, Source};
 use capnp_io::traits::{BufRead, Read, Write};
-use capnp_stream::frames::read_message;
+use capnp_stream::forms::Framed;
+use capnp_stream::frames::read_message_in;
 use capnp_units::errors::{Error, Result};
 use capnp_units::kinds::ErrorKind;
 use capnp_units::segments::ReaderSegments;
@@ -223,7 +224,7 @@ fn the_most_segments_are_read(rt: HostRuntime) -> std::result::Result<(), Fail> 
     let alloc = rt.alloc();
     let mut bytes = vec![in alloc; 254, 1, 0, 0]?;
     bytes.resize(2048, 0)?;
-    let message = read_message(alloc, &mut bytes.as_slice(), Some(0))?;
+    let message = read_message_in::<Framed, &[u8]>(alloc, &mut bytes.as_slice(), Some(0))?;
     assert!(rt; message.len() == 511);
     assert!(rt;
         message

@@ -1,7 +1,8 @@
 //! Messages that tests read and write.
 
 use capnp_io::traits::BufRead;
-use capnp_stream::frames::read_message;
+use capnp_stream::forms::Framed;
+use capnp_stream::frames::read_message_in;
 use capnp_units::errors::Result;
 use capnp_units::segments::ReaderSegments;
 use std::alloc::Global;
@@ -29,7 +30,7 @@ pub const PACKED: [u8; 6] = [0x10, 2, 0x10, 1, 1, 7];
 
 /// Reads the message of two segments.
 pub fn expect_two<R: BufRead>(rt: &impl Abort, alloc: Global, source: &mut R) -> Result<()> {
-    let message = read_message(alloc, source, Some(3))?;
+    let message = read_message_in::<Framed, R>(alloc, source, Some(3))?;
     assert!(rt; is_two(&message));
     Ok(())
 }

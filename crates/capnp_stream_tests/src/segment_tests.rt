@@ -3,7 +3,8 @@
 use crate::messages::{THREE, is_three};
 use capnp_stream::buffers::{BufferSegments, NoAllocBufferSegments};
 use capnp_stream::flat::NoAllocSegmentTableInfo;
-use capnp_stream::frames::read_message;
+use capnp_stream::forms::Framed;
+use capnp_stream::frames::read_message_in;
 use capnp_stream::segments::{SegmentLengthsBuilder, words_of};
 use capnp_units::errors::Result;
 use capnp_units::kinds::ErrorKind;
@@ -23,7 +24,7 @@ fn three(alloc: Global) -> Result<SegmentLengthsBuilder> {
 #[test]
 fn segments_give_their_words(rt: HostRuntime) -> std::result::Result<(), Fail> {
     let alloc = rt.alloc();
-    let mut message = read_message(alloc, &mut THREE.as_slice(), None)?;
+    let mut message = read_message_in::<Framed, &[u8]>(alloc, &mut THREE.as_slice(), None)?;
     let words = message.segment_words(alloc, 2)?;
     assert!(rt; words.map(|w| w.as_slice() == [9, 10].as_slice()) == Some(true));
     assert!(rt; message.segment_words(alloc, 3)?.is_none());

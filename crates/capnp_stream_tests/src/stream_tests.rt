@@ -3,9 +3,10 @@
 use crate::messages::{PACKED, TWO, WRITTEN, expect_two, is_two};
 use capnp_io::adapters::{Sink, Source};
 use capnp_io::traits::{BufRead, Read, Write};
+use capnp_packing::form::Packed;
 use capnp_packing::serialize_packed;
 use capnp_stream::forms::Framed;
-use capnp_stream::frames::try_read_message;
+use capnp_stream::frames::try_read_message_in;
 use capnp_stream::kept::{MessageBuffer, try_read_message_into};
 use capnp_test_streams::shown::Shown;
 use capnp_test_streams::{Drip, Short};
@@ -35,14 +36,14 @@ fn failing_input_is_refused(rt: HostRuntime) -> std::result::Result<(), Fail> {
     let alloc = rt.alloc();
     for n in 0..40 {
         let mut source = Drip::new(&TWO, n);
-        let failed = try_read_message(alloc, &mut source, None);
+        let failed = try_read_message_in::<Framed, _>(alloc, &mut source, None);
         assert!(rt; is_failed(&failed), "at {n}");
         assert!(rt; source.failures() == 1, "at {n}");
         assert!(rt; source.rest().len() == 40 - n, "at {n}");
     }
     for n in 0..6 {
         let mut source = Shown::failing(&PACKED, n);
-        let failed = serialize_packed::try_read_message(alloc, &mut source, None);
+        let failed = try_read_message_in::<Packed, _>(alloc, &mut source, None);
         assert!(rt; is_failed(&failed), "at {n}");
         assert!(rt; source.failures() == 1, "at {n}");
         assert!(rt; source.bytes.len() == 6 - n, "at {n}");
