@@ -191,7 +191,7 @@ module _ (o n : Schema) (pairs : Pairs) where
 
   module _ (verb : Verb) (closed : (i j : ℕ) → has_pair pairs i j ≡ true → keeps o n pairs (o.shape_of i) (n.shape_of j) ≡ true)
       (within : (id : ℕ) → IsWithin (64 * words_of_shape (o.shape_of id)) (o.shape_of id)) (within' : (id : ℕ) → IsWithin (64 * words_of_shape (n.shape_of id)) (n.shape_of id))
-      (good : (id : ℕ) → IsGood o (o.shape_of id)) (good' : (id : ℕ) → IsGood n (n.shape_of id)) where
+      (good : (i j : ℕ) → has_pair pairs i j ≡ true → IsGood o (o.shape_of i)) (good' : (id : ℕ) → IsGood n (n.shape_of id)) where
     abbrev FieldKept : List Step → Type 0
     FieldKept path =
         (bits bits' : ℕ) (b b' : Body) → keeps_body o n pairs b b' ≡ true → is_admitted_from [] o n path verb (at_body b b') ≡ true → BodyWithin bits b → BodyWithin bits' b' → IsGoodBody o b → IsGoodBody n b' → FieldFollows o n verb path bits b b'
@@ -219,7 +219,7 @@ module _ (o n : Schema) (pairs : Pairs) where
       struct_kept : (l : List ℕ) (i j : ℕ) → has_pair pairs i j ≡ true → into_fields [] 0 l (fields_in (o.shape_of i)) (fields_in (n.shape_of j)) go ≡ true
           → NameFollows o n verb (FieldFollows o n verb path) l (64 * words_of_shape (o.shape_of i)) (o.shape_of i) (n.shape_of j) × HasWords o n verb (struct i) (struct j)
       struct_kept l i j h k =
-          (name_kept l (64 * words_of_shape (o.shape_of i)) (64 * words_of_shape (n.shape_of j)) (o.shape_of i) (n.shape_of j) (closed i j h) k (within i) (within' j) (good i) (good' j), words_kept (o.shape_of i) (n.shape_of j) (closed i j h))
+          (name_kept l (64 * words_of_shape (o.shape_of i)) (64 * words_of_shape (n.shape_of j)) (o.shape_of i) (n.shape_of j) (closed i j h) k (within i) (within' j) (good i j h) (good' j), words_kept (o.shape_of i) (n.shape_of j) (closed i j h))
 
       value_kept : (st : Step) (ty ty' : Ty) → related o n pairs ty ty' ≡ true → into_type [] o n st ty ty' go ≡ true → AllNarrow ty → ValueFollows o n verb st (FieldFollows o n verb path) (ElementFollows o n verb path) ty ty'
       value_kept (name l) (struct i) (struct j) h k x = struct_kept l i j h k

@@ -34,6 +34,7 @@ mod KeptViews
 mod GroupViews
 mod SeenValues
 mod OlderSteps
+mod OlderRecords
 mod WriteOnly
 mod Versions
 mod SizeExamples
@@ -51,3 +52,6 @@ mod RenamedEnds
 mod RenamedSteps
 mod RenamedPaths
 mod RenamedAdmission
+mod RenamedShapes
+mod RenamedCalls
+mod RenamedVersions

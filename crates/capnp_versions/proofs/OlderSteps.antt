@@ -47,12 +47,12 @@ new_if_not_found l (field k m b fs) e = by (bytes_eq k l) refl (new_if_not_found
 
 module _ (o n : Schema) (pairs : Pairs) (verb : Verb) (write : IsWrite verb) (closed : (i j : ℕ) → has_pair pairs i j ≡ true → keeps o n pairs (o.shape_of i) (n.shape_of j) ≡ true)
     (within : (id : ℕ) → IsWithin (64 * words_of_shape (o.shape_of id)) (o.shape_of id)) (within' : (id : ℕ) → IsWithin (64 * words_of_shape (n.shape_of id)) (n.shape_of id))
-    (good : (id : ℕ) → IsGood o (o.shape_of id)) (good' : (id : ℕ) → IsGood n (n.shape_of id)) where
+    (good : (i j : ℕ) → has_pair pairs i j ≡ true → IsGood o (o.shape_of i)) (good' : (id : ℕ) → IsGood n (n.shape_of id)) where
   abbrev R : ℕ → ℕ → Type 0
   R i j = HasPair o n pairs i j
 
   shapes : (i j : ℕ) → R i j → KeptShape o n R (o.shape_of i) (n.shape_of j)
-  shapes i j h = shape-kept o n pairs (o.shape_of i) (n.shape_of j) (closed i j h) (good i)
+  shapes i j h = shape-kept o n pairs (o.shape_of i) (n.shape_of j) (closed i j h) (good i j h)
 
   kids_agree : (f : ℕ → Tree) → KidsAgree o n R (kids_of o f) (kids_of n f)
   kids_agree f i ty ty' d h = read-project o n R shapes (f i) ty ty' d h
@@ -213,7 +213,7 @@ module _ (o n : Schema) (pairs : Pairs) (verb : Verb) (write : IsWrite verb) (cl
     struct_name l i j d z h k (seen_fault x) = refl
     struct_name l i j d z h k (seen_struct size section f) =
         let r : Record = shape_record (n.shape_of j) size section (kids_of n f) in
-        ap (outcome_map record_as) (name_view l (64 * words_of_shape (o.shape_of i)) (64 * words_of_shape (n.shape_of j)) (o.shape_of i) (n.shape_of j) (closed i j h) k (within i) (within' j) (good i) (good' j) size section f)
+        ap (outcome_map record_as) (name_view l (64 * words_of_shape (o.shape_of i)) (64 * words_of_shape (n.shape_of j)) (o.shape_of i) (n.shape_of j) (closed i j h) k (within i) (within' j) (good i j h) (good' j) size section f)
         ∙ map_both record_as (project_fields o (fields_in (o.shape_of i))) (project o (as_type (struct i) d)) record_as (λ y. refl) (on_name fieldN l (fields_in (n.shape_of j)) r)
 
     items_view : (i : ℕ) (a b : Ty) (rs : Readings) → related o n pairs a b ≡ true → go (at_element a b) ≡ true → SeenItems n b rs
@@ -394,4 +394,4 @@ module _ (o n : Schema) (pairs : Pairs) (verb : Verb) (write : IsWrite verb) (cl
       on_name (step_field o path verb) l (fields_in (o.shape_of i)) (project_fields o (fields_in (o.shape_of i)) r) ≡ outcome_map (project_fields o (fields_in (o.shape_of i))) (on_name (step_field n path verb) l (fields_in (n.shape_of j)) r)
   unfolding is_admitted_from
   root-view path l i j h k size section f =
-      name_view path (field-view path) (element-view' path) l (64 * words_of_shape (o.shape_of i)) (64 * words_of_shape (n.shape_of j)) (o.shape_of i) (n.shape_of j) (closed i j h) k (within i) (within' j) (good i) (good' j) size section f
+      name_view path (field-view path) (element-view' path) l (64 * words_of_shape (o.shape_of i)) (64 * words_of_shape (n.shape_of j)) (o.shape_of i) (n.shape_of j) (closed i j h) k (within i) (within' j) (good i j h) (good' j) size section f

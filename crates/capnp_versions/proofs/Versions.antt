@@ -17,31 +17,47 @@ use Rattle.capnp_model.specs.InKind.{in_kind}
 use Rattle.capnp_model.specs.NamedPaths.{IsOpen}
 use Rattle.capnp_model.specs.CallRuns.{IsStart, records_after, record_replies}
 use Rattle.capnp_model.specs.Answers.{reply_of, replies, edits}
-use Rattle.capnp_model.proofs.lemmas.KeptShapes.{pair_is_kept, older_record}
+use Rattle.capnp_model.proofs.lemmas.KeptShapes.{pair_is_kept}
 use Rattle.capnp_model.proofs.lemmas.TrimmedAnswers.{trimmed_record}
 use Rattle.capnp_model.proofs.lemmas.TrimmedKinds.{in_kind-trim}
 use Rattle.capnp_model.proofs.lemmas.EditLaws.{edit_open, next_start, last_start, record_after_calls, replies_to_calls}
 use Rattle.capnp_model.proofs.lemmas.ActiveMembers.{shape_good}
+use Rattle.capnp_model.proofs.lemmas.FineShapes.{IsGood}
 use Rattle.capnp_versions.specs.Whole.{IsWhole, IsWholeVerb}
 use Rattle.capnp_versions.specs.SameReplies.{IsWrite, SameUnlessGet, SameReplies}
-use Rattle.capnp_versions.specs.TwoVersions.{TwoVersions, older, newer, newer_record, older_view, CanEdit, CanStep, CanRun}
+use Rattle.capnp_versions.specs.TwoVersions.{TwoVersions, older, newer, newer_record, older_view, AreCompatible, CanEdit, CanStep, CanRun}
 use Rattle.capnp_versions.proofs.Alike.{Alike, alike-self}
 use Rattle.capnp_versions.proofs.Follows.{NameFollows, FieldFollows}
-use Rattle.capnp_versions.proofs.Within.{accepted-within}
+use Rattle.capnp_versions.proofs.Within.{IsWithin, accepted-within}
 use Rattle.capnp_versions.proofs.TrimmedEdits.{written-alike, left}
 use Rattle.capnp_versions.proofs.KeptFollows.{words_kept, root-kept}
 use Rattle.capnp_versions.proofs.SeenValues.{kids_of, nothing_seen, child_seen}
+use Rattle.capnp_versions.proofs.OlderRecords.{older-record}
 use Rattle.capnp_versions.proofs.OlderSteps.{root-view}
 use Rattle.capnp_versions.proofs.WriteOnly.{Sees, not-seen}
 
 -- ---- two schemas
 
-module _ (nodes nodes' : List Node) (accepted : IsAccepted nodes) (accepted' : IsAccepted nodes') (older newer : ℕ) (compatible : IsCompatible (schema_of nodes) (schema_of nodes') older newer) where
-  abbrev o : Schema
-  o = schema_of nodes
+-- an older schema of which the newer keeps what is reached: its shapes lie within their structs, and those that are reached are good
+pub record IsOlderOf (o n : Schema) (older newer : ℕ) : Type 0 where
+  pub compatible : IsCompatible o n older newer
+  pub within : (id : ℕ) → IsWithin (64 * words_of_shape (o.shape_of id)) (o.shape_of id)
+  pub good : (i j : ℕ) → has_pair compatible.pairs i j ≡ true → IsGood o (o.shape_of i)
 
+-- an accepted one is
+accepted-older : (nodes nodes' : List Node) (older newer : ℕ) → IsAccepted nodes → IsCompatible (schema_of nodes) (schema_of nodes') older newer → IsOlderOf (schema_of nodes) (schema_of nodes') older newer
+accepted-older nodes nodes' older newer accepted compatible = record {
+  compatible = compatible;
+  within = accepted-within nodes accepted;
+  good = λ i j h. shape_good nodes accepted i;
+}
+
+module _ (o : Schema) (nodes' : List Node) (accepted' : IsAccepted nodes') (older newer : ℕ) (is_older : IsOlderOf o (schema_of nodes') older newer) where
   abbrev n : Schema
   n = schema_of nodes'
+
+  abbrev compatible : IsCompatible o n older newer
+  compatible = is_older.compatible
 
   closed : (i j : ℕ) → has_pair compatible.pairs i j ≡ true → keeps o n compatible.pairs (o.shape_of i) (n.shape_of j) ≡ true
   closed i j h = pair_is_kept o n compatible.pairs compatible.pairs i j compatible.are_kept h
@@ -58,7 +74,7 @@ module _ (nodes nodes' : List Node) (accepted : IsAccepted nodes) (accepted' : I
           seen : (section : ℕ) (f : ℕ → Tree) → let r : Record = shape_record (n.shape_of newer) whole_words section (kids_of n f) in
               on_name (step_field o path c.verb) l (fields_in (o.shape_of older)) (project_fields o (fields_in (o.shape_of older)) r) ≡ outcome_map (project_fields o (fields_in (o.shape_of older))) (on_name (step_field n path c.verb) l (fields_in (n.shape_of newer)) r)
           seen section f =
-              root-view o n compatible.pairs c.verb write closed (accepted-within nodes accepted) (accepted-within nodes' accepted') (shape_good nodes accepted) (shape_good nodes' accepted') path l older newer compatible.has_roots h whole_words section f
+              root-view o n compatible.pairs c.verb write closed is_older.within (accepted-within nodes' accepted') is_older.good (shape_good nodes' accepted') path l older newer compatible.has_roots h whole_words section f
 
           by : (t : Tree) → let r : Record = record_by_shape n (n.shape_of newer) t in
               on_name (step_field o path c.verb) l (fields_in (o.shape_of older)) (project_fields o (fields_in (o.shape_of older)) r) ≡ outcome_map (project_fields o (fields_in (o.shape_of older))) (on_name (step_field n path c.verb) l (fields_in (n.shape_of newer)) r)
@@ -87,7 +103,7 @@ module _ (nodes nodes' : List Node) (accepted : IsAccepted nodes) (accepted' : I
       -- the outcome at the record of another value of the same newer record
       pub older-outcome : (t u : Tree) → record_of n newer t ≡ record_of n newer u → step o older c (record_of o older t) ≡ outcome_map (projected o older) (step n newer c (record_of n newer u))
       older-outcome t u same =
-          ap (step o older c) (older_record nodes nodes' older newer t accepted compatible) ∙ older-step t ∙ ap (λ r. outcome_map (projected o older) (step n newer c r)) same
+          ap (step o older c) (older-record o n older newer is_older.compatible is_older.good t) ∙ older-step t ∙ ap (λ r. outcome_map (projected o older) (step n newer c r)) same
 
       pub same-reply : (quoted : List ℕ → List ℕ) (t u : Tree) → record_of n newer t ≡ record_of n newer u → reply_of o quoted (step o older c (record_of o older t)) ≡ reply_of n quoted (step n newer c (record_of n newer u))
       unfolding step
@@ -106,7 +122,7 @@ module _ (nodes nodes' : List Node) (accepted : IsAccepted nodes) (accepted' : I
     module _ (whole : IsWholeVerb c.verb) where
       follows : (l : List ℕ) (path : List Step) → c.path ≡ name l ∷ path → NameFollows o n c.verb (FieldFollows o n c.verb path) l (64 * words_of_shape (o.shape_of older)) (o.shape_of older) (n.shape_of newer)
       follows l path e =
-          (root-kept o n compatible.pairs c.verb closed (accepted-within nodes accepted) (accepted-within nodes' accepted') (shape_good nodes accepted) (shape_good nodes' accepted') path l older newer compatible.has_roots
+          (root-kept o n compatible.pairs c.verb closed is_older.within (accepted-within nodes' accepted') is_older.good (shape_good nodes' accepted') path l older newer compatible.has_roots
           (ap (λ z. is_admitted_from [] o n z c.verb (at_element (struct older) (struct newer))) (sym e) ∙ admitted)).0
 
       words : words_of_shape (o.shape_of older) ≤ words_of_shape (n.shape_of newer)
@@ -176,34 +192,37 @@ module _ (nodes nodes' : List Node) (accepted : IsAccepted nodes) (accepted' : I
   edits-across : (c : Call) → IsAdmitted o n older newer c → IsWholeVerb c.verb → (t : Tree) → IsWhole t → IsOpen t → trim (edit o older c t) ≡ trim (edit n newer c t)
   edits-across c admitted whole t h x = (versions-alike c admitted whole t t (alike-self t h) x x refl).trims
 
-  calls-across : (calls : List Call) → AllByRecursion (λ c. IsAdmitted o n older newer c) calls → AllByRecursion (λ c. IsWholeVerb c.verb) calls → (t : Tree) → IsWhole t → IsStart nodes' newer calls t → trim (edits o older calls t) ≡ trim (edits n newer calls t)
+  pub calls-across : (calls : List Call) → AllByRecursion (λ c. IsAdmitted o n older newer c) calls → AllByRecursion (λ c. IsWholeVerb c.verb) calls → (t : Tree) → IsWhole t → IsStart nodes' newer calls t → trim (edits o older calls t) ≡ trim (edits n newer calls t)
   calls-across calls admitted whole t h start = (are-after (λ bs. bs) calls admitted whole t t (alike-self t h) start.opens start).alike.trims
 
-  records-across : (calls : List Call) → AllByRecursion (λ c. IsAdmitted o n older newer c) calls → AllByRecursion (λ c. IsWholeVerb c.verb) calls → (t : Tree) → IsWhole t → IsStart nodes' newer calls t
+  pub records-across : (calls : List Call) → AllByRecursion (λ c. IsAdmitted o n older newer c) calls → AllByRecursion (λ c. IsWholeVerb c.verb) calls → (t : Tree) → IsWhole t → IsStart nodes' newer calls t
       → record_of n newer (trim (edits o older calls t)) ≡ records_after n newer calls (record_of n newer t)
   records-across calls admitted whole t h start =
       let last = last_start nodes' newer calls t start in
       let both = same_records (edits o older calls t) (edits n newer calls t) (calls-across calls admitted whole t h start) last.kinds.of_tree in
       trimmed_record n newer (edits o older calls t) both.0 ∙ both.1 ∙ record_after_calls nodes' newer calls t start
 
-  replies-across : (quoted : List ℕ → List ℕ) (calls : List Call) → AllByRecursion (λ c. IsAdmitted o n older newer c) calls → AllByRecursion (λ c. IsWholeVerb c.verb) calls → (t : Tree) → IsWhole t → IsStart nodes' newer calls t
+  pub replies-across : (quoted : List ℕ → List ℕ) (calls : List Call) → AllByRecursion (λ c. IsAdmitted o n older newer c) calls → AllByRecursion (λ c. IsWholeVerb c.verb) calls → (t : Tree) → IsWhole t → IsStart nodes' newer calls t
       → SameReplies calls (replies o quoted older calls t) (record_replies n quoted newer calls (record_of n newer t))
   replies-across quoted calls admitted whole t h start =
       subst (SameReplies calls (replies o quoted older calls t)) (replies_to_calls nodes' newer quoted calls t start) (are-after quoted calls admitted whole t t (alike-self t h) start.opens start).replied
 
 -- THE LAWS
+is-older : (v : TwoVersions) → AreCompatible v → IsOlderOf (older v) (newer v) v.older_root v.newer_root
+is-older v h = accepted-older v.older_nodes v.newer_nodes v.older_root v.newer_root h.older_accepted h.compatible
+
 pub steps-across-versions : (v : TwoVersions) (c : Call) (t : Tree) → CanStep v c → step (older v) v.older_root c (older_view v (newer_record v t)) ≡ outcome_map (older_view v) (step (newer v) v.newer_root c (newer_record v t))
-steps-across-versions v c t h = older-step v.older_nodes v.newer_nodes h.versions.older_accepted h.versions.newer_accepted v.older_root v.newer_root h.versions.compatible c h.admitted h.writes t
+steps-across-versions v c t h = older-step (older v) v.newer_nodes h.versions.newer_accepted v.older_root v.newer_root (is-older v h.versions) c h.admitted h.writes t
 
 pub edits-across-versions : (v : TwoVersions) (c : Call) (t : Tree) → CanEdit v c t → trim (edit (older v) v.older_root c t) ≡ trim (edit (newer v) v.newer_root c t)
-edits-across-versions v c t h = edits-across v.older_nodes v.newer_nodes h.versions.older_accepted h.versions.newer_accepted v.older_root v.newer_root h.versions.compatible c h.admitted h.whole_verb t h.whole h.opens
+edits-across-versions v c t h = edits-across (older v) v.newer_nodes h.versions.newer_accepted v.older_root v.newer_root (is-older v h.versions) c h.admitted h.whole_verb t h.whole h.opens
 
 pub values-across-versions : (v : TwoVersions) (calls : List Call) (t : Tree) → CanRun v calls t → trim (edits (older v) v.older_root calls t) ≡ trim (edits (newer v) v.newer_root calls t)
-values-across-versions v calls t h = calls-across v.older_nodes v.newer_nodes h.versions.older_accepted h.versions.newer_accepted v.older_root v.newer_root h.versions.compatible calls h.admitted h.whole_verbs t h.whole h.start
+values-across-versions v calls t h = calls-across (older v) v.newer_nodes h.versions.newer_accepted v.older_root v.newer_root (is-older v h.versions) calls h.admitted h.whole_verbs t h.whole h.start
 
 pub records-across-versions : (v : TwoVersions) (calls : List Call) (t : Tree) → CanRun v calls t → newer_record v (trim (edits (older v) v.older_root calls t)) ≡ records_after (newer v) v.newer_root calls (newer_record v t)
-records-across-versions v calls t h = records-across v.older_nodes v.newer_nodes h.versions.older_accepted h.versions.newer_accepted v.older_root v.newer_root h.versions.compatible calls h.admitted h.whole_verbs t h.whole h.start
+records-across-versions v calls t h = records-across (older v) v.newer_nodes h.versions.newer_accepted v.older_root v.newer_root (is-older v h.versions) calls h.admitted h.whole_verbs t h.whole h.start
 
 pub replies-across-versions : (v : TwoVersions) (calls : List Call) (t : Tree) (quoted : List ℕ → List ℕ) → CanRun v calls t
     → SameReplies calls (replies (older v) quoted v.older_root calls t) (record_replies (newer v) quoted v.newer_root calls (newer_record v t))
-replies-across-versions v calls t quoted h = replies-across v.older_nodes v.newer_nodes h.versions.older_accepted h.versions.newer_accepted v.older_root v.newer_root h.versions.compatible quoted calls h.admitted h.whole_verbs t h.whole h.start
+replies-across-versions v calls t quoted h = replies-across (older v) v.newer_nodes h.versions.newer_accepted v.older_root v.newer_root (is-older v h.versions) quoted calls h.admitted h.whole_verbs t h.whole h.start

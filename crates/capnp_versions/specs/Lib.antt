@@ -3,6 +3,7 @@ pub mod StructElements
 pub mod Roots
 pub mod SameReplies
 pub mod TwoVersions
+pub mod RenamedVersions
 pub mod Fitting
 pub mod OwnOutput
 pub mod TwoRelays

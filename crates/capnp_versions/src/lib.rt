@@ -4,3 +4,4 @@
 pub mod laws;
 pub mod laws_of_capabilities;
 pub mod laws_of_fitting;
+pub mod laws_of_renamings;
