@@ -114,19 +114,36 @@ def waits_for_no_part(program):
 
 
 def answers_the_examples(program, folder):
-    """Whether both messages of README become the words that stand there."""
-    header, pointer = "0000000002000000", "0000000001000000"
-    wanted = {
-        "null_root": header + pointer + "0700000000000000",
-        "newer_record": "0000000003000000" + "0000000002000000" + "0700000000000000" + "6300000000000000",
-    }
-    for name, words in wanted.items():
+    """Whether both messages of README become the words that stand there, and the newer one also where its schema renames a field."""
+    null_root = "0000000002000000" + "0000000001000000" + "0700000000000000"
+    newer_record = "0000000003000000" + "0000000002000000" + "0700000000000000" + "6300000000000000"
+    written = b"message 1 written; done\n"
+    wanted = (
+        ("null_root", [], (0, null_root, written)),
+        ("newer_record", [], (0, newer_record, written)),
+        ("newer_record", ["newer_p.json", "renames.json"], (0, newer_record, written)),
+        ("newer_record", ["newer_p.json"], (1, "", b"fault: not compatible\n")),
+    )
+    for name, words, answer in wanted:
         with open(os.path.join(folder, name), "rb") as message:
-            ran = subprocess.run(
-                [program, "p.json", "set_a.json", "1", "framed"], stdin=message, capture_output=True, cwd=folder, timeout=LIMIT
-            )
-        if (ran.returncode, ran.stdout.hex(), ran.stderr) != (0, words, b"message 1 written; done\n"):
-            print(f"the example {name}: status {ran.returncode}, {ran.stdout.hex()}, {ran.stderr}, and not {words}")
+            given = [program, "p.json", "set_a.json", "1", "framed", *words]
+            ran = subprocess.run(given, stdin=message, capture_output=True, cwd=folder, timeout=LIMIT)
+        seen = (ran.returncode, ran.stdout.hex(), ran.stderr)
+        if seen != answer:
+            print(f"the example {name} {words}: {seen}, and not {answer}")
+            return False
+    return True
+
+
+def refuses_words_that_are_no_text(program, folder):
+    """Whether a word that isn't UTF-8 is a fault of the words, wherever it stands, and whatever the others are."""
+    words = ["p.json", "set_a.json", "1", "framed", "newer_p.json", "renames.json"]
+    for place in range(len(words) + 1):
+        given = [program, *words[:place], b"a\xff", *words[place + 1 :]]
+        ran = subprocess.run(given, stdin=subprocess.DEVNULL, capture_output=True, cwd=folder, timeout=LIMIT)
+        seen = (ran.returncode, ran.stdout, ran.stderr)
+        if seen != (1, b"", b"fault: arguments\n"):
+            print(f"the words {given[1:]}: {seen}")
             return False
     return True
 
@@ -134,7 +151,7 @@ def answers_the_examples(program, folder):
 def main(program, folder, *files):
     """Prints how many runs passed, and returns the status."""
     program, passed = os.path.abspath(program), 0
-    if not answers_the_examples(program, folder):
+    if not answers_the_examples(program, folder) or not refuses_words_that_are_no_text(program, folder):
         return 1
     for name in files:
         runs = runs_in(name)
@@ -147,7 +164,7 @@ def main(program, folder, *files):
         passed += len(runs)
     if not passed or not waits_for_no_part(program):
         return 1
-    print(f"built program: both examples, {passed} stored runs, three messages through a pipe one by one and with each part of the next, in both forms: as they should be")
+    print(f"built program: the examples, words that are no text, {passed} stored runs, three messages through a pipe one by one and with each part of the next, in both forms: as they should be")
     return 0
 
 

@@ -2,6 +2,7 @@
 use Rattle.std.proofs.Common.{◌≡◌, false, List, map, Result, Ok, Err}
 use Rattle.capnp_model.specs.Segments.{Segments}
 use Rattle.capnp_model.specs.Answers.{Answer}
+use Rattle.capnp_model.specs.Partners.{Renaming}
 use Rattle.capnp_model.specs.CallRuns.{AreGiven}
 use Rattle.capnp_queries.specs.Structs.{schema_around, id_of}
 use Rattle.capnp_queries.specs.declared.structs.StructSchema.{StructSchema}
@@ -15,31 +16,31 @@ use Rattle.capnp_relay.specs.Relaying.{relay_work}
 use Rattle.capnp_loop.specs.Run.{Relays}
 use Rattle.capnp_loop.specs.Streams.{Streams}
 use Rattle.capnp_between.specs.Newer.{MayRun}
-use Rattle.capnp_between.specs.Ends.{IsAnswerBetween, between_work, RelaysBetween}
+use Rattle.capnp_between.specs.Ends.{IsAnswerBetween, between_work, RelaysBetweenWith}
 use Rattle.capnp_between.specs.declared.between.BetweenFault.{BetweenFault}
 use Rattle.capnp_between.specs.declared.between.BetweenFault.TheVariants as fault
 use Rattle.capnp_loop.specs.Pauses.{RelaysPausing}
 use Rattle.capnp_loop.proofs.lemmas.PauseLemmas.{never_pausing}
-use Rattle.capnp_between.proofs.NewerRecords.{Records, Replies, ReadsAsNewer-of}
+use Rattle.capnp_between.proofs.NewerRecords.{Records, Replies, ReadsAsRenamed-of}
 use Rattle.capnp_between.proofs.Answering.{relays_pausing}
 
-module _ (root newer : StructSchema) (calls : List Call) (options : RelayOptions) (records : Records) (same_replies : Replies)
-    (no_group : (schema_around root).is_group (id_of root) ≡ false) (given : AreGiven (map call_view calls)) (may : MayRun root newer calls) where
-  answers : (s : Segments) (a : Answer) → IsAnswerBy root (map call_view calls) options.bounds s a → IsAnswerBetween root newer (map call_view calls) options.bounds s a
+module _ (rs : List Renaming) (root newer : StructSchema) (calls : List Call) (options : RelayOptions) (records : Records) (same_replies : Replies)
+    (no_group : (schema_around root).is_group (id_of root) ≡ false) (given : AreGiven (map call_view calls)) (may : MayRun rs root newer calls) where
+  answers : (s : Segments) (a : Answer) → IsAnswerBy root (map call_view calls) options.bounds s a → IsAnswerBetween rs root newer (map call_view calls) options.bounds s a
   answers s a h = record {
     same = h;
-    reads_newer = ReadsAsNewer-of root newer calls options.bounds records same_replies root.set.now.accepted newer.set.now.accepted no_group given may s a h;
+    reads_newer = ReadsAsRenamed-of rs root newer calls options.bounds records same_replies root.set.now.accepted newer.set.now.accepted no_group given may s a h;
   }
 
-  pub relays-between : (may_fail out_grows log_grows : Type 0) (old new : Streams) (result : Result Counts RelayFault) → RelaysPausing may_fail (relay_work root calls options out_grows log_grows) old new result → RelaysPausing may_fail (between_work root newer calls options out_grows log_grows) old new result
+  pub relays-between : (may_fail out_grows log_grows : Type 0) (old new : Streams) (result : Result Counts RelayFault) → RelaysPausing may_fail (relay_work root calls options out_grows log_grows) old new result → RelaysPausing may_fail (between_work rs root newer calls options out_grows log_grows) old new result
   relays-between may_fail out_grows log_grows old new result h =
-      relays_pausing (relay_work root calls options out_grows log_grows) (IsAnswerBetween root newer (map call_view calls) options.bounds) answers may_fail old new result h
+      relays_pausing (relay_work root calls options out_grows log_grows) (IsAnswerBetween rs root newer (map call_view calls) options.bounds) answers may_fail old new result h
 
 -- no pause fails
-module _ (root newer : StructSchema) (calls : List Call) (options : RelayOptions) (out_grows log_grows : Type 0) (old new : Streams) where
-  pub between-never : (result : Result Counts BetweenFault) → RelaysBetween (RelaysPausing ⊥) root newer calls options out_grows log_grows old new result → RelaysBetween Relays root newer calls options out_grows log_grows old new result
+module _ (rs : List Renaming) (root newer : StructSchema) (calls : List Call) (options : RelayOptions) (out_grows log_grows : Type 0) (old new : Streams) where
+  pub between-never : (result : Result Counts BetweenFault) → RelaysBetweenWith (RelaysPausing ⊥) rs root newer calls options out_grows log_grows old new result → RelaysBetweenWith Relays rs root newer calls options out_grows log_grows old new result
   between-never (Ok counts) h = record { may = h.may; relays = h.relays }
-  between-never (Err (fault.Relay e)) h = record { may = h.may; relays = never_pausing (between_work root newer calls options out_grows log_grows) old new (Err e) h.relays }
+  between-never (Err (fault.Relay e)) h = record { may = h.may; relays = never_pausing (between_work rs root newer calls options out_grows log_grows) old new (Err e) h.relays }
   between-never (Err fault.NotCompatible) h = h
   between-never (Err (fault.NotAdmitted n)) h = h
   between-never (Err fault.Memory) h = h

@@ -1,7 +1,8 @@
 -- How a relay between two versions ends.
-use Rattle.std.specs.Prelude.{⊤, Some, List, map, Result, Ok, Err}
+use Rattle.std.specs.Prelude.{⊤, Some, List, [], map, Result, Ok, Err}
 use Rattle.capnp_model.specs.Segments.{Segments}
 use Rattle.capnp_model.specs.Calls.{Call as ModelCall}
+use Rattle.capnp_model.specs.Partners.{Renaming}
 use Rattle.capnp_model.specs.Answers.{Answer}
 use Rattle.capnp_queries.specs.declared.structs.StructSchema.{StructSchema}
 use Rattle.capnp_calls.specs.declared.call.Call.{Call}
@@ -18,41 +19,45 @@ use Rattle.capnp_loop.specs.Work.{Work, work}
 use Rattle.capnp_loop.specs.Streams.{Streams}
 use Rattle.capnp_between.specs.declared.between.BetweenFault.{BetweenFault}
 use Rattle.capnp_between.specs.declared.between.BetweenFault.TheVariants as fault
-use Rattle.capnp_between.specs.Newer.{AreCompatible, is_admitted_between, MayRun, ReadsAsNewer}
+use Rattle.capnp_between.specs.Newer.{AreCompatible, is_admitted_between, MayRun, ReadsAsRenamed}
 
 -- The answer of the relay to a message, which also reads under the newer schema.
-pub record IsAnswerBetween (root newer : StructSchema) (calls : List ModelCall) (bounds : Bounds) (s : Segments) (a : Answer) : Type 0 where
+pub record IsAnswerBetween (rs : List Renaming) (root newer : StructSchema) (calls : List ModelCall) (bounds : Bounds) (s : Segments) (a : Answer) : Type 0 where
   pub same : IsAnswerBy root calls bounds s a
-  pub reads_newer : ReadsAsNewer newer calls bounds s a
+  pub reads_newer : ReadsAsRenamed rs root newer calls bounds s a
 
 -- The work of the relay, with such answers.
-abbrev pub between_work : StructSchema → StructSchema → List Call → RelayOptions → Type 0 → Type 0 → Work
-between_work root newer calls options out_grows log_grows =
-    work (reader_of options.input) (writer_of options.output) (Some options.bounds.words) (IsAnswerBetween root newer (map call_view calls) options.bounds) (IsTooLarge root (map call_view calls) options.bounds) out_grows log_grows
+abbrev pub between_work : List Renaming → StructSchema → StructSchema → List Call → RelayOptions → Type 0 → Type 0 → Work
+between_work rs root newer calls options out_grows log_grows =
+    work (reader_of options.input) (writer_of options.output) (Some options.bounds.words) (IsAnswerBetween rs root newer (map call_view calls) options.bounds) (IsTooLarge root (map call_view calls) options.bounds) out_grows log_grows
 
 -- Why nothing is relayed: the schemas are not compatible, or they are and this call is the first that is not admitted.
-abbrev pub IsHeld : StructSchema → StructSchema → List Call → BetweenFault → Type 0
-IsHeld root newer calls fault.NotCompatible = AreCompatible root newer → ⊥
-IsHeld root newer calls (fault.NotAdmitted n) = AreCompatible root newer × IsFirstRefused (is_admitted_between root newer) (map call_view calls) n
-IsHeld root newer calls fault.Memory = ⊤
-IsHeld root newer calls (fault.Relay e) = ⊥
+abbrev pub IsHeld : List Renaming → StructSchema → StructSchema → List Call → BetweenFault → Type 0
+IsHeld rs root newer calls fault.NotCompatible = AreCompatible rs root newer → ⊥
+IsHeld rs root newer calls (fault.NotAdmitted n) = AreCompatible rs root newer × IsFirstRefused (is_admitted_between rs root newer) (map call_view calls) n
+IsHeld rs root newer calls fault.Memory = ⊤
+IsHeld rs root newer calls (fault.Relay e) = ⊥
 
 -- What a run does to its streams, as it ended: `Relays`, or the same with pauses.
 abbrev pub Run : Type 1
 Run = Work → Streams → Streams → Result Counts RelayFault → Type 0
 
 -- A relay between two versions that ran, as it could.
-pub record RunsBetween (runs : Run) (root newer : StructSchema) (calls : List Call) (options : RelayOptions) (out_grows log_grows : Type 0) (old new : Streams) (result : Result Counts RelayFault) : Type 0 where
-  pub may : MayRun root newer calls
-  pub relays : runs (between_work root newer calls options out_grows log_grows) old new result
+pub record RunsBetween (runs : Run) (rs : List Renaming) (root newer : StructSchema) (calls : List Call) (options : RelayOptions) (out_grows log_grows : Type 0) (old new : Streams) (result : Result Counts RelayFault) : Type 0 where
+  pub may : MayRun rs root newer calls
+  pub relays : runs (between_work rs root newer calls options out_grows log_grows) old new result
 
--- A relay between two versions: it ran, or was held.
+-- A relay between two versions with renamed fields: it ran, or was held.
+abbrev pub RelaysBetweenWith : Run → List Renaming → StructSchema → StructSchema → List Call → RelayOptions → Type 0 → Type 0 → Streams → Streams → Result Counts BetweenFault → Type 0
+RelaysBetweenWith runs rs root newer calls options out_grows log_grows old new (Ok counts) = RunsBetween runs rs root newer calls options out_grows log_grows old new (Ok counts)
+RelaysBetweenWith runs rs root newer calls options out_grows log_grows old new (Err (fault.Relay e)) = RunsBetween runs rs root newer calls options out_grows log_grows old new (Err e)
+RelaysBetweenWith runs rs root newer calls options out_grows log_grows old new (Err fault.NotCompatible) = IsHeld rs root newer calls fault.NotCompatible
+RelaysBetweenWith runs rs root newer calls options out_grows log_grows old new (Err (fault.NotAdmitted n)) = IsHeld rs root newer calls (fault.NotAdmitted n)
+RelaysBetweenWith runs rs root newer calls options out_grows log_grows old new (Err fault.Memory) = IsHeld rs root newer calls fault.Memory
+
+-- The same where no field is renamed.
 abbrev pub RelaysBetween : Run → StructSchema → StructSchema → List Call → RelayOptions → Type 0 → Type 0 → Streams → Streams → Result Counts BetweenFault → Type 0
-RelaysBetween runs root newer calls options out_grows log_grows old new (Ok counts) = RunsBetween runs root newer calls options out_grows log_grows old new (Ok counts)
-RelaysBetween runs root newer calls options out_grows log_grows old new (Err (fault.Relay e)) = RunsBetween runs root newer calls options out_grows log_grows old new (Err e)
-RelaysBetween runs root newer calls options out_grows log_grows old new (Err fault.NotCompatible) = IsHeld root newer calls fault.NotCompatible
-RelaysBetween runs root newer calls options out_grows log_grows old new (Err (fault.NotAdmitted n)) = IsHeld root newer calls (fault.NotAdmitted n)
-RelaysBetween runs root newer calls options out_grows log_grows old new (Err fault.Memory) = IsHeld root newer calls fault.Memory
+RelaysBetween runs root newer calls options out_grows log_grows old new result = RelaysBetweenWith runs [] root newer calls options out_grows log_grows old new result
 
 -- This holds where the relay ran.
 abbrev pub IfRun : Result Counts BetweenFault → Type 0 → Type 0

@@ -7,8 +7,10 @@ use Rattle.capnp_model.specs.Traversal.{tree_at}
 use Rattle.capnp_model.specs.Calls.{Call as ModelCall}
 use Rattle.capnp_model.specs.CallRuns.{records_after, record_replies}
 use Rattle.capnp_model.specs.InKindCalls.{IsInKind}
-use Rattle.capnp_model.specs.Compatible.{IsCompatible}
-use Rattle.capnp_model.specs.Admitted.{is_admitted}
+use Rattle.capnp_model.specs.Partners.{Renaming}
+use Rattle.capnp_model.specs.Compatible.{IsCompatibleWith}
+use Rattle.capnp_model.specs.Admitted.{is_admitted_with}
+use Rattle.capnp_model.specs.RenamedCalls.{renamed_calls}
 use Rattle.capnp_model.specs.Answers.{Answer, Reply, written, value_within}
 use Rattle.capnp_queries.specs.Structs.{schema_around, id_of}
 use Rattle.capnp_queries.specs.declared.structs.StructSchema.{StructSchema}
@@ -20,18 +22,18 @@ use Rattle.capnp_relay.specs.Answers.{Bounds}
 use Rattle.capnp_versions.specs.SameReplies.{SameReplies}
 use Rattle.capnp_calls.specs.Roots.{record_at}
 
--- The newer schema is compatible with the older, from the two roots on.
-abbrev pub AreCompatible : StructSchema → StructSchema → Type 0
-AreCompatible root newer = IsCompatible (schema_around root) (schema_around newer) (id_of root) (id_of newer)
+-- The newer schema is compatible with the older, from the two roots on, with renamed fields.
+abbrev pub AreCompatible : List Renaming → StructSchema → StructSchema → Type 0
+AreCompatible rs root newer = IsCompatibleWith rs (schema_around root) (schema_around newer) (id_of root) (id_of newer)
 
--- A call at the older root is admitted beside the newer.
-abbrev pub is_admitted_between : StructSchema → StructSchema → ModelCall → Bool
-is_admitted_between root newer c = is_admitted (schema_around root) (schema_around newer) (id_of root) (id_of newer) c
+-- A call at the older root is admitted beside the newer, with renamed fields.
+abbrev pub is_admitted_between : List Renaming → StructSchema → StructSchema → ModelCall → Bool
+is_admitted_between rs root newer c = is_admitted_with rs (schema_around root) (schema_around newer) (id_of root) (id_of newer) c
 
 -- The newer schema is compatible with the older, and each call is admitted.
-pub record MayRun (root newer : StructSchema) (calls : List Call) : Type 0 where
-  pub compatible : AreCompatible root newer
-  pub admitted : IsTrue (list_all (is_admitted_between root newer) (map call_view calls))
+pub record MayRun (rs : List Renaming) (root newer : StructSchema) (calls : List Call) : Type 0 where
+  pub compatible : AreCompatible rs root newer
+  pub admitted : IsTrue (list_all (is_admitted_between rs root newer) (map call_view calls))
 
 -- What is written means a value whose newer record is the one that the newer machine makes of the newer record of the
 -- message's value; the replies to calls other than `get` are those of the newer machine.
@@ -46,3 +48,7 @@ abbrev pub ReadsAsNewer : StructSchema → List ModelCall → Bounds → Segment
 ReadsAsNewer newer calls bounds s (written segments replies) =
     (t : Tree) → value_within (limits_view bounds) s ≡ Some t → IsInKind (schema_around newer) (id_of newer) calls t → NewerMakes newer calls bounds.nesting t segments replies
 ReadsAsNewer newer calls bounds s _ = ⊤
+
+-- The same where fields are renamed: the newer machine makes the calls in the newer's words.
+abbrev pub ReadsAsRenamed : List Renaming → StructSchema → StructSchema → List ModelCall → Bounds → Segments → Answer → Type 0
+ReadsAsRenamed rs root newer calls bounds s a = ReadsAsNewer newer (renamed_calls rs (schema_around root) (id_of root) calls) bounds s a

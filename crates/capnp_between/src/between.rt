@@ -4,13 +4,15 @@ ghost use Rattle.capnp_calls.specs.Roots.{IsRoot};
 ghost use Rattle.capnp_loop.specs.Streams.{streams_of};
 ghost use Rattle.capnp_loop.specs.Run.{Relays};
 ghost use Rattle.capnp_loop.specs.Pauses.{RelaysPausing};
+ghost use Rattle.capnp_compatible.specs.Renamed.{renamings_of};
 ghost use Rattle.capnp_between.specs.Newer.{MayRun};
-ghost use Rattle.capnp_between.specs.Ends.{IsHeld, RelaysBetween, IfRun, IfHeld};
+ghost use Rattle.capnp_between.specs.Ends.{IsHeld, RelaysBetween, RelaysBetweenWith, IfRun, IfHeld};
 
 use capnp_calls::Call;
 use capnp_calls::laws::{calls_are_given, roots_are_no_groups};
-use capnp_compatible::admitted::{Admission, admitted};
-use capnp_compatible::compatible::compatible;
+use capnp_compatible::admitted::{Admission, admitted_with};
+use capnp_compatible::compatible::compatible_with;
+use capnp_compatible::renamings::Renamings;
 use capnp_compatible::root::Root;
 use capnp_queries::structs::StructSchema;
 use capnp_relay::ends::{Counts, RelayFault};
@@ -18,7 +20,7 @@ use capnp_relay::options::RelayOptions;
 use capnp_relay::pauses::{NoPause, Pause};
 use capnp_relay::relay::relay_pausing;
 use capnp_stream::traits::{BufRead, Read, Write};
-use capnp_versions::laws::calls_across_versions;
+use capnp_versions::laws_of_renamings::calls_across_renamed_versions;
 use std::alloc::Global;
 
 /// Why a relay between two versions ends before the end of input.
@@ -43,10 +45,13 @@ fn check(
     alloc: Global,
     root: StructSchema<'_>,
     newer: StructSchema<'_>,
+    renamings: &Renamings,
     calls: &[Call],
 ) -> Result<(), BetweenFault>
-    ensures ok { OnOk result (MayRun root.entry newer.entry calls.now) }
-    ensures held { IfErr result (IsHeld root.entry newer.entry calls.now) }
+    ensures ok { OnOk result
+        (MayRun (renamings_of renamings.now) root.entry newer.entry calls.now) }
+    ensures held { IfErr result
+        (IsHeld (renamings_of renamings.now) root.entry newer.entry calls.now) }
 {
     let older = Root {
         set: root.set(),
@@ -56,12 +61,12 @@ fn check(
         set: newer.set(),
         id: newer.raw().id,
     };
-    match compatible(alloc, older, newer) {
+    match compatible_with(alloc, older, newer, renamings) {
         Ok(true) => {}
         Ok(false) => return Err(BetweenFault::NotCompatible),
         Err(_) => return Err(BetweenFault::Memory),
     }
-    match admitted(alloc, calls, older, newer) {
+    match admitted_with(alloc, calls, older, newer, renamings) {
         Ok(Admission::Admitted) => Ok(()),
         Ok(Admission::Refused(n)) => Err(BetweenFault::NotAdmitted(n)),
         Err(_) => Err(BetweenFault::Memory),
@@ -95,12 +100,44 @@ pub fn relay_between<R: BufRead, W: Write, L: Write>(
     ensures untouched { IfHeld result ((source.new ≡ source.old) × (out.new ≡ out.old)
         × (log.new ≡ log.old) × (region.new ≡ region.old)) }
 {
-    relay_between_pausing::<R, W, L, NoPause>(
-        alloc, source, out, log, root, newer, calls, options, region,
+    let none = Renamings::none(alloc);
+    relay_between_with(
+        alloc, source, out, log, root, newer, &none, calls, options, region,
     )
 }
 
-/// As `relay_between`, with a pause before each message is read and a region of any length. A fault of a pause ends the run as `Out` or `Log`.
+/// As `relay_between`, where the newer schema has fields by other names. Calls keep the older names, and the newer schema's record
+/// machine makes them with each name of a field replaced by that of its partner. A renaming of a node or field that isn't reached has
+/// no effect.
+pub fn relay_between_with<R: BufRead, W: Write, L: Write>(
+    alloc: Global,
+    source: &mut R,
+    out: &mut W,
+    log: &mut L,
+    root: StructSchema<'_>,
+    newer: StructSchema<'_>,
+    renamings: &Renamings,
+    calls: &[Call],
+    options: RelayOptions,
+    region: &mut [u8],
+) -> Result<Counts, BetweenFault>
+    requires region { length region.old ≡ 8 * (options.bounds.words + 1) }
+    requires root { IsRoot root }
+    ensures run { let seen = streams_of ⟦<R as Read>⟧ ⟦<W as Write>⟧ ⟦<L as Write>⟧ in
+        RelaysBetweenWith Relays (renamings_of renamings.now) root.entry newer.entry calls.now
+        options W.may_grow L.may_grow
+        (seen source.old out.old log.old) (seen source.new out.new log.new) result }
+    ensures zeros { IfRun result (region.new ≡ replicate (length region.old) 0) }
+    ensures untouched { IfHeld result ((source.new ≡ source.old) × (out.new ≡ out.old)
+        × (log.new ≡ log.old) × (region.new ≡ region.old)) }
+{
+    relay_between_pausing::<R, W, L, NoPause>(
+        alloc, source, out, log, root, newer, renamings, calls, options, region,
+    )
+}
+
+/// As `relay_between_with`, with a pause before each message is read and a region of any length. A fault of a pause ends the run as
+/// `Out` or `Log`.
 pub fn relay_between_pausing<R: BufRead, W: Write, L: Write, P: Pause<R, W, L>>(
     alloc: Global,
     source: &mut R,
@@ -108,22 +145,24 @@ pub fn relay_between_pausing<R: BufRead, W: Write, L: Write, P: Pause<R, W, L>>(
     log: &mut L,
     root: StructSchema<'_>,
     newer: StructSchema<'_>,
+    renamings: &Renamings,
     calls: &[Call],
     options: RelayOptions,
     region: &mut [u8],
 ) -> Result<Counts, BetweenFault>
     requires root { IsRoot root }
     ensures run { let seen = streams_of ⟦<R as Read>⟧ ⟦<W as Write>⟧ ⟦<L as Write>⟧ in
-        RelaysBetween (RelaysPausing P.may_fail) root.entry newer.entry calls.now options W.may_grow
-        L.may_grow (seen source.old out.old log.old) (seen source.new out.new log.new) result }
+        RelaysBetweenWith (RelaysPausing P.may_fail) (renamings_of renamings.now) root.entry
+        newer.entry calls.now options W.may_grow L.may_grow
+        (seen source.old out.old log.old) (seen source.new out.new log.new) result }
     ensures zeros { IfRun result (region.new ≡ replicate (length region.old) 0) }
     ensures untouched { IfHeld result ((source.new ≡ source.old) × (out.new ≡ out.old)
         × (log.new ≡ log.old) × (region.new ≡ region.old)) }
 {
-    calls_across_versions();
+    calls_across_renamed_versions();
     calls_are_given();
     roots_are_no_groups();
-    check(alloc, root, newer, calls)?;
+    check(alloc, root, newer, renamings, calls)?;
     match relay_pausing::<R, W, L, P>(alloc, source, out, log, root, calls, options, region) {
         Ok(counts) => Ok(counts),
         Err(e) => Err(BetweenFault::Relay(e)),

@@ -3,4 +3,5 @@
 
 pub mod between;
 
+pub use capnp_compatible::renamings;
 pub use capnp_relay::{ends, options, pauses, relay};

@@ -2,31 +2,55 @@
 use Rattle.std.proofs.Common.{◌≡◌, ℕ, pos, negsuc, Option, Some, None, Result, Ok, Err, List, [], ◌∷◌, codes, refl}
 use Rattle.capnp_model.specs.Calls.{name, whole_number, Verb, get, set_to, Call}
 use Rattle.capnp_model.specs.Messages.{message_at}
+use Rattle.capnp_model.specs.Partners.{Renaming}
 use Rattle.capnp_call_messages.specs.Frames.{value_in}
 use Rattle.capnp_calls.specs.declared.call.Verb.TheVariants as verb
 use Rattle.capnp_files.specs.CallsFiles.{CallParts, given_number, given_message}
 use Rattle.capnp_program.specs.declared.stop.Stop.TheVariants as stop
 use Rattle.capnp_program.specs.Arguments.{digits_number}
 use Rattle.capnp_program.specs.Calls.{calls_from}
-use Rattle.capnp_program.specs.Asked.{root_in, limits_in, request, asked}
+use Rattle.capnp_program.specs.Asked.{root_in, apart_in, renamings_in, limits_in, request, asked}
 
 -- p.json c.json 1 framed
 words : List (List ℕ)
 words = codes "p.json" ∷ codes "c.json" ∷ codes "1" ∷ codes "framed" ∷ []
 
 -- Three words, and no files.
-few_words : asked (request (codes "p.json" ∷ codes "c.json" ∷ codes "1" ∷ []) None None None) ≡ Err stop.Arguments
+few_words : asked (request (codes "p.json" ∷ codes "c.json" ∷ codes "1" ∷ []) None None None None) ≡ Err stop.Arguments
 few_words = refl
 
 -- A root that is no number, and no files.
-no_number : asked (request (codes "p.json" ∷ codes "c.json" ∷ codes "+1" ∷ codes "framed" ∷ []) None None None) ≡ Err stop.Arguments
+no_number : asked (request (codes "p.json" ∷ codes "c.json" ∷ codes "+1" ∷ codes "framed" ∷ []) None None None None) ≡ Err stop.Arguments
 unfolding digits_number
 no_number = refl
 
 -- Neither file: the schema file's fault is the first.
-no_files : asked (request words None None None) ≡ Err stop.SchemaFile
+no_files : asked (request words None None None None) ≡ Err stop.SchemaFile
 unfolding digits_number words
 no_files = refl
+
+-- Seven words are too many.
+many_words : asked (request (codes "p.json" ∷ codes "c.json" ∷ codes "1" ∷ codes "framed" ∷ codes "n.json" ∷ codes "r.json" ∷ codes "x" ∷ []) None None None None) ≡ Err stop.Arguments
+many_words = refl
+
+-- A renames file that isn't there, and no renames file, since no word names it.
+no_renames : renamings_in true None ≡ Err stop.RenamesFile
+no_renames = refl
+
+unnamed_renames : renamings_in false None ≡ Ok []
+unnamed_renames = refl
+
+-- Two fields of node 1 with one newer name; of two nodes they may have it.
+renamed_to_c : ℕ → List ℕ → Renaming
+renamed_to_c node older = record { node = node; older = older; newer = codes "c" }
+
+twice : apart_in (renamed_to_c 1 (codes "a") ∷ renamed_to_c 1 (codes "b") ∷ []) ≡ None
+unfolding renamed_to_c
+twice = refl
+
+of_two_nodes : apart_in (renamed_to_c 1 (codes "a") ∷ renamed_to_c 2 (codes "b") ∷ []) ≡ Some (renamed_to_c 1 (codes "a") ∷ renamed_to_c 2 (codes "b") ∷ [])
+unfolding renamed_to_c
+of_two_nodes = refl
 
 -- A schema of no nodes: the root is missing before the calls file is.
 no_nodes : root_in [] 1 ≡ Err stop.Root

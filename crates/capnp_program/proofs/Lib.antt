@@ -6,3 +6,4 @@ mod Telling
 mod Running
 mod Tables
 mod Showing
+mod Written

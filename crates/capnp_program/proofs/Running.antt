@@ -8,6 +8,7 @@ use Rattle.capnp_loop.specs.declared.ends.Counts.{Counts}
 use Rattle.capnp_loop.specs.declared.ends.Fault.{Fault}
 use Rattle.capnp_loop.specs.declared.ends.Fault.TheVariants as faults
 use Rattle.capnp_loop.specs.declared.ends.RelayFault.{RelayFault}
+use Rattle.capnp_compatible.specs.Renamed.{renamings_of}
 use Rattle.capnp_between.specs.Relay.{relay_work}
 use Rattle.std.specs.Prelude.{⊤}
 use Rattle.capnp_loop.specs.Pauses.{RelaysPausing}
@@ -27,14 +28,14 @@ use Rattle.capnp_program.proofs.Asking.{asks_alone, asks_beside}
 module _ (root : StructSchema) (calls : List Call) (s : Settings) (out_grows log_grows : Type 0) (old new : Streams)
     (nodes : nodes_around root ≡ nodes_at s.version) (id : id_of root ≡ s.version.root.id) (same : calls ≡ s.calls.items) where
   pub ran_alone : (result : Result Counts RelayFault) → s.newer ≡ None → RelaysPausing ⊤ (relay_work root calls s.options out_grows log_grows) old new result → Ran (asked_of s) out_grows log_grows old new result
-  ran_alone result e relays = record { root = root; newer = None; calls = calls; options = s.options; asks = asks_alone root calls s nodes id same e; may = tt; relays = relays }
+  ran_alone result e relays = record { root = root; newer = None; renamings = renamings_of s.renamings; calls = calls; options = s.options; asks = asks_alone root calls s nodes id same e; may = tt; relays = relays }
 
   module _ (newer : StructSchema) (v : Version) (e : s.newer ≡ Some v) (newer_nodes : nodes_around newer ≡ nodes_at v) (newer_id : id_of newer ≡ v.root.id) where
     same_id : v.root.id ≡ s.version.root.id
     same_id = same_some (subst (λ o. HasRoot o s.version.root.id) e s.same_root)
 
-    pub ran_beside : (result : Result Counts RelayFault) → RunsBetween (RelaysPausing ⊤) root newer calls s.options out_grows log_grows old new result → Ran (asked_of s) out_grows log_grows old new result
-    ran_beside result h = record { root = root; newer = Some newer; calls = calls; options = s.options; asks = asks_beside root calls s nodes id same newer v e newer_nodes; may = (newer_id ∙ same_id ∙ sym id, h.may); relays = h.relays }
+    pub ran_beside : (result : Result Counts RelayFault) → RunsBetween (RelaysPausing ⊤) (renamings_of s.renamings) root newer calls s.options out_grows log_grows old new result → Ran (asked_of s) out_grows log_grows old new result
+    ran_beside result h = record { root = root; newer = Some newer; renamings = renamings_of s.renamings; calls = calls; options = s.options; asks = asks_beside root calls s nodes id same newer v e newer_nodes; may = (newer_id ∙ same_id ∙ sym id, h.may); relays = h.relays }
 
 pub runs : (a : Asked) (out_grows log_grows : Type 0) (old : Seen) (mid : Streams) (new : Seen) (result : Result Counts RelayFault) (out log : Result (Unit {0}) Error) (fault : Option Fault)
     → Ran a out_grows log_grows old.streams mid result → new.streams.source ≡ mid.source

@@ -29,19 +29,20 @@ named_forms = (codes "framed", (Framed, Framed)) ∷ (codes "packed", (Packed, P
 abbrev pub forms_named : List ℕ → Option (Form × Form)
 forms_named word = find_named word named_forms
 
--- A root and forms, and whether there is a newer schema file.
-abbrev pub arguments_of : List ℕ → List ℕ → Bool → Option Arguments
-arguments_of root form newer = decimal_in root >>= λ id. forms_named form >>= λ fs. Some (record { root = id; input = fs.0; output = fs.1; newer = newer })
+-- A root and forms, and whether there are a newer schema file and a renames file.
+abbrev pub arguments_of : List ℕ → List ℕ → Bool → Bool → Option Arguments
+arguments_of root form newer renames = decimal_in root >>= λ id. forms_named form >>= λ fs. Some (record { root = id; input = fs.0; output = fs.1; newer = newer; renames = renames })
 
--- Four words, a schema file, a calls file, the root and the forms; or five, with a newer schema file.
+-- Four words, a schema file, a calls file, the root and the forms; or five, with a newer schema file; or six, with a renames file.
 abbrev pub arguments_in : List (List ℕ) → Option Arguments
 arguments_in [] = None
 arguments_in (schema ∷ []) = None
 arguments_in (schema ∷ calls ∷ []) = None
 arguments_in (schema ∷ calls ∷ root ∷ []) = None
-arguments_in (schema ∷ calls ∷ root ∷ form ∷ []) = arguments_of root form false
-arguments_in (schema ∷ calls ∷ root ∷ form ∷ newer ∷ []) = arguments_of root form true
-arguments_in (schema ∷ calls ∷ root ∷ form ∷ newer ∷ more ∷ words) = None
+arguments_in (schema ∷ calls ∷ root ∷ form ∷ []) = arguments_of root form false false
+arguments_in (schema ∷ calls ∷ root ∷ form ∷ newer ∷ []) = arguments_of root form true false
+arguments_in (schema ∷ calls ∷ root ∷ form ∷ newer ∷ renames ∷ []) = arguments_of root form true true
+arguments_in (schema ∷ calls ∷ root ∷ form ∷ newer ∷ renames ∷ more ∷ words) = None
 
 -- The one word that asks for the usage.
 abbrev pub is_help : List (List ℕ) → Bool

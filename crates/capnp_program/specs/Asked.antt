@@ -1,11 +1,11 @@
 -- What a run is asked by its words and its files.
-use Rattle.std.specs.Prelude.{ℕ, ℤ, pos, negsuc, ◌-◌, ◌^◌, ◌≡◌, Bool, true, false, nat_lt, if◌then◌else◌, Option, Some, None, option_map, ok_or, Result, Ok, Err, List, map, IsSome}
-use Rattle.std.specs.Option.{is_some}
+use Rattle.std.specs.Prelude.{ℕ, ℤ, pos, negsuc, ◌-◌, ◌^◌, ◌≡◌, Bool, true, false, nat_lt, if◌then◌else◌, Option, Some, None, option_map, ok_or, Result, Ok, Err, List, [], map, IsSome}
 use Rattle.capnp_model.specs.Chains.{◌>>=◌, ◌provided◌}
 use Rattle.capnp_model.specs.Schemas.{Node}
 use Rattle.capnp_model.specs.Accepted.{fault_of, names_a, is_struct_node, schema_of}
-use Rattle.capnp_model.specs.Compatible.{IsCompatible}
-use Rattle.capnp_model.specs.Admitted.{is_admitted}
+use Rattle.capnp_model.specs.Partners.{Renaming, are_one_to_one}
+use Rattle.capnp_model.specs.Compatible.{IsCompatibleWith}
+use Rattle.capnp_model.specs.Admitted.{is_admitted_with}
 use Rattle.capnp_model.specs.Calls.{Call}
 use Rattle.capnp_queries.specs.declared.structs.StructSchema.{StructSchema}
 use Rattle.capnp_queries.specs.Structs.{nodes_around, id_of}
@@ -14,9 +14,9 @@ use Rattle.capnp_calls.specs.CallViews.{call_view}
 use Rattle.capnp_compatible.specs.Ways.{IsFirstRefused}
 use Rattle.capnp_files.specs.SchemaFiles.{schema_in}
 use Rattle.capnp_files.specs.CallsFiles.{CallsText, calls_in}
-use Rattle.capnp_between.specs.Relay.{RelayOptions}
+use Rattle.capnp_files.specs.RenamesFiles.{renames_in}
+use Rattle.capnp_between.specs.Relay.{Form, RelayOptions}
 use Rattle.capnp_loop.specs.declared.ends.Fault.TheVariants.{Memory}
-use Rattle.capnp_program.specs.declared.arguments.Arguments.{Arguments}
 use Rattle.capnp_program.specs.declared.stop.Stop.{Stop}
 use Rattle.capnp_program.specs.declared.stop.Stop.TheVariants as stop
 use Rattle.capnp_program.specs.Arguments.{arguments_in}
@@ -46,6 +46,15 @@ abbrev pub newer_in : Bool → Option (List ℕ) → ℕ → Result (Option (Lis
 newer_in false file id = Ok None
 newer_in true file id = version_in file id and_then λ nodes. Ok (Some nodes)
 
+-- The renamings, of which no two of one node have the same older or the same newer name.
+abbrev pub apart_in : List Renaming → Option (List Renaming)
+apart_in rs = rs provided are_one_to_one rs
+
+-- Those of the renames file, where a word names one.
+abbrev pub renamings_in : Bool → Option (List ℕ) → Result (List Renaming) Stop
+renamings_in false file = Ok []
+renamings_in true file = ok_or (file >>= renames_in >>= apart_in) stop.RenamesFile
+
 -- ---- the calls and the limits
 
 -- What a calls file says, if there is one.
@@ -68,22 +77,27 @@ limits_in text = ok_or (levels_of text.nesting >>= λ n. (record { words = text.
 
 -- ---- all of it
 
--- The words of a run, and the bytes of the schema file, the calls file and the newer schema file, where they can be read.
+-- The words of a run, and the bytes of the schema file, the calls file, the newer schema file and the renames file, where they can
+-- be read.
 pub record Request : Type 0 where
   pub words : List (List ℕ)
   pub schema : Option (List ℕ)
   pub calls : Option (List ℕ)
   pub newer : Option (List ℕ)
+  pub renames : Option (List ℕ)
 
 -- The same, one after the other.
-abbrev pub request : List (List ℕ) → Option (List ℕ) → Option (List ℕ) → Option (List ℕ) → Request
-request words schema calls newer = record { words = words; schema = schema; calls = calls; newer = newer }
+abbrev pub request : List (List ℕ) → Option (List ℕ) → Option (List ℕ) → Option (List ℕ) → Option (List ℕ) → Request
+request words schema calls newer renames = record { words = words; schema = schema; calls = calls; newer = newer; renames = renames }
 
--- What a run is asked: the schema, the newer one, if any, the root and the forms, the calls, and the limits.
+-- What a run is asked: the schema, the newer one, if any, and its renamings, the root and the forms, the calls, and the limits.
 pub record Asked : Type 0 where
   pub nodes : List Node
   pub newer : Option (List Node)
-  pub arguments : Arguments
+  pub renamings : List Renaming
+  pub root : ℕ
+  pub input : Form
+  pub output : Form
   pub calls : List Call
   pub limits : Limits
 
@@ -93,10 +107,20 @@ asked r =
     ok_or (arguments_in r.words) stop.Arguments and_then λ arguments.
     version_in r.schema arguments.root and_then λ nodes.
     newer_in arguments.newer r.newer arguments.root and_then λ newer.
+    renamings_in arguments.renames r.renames and_then λ renamings.
     text_in r.calls and_then λ text.
     calls_from 1 text.calls and_then λ calls.
     limits_in text and_then λ limits.
-    Ok (record { nodes = nodes; newer = newer; arguments = arguments; calls = calls; limits = limits })
+    Ok (record {
+      nodes = nodes;
+      newer = newer;
+      renamings = renamings;
+      root = arguments.root;
+      input = arguments.input;
+      output = arguments.output;
+      calls = calls;
+      limits = limits;
+    })
 
 -- Why nothing can be asked: the first fault, or want of memory, where the words are good and there is a schema file.
 abbrev pub IsRefused : Request → Stop → Type 0
@@ -109,11 +133,11 @@ IfNewer (Some nodes) P = P nodes
 
 -- The newer schema is compatible with the older.
 abbrev pub AreCompatible : Asked → List Node → Type 0
-AreCompatible a nodes = IsCompatible (schema_of a.nodes) (schema_of nodes) a.arguments.root a.arguments.root
+AreCompatible a nodes = IsCompatibleWith a.renamings (schema_of a.nodes) (schema_of nodes) a.root a.root
 
 -- A call is admitted beside the newer schema.
 abbrev pub is_admitted_beside : Asked → List Node → Call → Bool
-is_admitted_beside a nodes c = is_admitted (schema_of a.nodes) (schema_of nodes) a.arguments.root a.arguments.root c
+is_admitted_beside a nodes c = is_admitted_with a.renamings (schema_of a.nodes) (schema_of nodes) a.root a.root c
 
 -- Why what is asked isn't relayed: the newer schema isn't compatible, or it is and this call is the first that isn't admitted; or
 -- memory is wanting.
@@ -124,11 +148,14 @@ IsHeldBack a (stop.Relay fault) = fault ≡ Memory
 IsHeldBack a _ = ⊥
 
 -- What a relay is asked by its arguments.
-abbrev pub asked_by : StructSchema → Option StructSchema → List RustCall → RelayOptions → Asked
-asked_by root newer calls options = record {
+abbrev pub asked_by : StructSchema → Option StructSchema → List Renaming → List RustCall → RelayOptions → Asked
+asked_by root newer rs calls options = record {
   nodes = nodes_around root;
   newer = option_map nodes_around newer;
-  arguments = record { root = id_of root; input = options.input; output = options.output; newer = is_some newer };
+  renamings = rs;
+  root = id_of root;
+  input = options.input;
+  output = options.output;
   calls = map call_view calls;
   limits = record { words = options.bounds.words; nesting = options.bounds.nesting };
 }

@@ -7,6 +7,7 @@ use Rattle.capnp_units.specs.declared.errors.Error.{Error}
 use Rattle.capnp_units.specs.declared.kinds.ErrorKind.TheVariants.{Device}
 use Rattle.capnp_io.specs.Counting.{Counts as CountsFailures}
 use Rattle.capnp_io.specs.Writes.{Writes}
+use Rattle.capnp_model.specs.Partners.{Renaming}
 use Rattle.capnp_queries.specs.declared.structs.StructSchema.{StructSchema}
 use Rattle.capnp_queries.specs.Structs.{id_of}
 use Rattle.capnp_calls.specs.declared.call.Call.{Call}
@@ -55,24 +56,25 @@ fault_behind (Ok counts) (Ok done) (Err e) = Some faults.Log
 fault_behind (Ok counts) (Ok done) (Ok gone) = None
 
 -- The work of the relay, or of the one between two versions.
-abbrev pub work_beside : StructSchema → Option StructSchema → List Call → RelayOptions → Type 0 → Type 0 → Work
-work_beside root None calls options out_grows log_grows = relay_work root calls options out_grows log_grows
-work_beside root (Some newer) calls options out_grows log_grows = between_work root newer calls options out_grows log_grows
+abbrev pub work_beside : StructSchema → Option StructSchema → List Renaming → List Call → RelayOptions → Type 0 → Type 0 → Work
+work_beside root None rs calls options out_grows log_grows = relay_work root calls options out_grows log_grows
+work_beside root (Some newer) rs calls options out_grows log_grows = between_work rs root newer calls options out_grows log_grows
 
 -- The newer schema, if any, has a root of the same id and is compatible, and each call is admitted.
-abbrev pub MayRunBeside : StructSchema → Option StructSchema → List Call → Type 0
-MayRunBeside root None calls = ⊤
-MayRunBeside root (Some newer) calls = (id_of newer ≡ id_of root) × MayRun root newer calls
+abbrev pub MayRunBeside : StructSchema → Option StructSchema → List Renaming → List Call → Type 0
+MayRunBeside root None rs calls = ⊤
+MayRunBeside root (Some newer) rs calls = (id_of newer ≡ id_of root) × MayRun rs root newer calls
 
 -- The relay that is asked for ran, with pauses in which its sinks may fail.
 pub record Ran (a : Asked) (out_grows log_grows : Type 0) (old new : Streams) (result : Result Counts RelayFault) : Type 0 where
   pub root : StructSchema
   pub newer : Option StructSchema
+  pub renamings : List Renaming
   pub calls : List Call
   pub options : RelayOptions
-  pub asks : asked_by root newer calls options ≡ a
-  pub may : MayRunBeside root newer calls
-  pub relays : RelaysPausing ⊤ (work_beside root newer calls options out_grows log_grows) old new result
+  pub asks : asked_by root newer renamings calls options ≡ a
+  pub may : MayRunBeside root newer renamings calls
+  pub relays : RelaysPausing ⊤ (work_beside root newer renamings calls options out_grows log_grows) old new result
 
 -- The relay that is asked for ran, and then both sinks were flushed.
 pub record Runs (a : Asked) (out_grows log_grows : Type 0) (old new : Seen) (fault : Option Fault) : Type 0 where
@@ -99,10 +101,6 @@ RelaysAll r out_grows log_grows old new (Err e) = ((IsRefused r e ⊎ ((a : Aske
 abbrev pub Told : Type 0 → List ℕ → SinkSeen → SinkSeen → List ℕ → Type 0
 Told grows text old new held = (written flushed : Result (Unit {0}) Error) × (mid : SinkSeen) × Writes grows text old written mid × Flushes mid flushed new held
 
--- The log was given the line of the fault, or of want of memory.
-abbrev pub ToldFault : Type 0 → Stop → SinkSeen → SinkSeen → List ℕ → Type 0
-ToldFault grows e old new held = Told grows (line_of e) old new held ⊎ Told grows (line_of (stop.Relay faults.Memory)) old new held
-
 -- The fault of the words that ask for the usage, which the output was given, and what others meet.
 abbrev pub Meets : Bool → Request → Type 0 → Type 0 → Seen → Seen → Stop → Type 0
 Meets true r out_grows log_grows old new e = (e ≡ stop.Arguments) × (new.streams.source ≡ old.streams.source) × (new.streams.log ≡ old.streams.log)
@@ -117,7 +115,7 @@ pub record TellsFault (r : Request) (out_grows log_grows : Type 0) (old new : Se
   pub source : new.streams.source ≡ mid.streams.source
   pub out : new.streams.out ≡ mid.streams.out
   pub out_held : new.out_held ≡ mid.out_held
-  pub told : ToldFault log_grows stop mid.streams.log new.streams.log new.log_held
+  pub told : Told log_grows (line_of stop) mid.streams.log new.streams.log new.log_held
 
 -- How the program ends, by its status.
 pub record Ends (r : Request) (out_grows log_grows : Type 0) (old new : Seen) (status : ℕ) : Type 0 where

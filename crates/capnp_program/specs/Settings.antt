@@ -1,7 +1,7 @@
 -- What contracts see of settings.
 use Rattle.std.specs.Prelude.{map, option_map}
-use Rattle.std.specs.Option.{is_some}
 use Rattle.capnp_calls.specs.CallViews.{call_view}
+use Rattle.capnp_compatible.specs.Renamed.{renamings_of}
 use Rattle.capnp_program.specs.declared.settings.Settings.{Settings}
 use Rattle.capnp_program.specs.Asked.{Asked}
 use Rattle.capnp_program.specs.Versions.{nodes_at}
@@ -11,7 +11,10 @@ abbrev pub asked_of : Settings → Asked
 asked_of s = record {
   nodes = nodes_at s.version;
   newer = option_map nodes_at s.newer;
-  arguments = record { root = s.version.root.id; input = s.options.input; output = s.options.output; newer = is_some s.newer };
+  renamings = renamings_of s.renamings;
+  root = s.version.root.id;
+  input = s.options.input;
+  output = s.options.output;
   calls = map call_view s.calls.items;
   limits = record { words = s.options.bounds.words; nesting = s.options.bounds.nesting };
 }

@@ -13,6 +13,8 @@ pub struct Arguments {
     pub output: Form,
     /// Whether a fifth word names a newer schema file.
     pub newer: bool,
+    /// Whether a sixth word names a renames file.
+    pub renames: bool,
 }
 
 /// The number that decimal digits alone spell, at least one, where 64 bits hold it.
@@ -40,15 +42,15 @@ fn forms(word: &str) -> Option<(Form, Form)>
 
 impl Arguments {
     /// What the words say: a schema file, a calls file, the root's id in decimal digits alone, and a form: `framed`, `packed`,
-    /// `framed-packed` or `packed-framed`, the input's and then the output's; and a newer schema file, if any. Nothing where they
-    /// are other words, or more or fewer.
+    /// `framed-packed` or `packed-framed`, the input's and then the output's; and a newer schema file, if any; and behind that a
+    /// renames file, if any. Nothing where they are other words, or more or fewer.
     pub fn new(words: &[String]) -> Option<Arguments>
         ensures { result ≡ arguments_in (map string_bytes words.now) }
     {
         let [_schema, _calls, root, form, newer @ ..] = words else {
             return None;
         };
-        if newer.len() > 1 {
+        if newer.len() > 2 {
             return None;
         }
         let root = decimal(root.as_str())?;
@@ -58,6 +60,7 @@ impl Arguments {
             input,
             output,
             newer: !newer.is_empty(),
+            renames: newer.len() > 1,
         })
     }
 }

@@ -64,6 +64,7 @@ fn relay_in<F: BoundedForm, R: Windowed, W: Flush, L: Flush>(
         log,
         root,
         newer,
+        &settings.renamings,
         calls,
         options,
         &mut region,
@@ -104,19 +105,21 @@ pub(crate) fn relay_all<R: Windowed, W: Flush, L: Flush>(
     schema: Option<&[u8]>,
     calls: Option<&[u8]>,
     newer: Option<&[u8]>,
+    renames: Option<&[u8]>,
     source: &mut R,
     out: &mut W,
     log: &mut L,
 ) -> Result<(), Stop>
     ensures run { let three = streams_of ⟦<R as Read>⟧ ⟦<W as Write>⟧ ⟦<L as Write>⟧ in
         RelaysAll (request (map string_bytes words.now) (option_copied schema.entry)
-        (option_copied calls.entry) (option_copied newer.entry)) W.may_grow L.may_grow
+        (option_copied calls.entry) (option_copied newer.entry) (option_copied renames.entry))
+        W.may_grow L.may_grow
         (seen_of (three source.old out.old log.old) (W.held out.old) (L.held log.old))
         (seen_of (three source.new out.new log.new) (W.held out.new) (L.held log.new))
         result }
     ensures held { OnOk result ((W.held out.new ≡ []) × (L.held log.new ≡ [])) }
 {
-    let settings = Settings::new(alloc, words, schema, calls, newer)?;
+    let settings = Settings::new(alloc, words, schema, calls, newer, renames)?;
     let end = relay_asked(alloc, &settings, source, out, log)?;
     let flushed_out = out.flush();
     let flushed_log = log.flush();

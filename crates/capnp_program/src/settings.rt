@@ -2,10 +2,11 @@
 ghost use Rattle.std.specs.Prelude.{◌≡◌, Ok, Err, map, string_bytes, option_map, IsSome, IfOk, IfErr, ⊤};
 ghost use Rattle.std.specs.Option.{option_copied};
 ghost use Rattle.capnp_calls.specs.CallViews.{call_view};
+ghost use Rattle.capnp_compatible.specs.Renamed.{renamings_of};
 ghost use Rattle.capnp_files.specs.CallViews.{parts_of, file_of};
 ghost use Rattle.capnp_program.specs.Faults.{IsRefusalOf};
 ghost use Rattle.capnp_program.specs.Calls.{calls_from};
-ghost use Rattle.capnp_program.specs.Asked.{text_in, newer_in, request, asked, IsRefused};
+ghost use Rattle.capnp_program.specs.Asked.{text_in, newer_in, renamings_in, request, asked, IsRefused};
 ghost use Rattle.capnp_program.specs.Versions.{nodes_at, HasRoot};
 
 use crate::arguments::Arguments;
@@ -13,9 +14,11 @@ use crate::stop::Stop;
 use crate::version::Version;
 use capnp_between::ends::Fault;
 use capnp_between::options::{Form, ReaderOptions, RelayOptions};
+use capnp_between::renamings::{RenamingFault, Renamings};
 use capnp_calls::{Call, CallFault, CallValue, Step, Verb};
 use capnp_files::calls_file::{CallsFile, calls_file};
 use capnp_files::fault::FileFault;
+use capnp_files::renames_file::renames_file;
 use std::alloc::Global;
 
 /// What a run is asked.
@@ -24,6 +27,8 @@ pub struct Settings {
     pub(crate) version: Version,
     /// The newer version, with the same root, where a word names its file.
     pub(crate) newer: Option<Version>,
+    /// The newer version's names of the older's fields; none where no word names a file of them.
+    pub renamings: Renamings,
     pub calls: Vec<Call>,
     pub options: RelayOptions,
     /// The form of the input.
@@ -48,6 +53,29 @@ fn newer_version(
         return Ok(None);
     }
     Ok(Some(Version::new(alloc, file, id)?))
+}
+
+/// The renamings of the renames file, where a word names it.
+fn named_renamings(alloc: Global, is_named: bool, file: Option<&[u8]>) -> Result<Renamings, Stop>
+    ensures ok { IfOk result (λ rs.
+        renamings_in is_named (option_copied file.entry) ≡ Ok (renamings_of rs)) }
+    ensures refused { IfErr result (IsRefusalOf (IsSome file.entry)
+        (renamings_in is_named (option_copied file.entry))) }
+{
+    if !is_named {
+        return Ok(Renamings::none(alloc));
+    }
+    let bytes = file.ok_or(Stop::RenamesFile)?;
+    let list = match renames_file(alloc, bytes) {
+        Ok(list) => list,
+        Err(FileFault::Form) => return Err(Stop::RenamesFile),
+        Err(FileFault::Memory) => return Err(Stop::Relay(Fault::Memory)),
+    };
+    match Renamings::new(list) {
+        Ok(renamings) => Ok(renamings),
+        Err(RenamingFault::Twice) => Err(Stop::RenamesFile),
+        Err(RenamingFault::Memory) => Err(Stop::Relay(Fault::Memory)),
+    }
 }
 
 /// What a calls file says; none is read where there is no file.
@@ -88,25 +116,29 @@ impl Settings {
     ghost use Rattle.capnp_program.specs.Settings.{asked_of};
 
     /// What the words and the files ask for, or the first fault: of the arguments, the schema file, its rules, the root, the same
-    /// three of the newer schema file, where a word names one, the calls file, the calls and the limits, in this order. A file that
-    /// can't be read is `None`. `Relay(Memory)`: a growth was refused.
+    /// three of the newer schema file, where a word names one, the renames file, where a word names one, the calls file, the calls
+    /// and the limits, in this order. A file that can't be read is `None`. `Relay(Memory)`: a growth was refused.
     pub fn new(
         alloc: Global,
         words: &[String],
         schema: Option<&[u8]>,
         calls: Option<&[u8]>,
         newer: Option<&[u8]>,
+        renames: Option<&[u8]>,
     ) -> Result<Settings, Stop>
         ensures ok { IfOk result (λ s.
             asked (request (map string_bytes words.now) (option_copied schema.entry)
-            (option_copied calls.entry) (option_copied newer.entry)) ≡ Ok (asked_of s)) }
+            (option_copied calls.entry) (option_copied newer.entry) (option_copied renames.entry))
+            ≡ Ok (asked_of s)) }
         ensures refused { IfErr result
             (IsRefused (request (map string_bytes words.now) (option_copied schema.entry)
-            (option_copied calls.entry) (option_copied newer.entry))) }
+            (option_copied calls.entry) (option_copied newer.entry)
+            (option_copied renames.entry))) }
     {
         let arguments = Arguments::new(words).ok_or(Stop::Arguments)?;
         let version = Version::new(alloc, schema, arguments.root)?;
         let newer = newer_version(alloc, arguments.newer, newer, arguments.root)?;
+        let renamings = named_renamings(alloc, arguments.renames, renames)?;
         let text = calls_text(alloc, calls)?;
         let calls = made_calls(alloc, text.calls)?;
         let limits = ReaderOptions {
@@ -117,6 +149,7 @@ impl Settings {
             Ok(options) => Ok(Settings {
                 version,
                 newer,
+                renamings,
                 calls,
                 options,
                 input: arguments.input,

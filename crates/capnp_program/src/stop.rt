@@ -17,6 +17,8 @@ pub enum Stop {
     SchemaRule { rule: u32, node: usize },
     /// The root's id names no struct, or a group, in one of the schemas.
     Root,
+    /// The renames file can't be read, has another form, or renames a field of a node twice, or two to one name.
+    RenamesFile,
     /// The calls file can't be read, or has another form.
     CallsFile,
     /// The call of this number, counted from 1, is refused.

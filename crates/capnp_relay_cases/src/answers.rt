@@ -4,11 +4,12 @@ use crate::case::{Case, Fault};
 use crate::given::{Given, hex_of};
 use capnp_call_messages::message::MessageValue;
 use capnp_calls::{Call, CallFault};
-use capnp_compatible::admitted::{Admission, admitted};
-use capnp_compatible::compatible::compatible;
+use capnp_compatible::admitted::{Admission, admitted, admitted_with};
+use capnp_compatible::compatible::{compatible, compatible_with};
 use capnp_compatible::root::Root;
 use capnp_files::calls_file::calls_file;
 use capnp_files::fault::FileFault;
+use capnp_files::renames_file::renames_file;
 use capnp_files::schema_file::schema_file;
 use capnp_message::options::ReaderOptions;
 use capnp_plain::sets::{plain_sets, write_sets};
@@ -58,14 +59,12 @@ pub fn compatibility(alloc: Global, case: &Case) -> Result<String, Fault> {
         set: newer.root().set(),
         id: given.root()?,
     };
-    text(
-        alloc,
-        if compatible(alloc, older, newer)? {
-            "yes"
-        } else {
-            "no"
-        },
-    )
+    let is_compatible = if given.renames.is_some() {
+        compatible_with(alloc, older, newer, &given.renamings(alloc)?)?
+    } else {
+        compatible(alloc, older, newer)?
+    };
+    text(alloc, if is_compatible { "yes" } else { "no" })
 }
 
 /// Whether the calls are admitted, or the first that isn't.
@@ -81,7 +80,13 @@ pub fn admission(alloc: Global, case: &Case) -> Result<String, Fault> {
         set: newer.root().set(),
         id: given.root()?,
     };
-    match admitted(alloc, &settings.calls, older, newer)? {
+    let calls = settings.calls.as_slice();
+    let admission = if given.renames.is_some() {
+        admitted_with(alloc, calls, older, newer, &settings.renamings)?
+    } else {
+        admitted(alloc, calls, older, newer)?
+    };
+    match admission {
         Admission::Admitted => text(alloc, "admitted"),
         Admission::Refused(n) => Ok(format!(in alloc; "refused {n}")?),
     }
@@ -119,6 +124,15 @@ pub fn schema_text(alloc: Global, case: &Case) -> Result<String, Fault> {
 pub fn calls_text(alloc: Global, case: &Case) -> Result<String, Fault> {
     match calls_file(alloc, case.text("text")?.as_bytes()) {
         Ok(file) => Ok(format!(in alloc; "{file:?}")?),
+        Err(FileFault::Memory) => Err(Fault::Memory),
+        Err(FileFault::Form) => text(alloc, "Form"),
+    }
+}
+
+/// The renamings of a renames file.
+pub fn renames_text(alloc: Global, case: &Case) -> Result<String, Fault> {
+    match renames_file(alloc, case.text("text")?.as_bytes()) {
+        Ok(list) => Ok(format!(in alloc; "{list:?}")?),
         Err(FileFault::Memory) => Err(Fault::Memory),
         Err(FileFault::Form) => text(alloc, "Form"),
     }

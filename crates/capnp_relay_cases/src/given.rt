@@ -1,6 +1,8 @@
 //! What a run is given, and what it should leave.
 
 use crate::case::{Case, Fault};
+use capnp_compatible::renamings::Renamings;
+use capnp_files::renames_file::renames_file;
 use capnp_program::arguments::Arguments;
 use capnp_program::settings::Settings;
 use capnp_program::version::Version;
@@ -13,6 +15,7 @@ pub struct Given {
     pub schema: Option<Vec<u8>>,
     pub calls: Option<Vec<u8>>,
     pub newer: Option<Vec<u8>>,
+    pub renames: Option<Vec<u8>>,
 }
 
 impl Given {
@@ -21,19 +24,36 @@ impl Given {
         let schema = case.file(alloc, words.get(0))?;
         let calls = case.file(alloc, words.get(1))?;
         let newer = case.file(alloc, words.get(4))?;
+        let renames = case.file(alloc, words.get(5))?;
         Ok(Given {
             words,
             schema,
             calls,
             newer,
+            renames,
         })
     }
 
     /// The calls and the limits, where nothing is refused.
     pub fn settings(&self, alloc: Global) -> Result<Settings, Fault> {
         let (schema, calls) = (self.schema.as_deref(), self.calls.as_deref());
-        match Settings::new(alloc, &self.words, schema, calls, self.newer.as_deref()) {
+        let (newer, renames) = (self.newer.as_deref(), self.renames.as_deref());
+        match Settings::new(alloc, &self.words, schema, calls, newer, renames) {
             Ok(settings) => Ok(settings),
+            Err(_) => Err(Fault::Shape),
+        }
+    }
+
+    /// The renamings of the renames file; none where there is no such file.
+    pub fn renamings(&self, alloc: Global) -> Result<Renamings, Fault> {
+        let Some(bytes) = &self.renames else {
+            return Ok(Renamings::none(alloc));
+        };
+        let Ok(list) = renames_file(alloc, bytes) else {
+            return Err(Fault::Shape);
+        };
+        match Renamings::new(list) {
+            Ok(renamings) => Ok(renamings),
             Err(_) => Err(Fault::Shape),
         }
     }

@@ -31,6 +31,7 @@ fn answer(alloc: Global, call: &str, case: &Case) -> Result<String, Fault> {
         "calls" => answers::made_calls(alloc, case),
         "schema_file" => answers::schema_text(alloc, case),
         "calls_file" => answers::calls_text(alloc, case),
+        "renames_file" => answers::renames_text(alloc, case),
         "message" => answers::message_words(alloc, case),
         "plain_sets" => answers::words_after_sets(alloc, case),
         "splices" => answers::words_after_splices(alloc, case),

@@ -1,9 +1,9 @@
-//! Runs of `relay` and `relay_between`, over a region that isn't zero.
+//! Runs of `relay`, `relay_between` and `relay_between_with`, over a region that isn't zero.
 
 use crate::case::{Case, Fault};
 use crate::given::{Given, Left};
 use crate::sources::OneByOne;
-use capnp_between::between::{BetweenFault, relay_between};
+use capnp_between::between::{BetweenFault, relay_between, relay_between_with};
 use capnp_relay::ends::{Counts, RelayFault};
 use capnp_relay::relay::relay;
 use capnp_stream::traits::BufRead;
@@ -42,7 +42,7 @@ fn checked(
     }
 }
 
-/// How a run of `relay` ends, or of `relay_between` where there is a newer schema.
+/// How a run of `relay` ends, of `relay_between` where there is a newer schema, or of `relay_between_with` where fields are renamed.
 fn ended<R: BufRead>(
     alloc: Global,
     given: &Given,
@@ -56,9 +56,30 @@ fn ended<R: BufRead>(
     let calls = settings.calls.as_slice();
     let options = settings.options;
     let mut region = vec![in alloc; DIRT; options.region_len()]?;
-    let end = if given.newer.is_some() {
-        let version = given.newer(alloc)?;
-        let newer = version.root();
+    if given.newer.is_none() {
+        let end = match relay(alloc, source, out, log, root, calls, options, &mut region) {
+            Ok(counts) => Ok(counts),
+            Err(fault) => Err(BetweenFault::Relay(fault)),
+        };
+        return checked(alloc, end, &region);
+    }
+    let newer = given.newer(alloc)?;
+    let newer = newer.root();
+    let end = if given.renames.is_some() {
+        let renamings = &settings.renamings;
+        relay_between_with(
+            alloc,
+            source,
+            out,
+            log,
+            root,
+            newer,
+            renamings,
+            calls,
+            options,
+            &mut region,
+        )
+    } else {
         relay_between(
             alloc,
             source,
@@ -70,11 +91,6 @@ fn ended<R: BufRead>(
             options,
             &mut region,
         )
-    } else {
-        match relay(alloc, source, out, log, root, calls, options, &mut region) {
-            Ok(counts) => Ok(counts),
-            Err(fault) => Err(BetweenFault::Relay(fault)),
-        }
     };
     checked(alloc, end, &region)
 }

@@ -17,6 +17,7 @@ fn left_of<R: Windowed>(alloc: Global, given: &Given, source: &mut R) -> Result<
         given.schema.as_deref(),
         given.calls.as_deref(),
         given.newer.as_deref(),
+        given.renames.as_deref(),
         source,
         &mut out,
         &mut log,

@@ -9,12 +9,15 @@ use capnp_stream::adapters::Sink;
 use std::process::ExitCode;
 use std::{env, fs, io};
 
-/// Says that there is no memory for the program.
-fn no_memory(rt: &impl Eprint) -> io::Result<()> {
-    eprintln!(rt; "fault: memory")
+/// Says why the program didn't begin: a word that is no text, or else want of memory.
+fn tell(rt: &impl Eprint, e: &io::Error) -> io::Result<()> {
+    match e.kind() {
+        io::ErrorKind::InvalidData => eprintln!(rt; "fault: arguments"),
+        _ => eprintln!(rt; "fault: memory"),
+    }
 }
 
-/// The words behind the program's name.
+/// The words behind the program's name. `InvalidData`: one is no text, or the name is none.
 fn words(rt: &HostRuntime) -> io::Result<Vec<String>> {
     let mut words = env::args(rt)?;
     let _name = words.next();
@@ -33,13 +36,14 @@ fn file(rt: &HostRuntime, words: &[String], place: usize) -> io::Result<Option<V
     }
 }
 
-/// The status of the program over the files that the words name; an error where memory is wanting.
+/// The status of the program over the files that the words name; an error where a word is no text or memory is wanting.
 fn run(rt: &HostRuntime) -> io::Result<u8> {
     let alloc = rt.alloc();
     let words = words(rt)?;
     let schema = file(rt, &words, 0)?;
     let calls = file(rt, &words, 1)?;
     let newer = file(rt, &words, 4)?;
+    let renames = file(rt, &words, 5)?;
     let source = Input::new(alloc, rt.stdin());
     let out = Sink::buffered(alloc, rt.stdout());
     let log = Sink::buffered(alloc, rt.stderr());
@@ -52,6 +56,7 @@ fn run(rt: &HostRuntime) -> io::Result<u8> {
         schema.as_deref(),
         calls.as_deref(),
         newer.as_deref(),
+        renames.as_deref(),
         &mut source,
         &mut out,
         &mut log,
@@ -62,9 +67,9 @@ fn main(rt: HostRuntime) -> ExitCode {
     match run(&rt) {
         Ok(0) => ExitCode::SUCCESS,
         Ok(_) => ExitCode::FAILURE,
-        Err(_) => {
+        Err(e) => {
             // Where standard error is closed there is nowhere to say so.
-            let _said = no_memory(&rt);
+            let _said = tell(&rt, &e);
             ExitCode::FAILURE
         }
     }

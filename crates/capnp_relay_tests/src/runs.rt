@@ -95,6 +95,7 @@ fn help_is_told_on_the_output(rt: HostRuntime) -> Result<(), Fail> {
         None,
         None,
         None,
+        None,
         &mut source,
         &mut out,
         &mut log,

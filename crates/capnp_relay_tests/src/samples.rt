@@ -54,7 +54,7 @@ pub(crate) fn run<R: Windowed, W: Flush, L: Flush>(
     let words = words_in(alloc, form)?;
     let schema = Some(SCHEMA.as_bytes());
     let calls = Some(calls.as_bytes());
-    Ok(program(alloc, &words, schema, calls, None, source, out, log))
+    Ok(program(alloc, &words, schema, calls, None, None, source, out, log))
 }
 
 /// The status of a framed run with the call `set a = 7`.

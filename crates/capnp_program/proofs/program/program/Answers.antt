@@ -10,7 +10,7 @@ use Rattle.capnp_program.proofs.program.program.Goals as goal
 
 pub returns-then-asks_for_help-clause-ends : goal.returns-then-asks_for_help-clause-ends
 returns-then-asks_for_help-clause-ends g c =
-    let r = request (map string_bytes c.args.words.now) (option_copied c.args.schema) (option_copied c.args.calls) (option_copied c.args.newer) in
+    let r = request (map string_bytes c.args.words.now) (option_copied c.args.schema) (option_copied c.args.calls) (option_copied c.args.newer) (option_copied c.args.renames) in
     let old = seen_of (streams (source_seen g.R.Read.remaining g.R.Read.failures c.args.source.now) (sink_seen g.W.Write.contents g.W.Write.failures g.W.Write.room c.args.out.now) (sink_seen g.L.Write.contents g.L.Write.failures g.L.Write.room c.args.log.now)) (g.W.Flush.held c.args.out.now) (g.L.Flush.held c.args.log.now) in
     let mid = seen_of (streams (source_seen g.R.Read.remaining g.R.Read.failures c.args.source.now) (sink_seen g.W.Write.contents g.W.Write.failures g.W.Write.room c.put.new.sink) (sink_seen g.L.Write.contents g.L.Write.failures g.L.Write.room c.args.log.now)) (g.W.Flush.held c.put.new.sink) (g.L.Flush.held c.args.log.now) in
     let P : List ℕ → Type 0 = λ text. Told g.W.Write.may_grow text old.streams.out mid.streams.out mid.out_held in
@@ -31,7 +31,7 @@ returns-then-asks_for_help-clause-ends g c =
 
 pub returns-in-Err-clause-ends : goal.returns-in-Err-clause-ends
 returns-in-Err-clause-ends g c =
-    let r = request (map string_bytes c.args.words.now) (option_copied c.args.schema) (option_copied c.args.calls) (option_copied c.args.newer) in
+    let r = request (map string_bytes c.args.words.now) (option_copied c.args.schema) (option_copied c.args.calls) (option_copied c.args.newer) (option_copied c.args.renames) in
     let old = seen_of (streams (source_seen g.R.Read.remaining g.R.Read.failures c.args.source.now) (sink_seen g.W.Write.contents g.W.Write.failures g.W.Write.room c.args.out.now) (sink_seen g.L.Write.contents g.L.Write.failures g.L.Write.room c.args.log.now)) (g.W.Flush.held c.args.out.now) (g.L.Flush.held c.args.log.now) in
     let mid = seen_of (streams (source_seen g.R.Read.remaining g.R.Read.failures c.relay_all.new.source) (sink_seen g.W.Write.contents g.W.Write.failures g.W.Write.room c.relay_all.new.out) (sink_seen g.L.Write.contents g.L.Write.failures g.L.Write.room c.relay_all.new.log)) (g.W.Flush.held c.relay_all.new.out) (g.L.Flush.held c.relay_all.new.log) in
     let other : is_help (map string_bytes c.args.words.now) ≡ false = sym c.asks_for_help.ensures ∙ c.if-asks_for_help.false in record {

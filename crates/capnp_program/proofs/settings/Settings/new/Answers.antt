@@ -3,6 +3,7 @@ use Rattle.std.proofs.lemmas.Int.{to_z-of_z}
 use Rattle.std.proofs.lemmas.Result.{err_from_is_err_and}
 use mir.Val.{SFits}
 use Rattle.std.specs.Option.{option_copied}
+use Rattle.capnp_compatible.specs.Renamed.{renamings_of}
 use Rattle.capnp_files.specs.CallViews.{file_of}
 use Rattle.capnp_between.specs.Relay.{IsOf}
 use Rattle.capnp_program.specs.Arguments.{arguments_in}
@@ -19,11 +20,11 @@ returns-in-Ok-clause-ok c =
     let fits : SFits w32 text.nesting = search rules in
     let options : IsOf a.input a.output (record { traversal_limit_in_words = Some text.words; nesting_limit = text.nesting }) c.in-Ok.options =
     subst (λ (z : ℤ). IsOf a.input a.output (record { traversal_limit_in_words = Some text.words; nesting_limit = z }) c.in-Ok.options) (to_z-of_z w32 text.nesting fits) c.in-Ok.ensures.options in
-    parts_ask (request (map string_bytes c.args.words.now) (option_copied c.args.schema) (option_copied c.args.calls) (option_copied c.args.newer)) (nodes_at c.in_ok-version.version) c.in_ok-newer.newer c.in_ok-version.version.root.id c.in_ok-calls.calls.items c.in-Ok.options a (file_of text) arguments c.in_ok-version.ensures.ok c.in_ok-version.ensures.root c.in_ok-newer.ensures.ok c.in_ok-text.ensures.ok c.in_ok-calls.ensures.ok options
+    parts_ask (request (map string_bytes c.args.words.now) (option_copied c.args.schema) (option_copied c.args.calls) (option_copied c.args.newer) (option_copied c.args.renames)) (nodes_at c.in_ok-version.version) c.in_ok-newer.newer (renamings_of c.in_ok-renamings.renamings) c.in_ok-version.version.root.id c.in_ok-calls.calls.items c.in-Ok.options a (file_of text) arguments c.in_ok-version.ensures.ok c.in_ok-version.ensures.root c.in_ok-newer.ensures.ok c.in_ok-renamings.ensures.ok c.in_ok-text.ensures.ok c.in_ok-calls.ensures.ok options
 
 pub returns-in_err-calls-clause-refused : goal.returns-in_err-calls-clause-refused
 returns-in_err-calls-clause-refused c =
     let p = err_from_is_err_and c.from_residual-in_err-calls.result c.from_residual-in_err-calls.ensures.1 in
     let arguments : arguments_in (map string_bytes c.args.words.now) ≡ Some c.in_ok-arguments.arguments = search rules in
-    rw (p.1, p.2) (calls_refused (request (map string_bytes c.args.words.now) (option_copied c.args.schema) (option_copied c.args.calls) (option_copied c.args.newer)) c.in_ok-arguments.arguments (nodes_at c.in_ok-version.version) (option_map nodes_at c.in_ok-newer.newer) (file_of c.in_ok-text.text) _
-    arguments c.in_ok-version.ensures.ok c.in_ok-newer.ensures.ok c.in_ok-text.ensures.ok c.in_err-calls.ensures.refused)
+    rw (p.1, p.2) (calls_refused (request (map string_bytes c.args.words.now) (option_copied c.args.schema) (option_copied c.args.calls) (option_copied c.args.newer) (option_copied c.args.renames)) c.in_ok-arguments.arguments (nodes_at c.in_ok-version.version) (option_map nodes_at c.in_ok-newer.newer) (renamings_of c.in_ok-renamings.renamings) (file_of c.in_ok-text.text) _
+    arguments c.in_ok-version.ensures.ok c.in_ok-newer.ensures.ok c.in_ok-renamings.ensures.ok c.in_ok-text.ensures.ok c.in_err-calls.ensures.refused)
