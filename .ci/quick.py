@@ -6,6 +6,7 @@ usage: quick.py    (at the top of the repository)
 Prints a line for each fault, and ends with status 1 where there is one.
 """
 import concurrent.futures
+import glob
 import os
 import re
 import shutil
@@ -99,6 +100,19 @@ def faults_of_links():
                 yield f"{page}: there is no {target}"
 
 
+def faults_of_samples():
+    """Samples of the front page and the guide that stand in no program of the repository, line for line."""
+    def lines(text):
+        return [it.strip() for it in text.split("\n") if it.strip()]
+
+    programs = ["\n".join(lines(text_of(it))) for it in glob.glob("crates/*/src/main.rt")]
+    for page in ("README.md", "docs/GUIDE.md"):
+        for sample in re.findall(r"(?s)```rust\n(.*?)```", text_of(page)):
+            text = lines(sample)
+            if not any("\n".join(text) in it for it in programs):
+                yield f"{page}: a sample that begins with '{text[0]}' stands in no program"
+
+
 def faults_of_named_tests():
     """Lines of docs/TESTS.md that name a case or a wrong body which is not there."""
     for line in text_of("docs/TESTS.md").splitlines():
@@ -140,7 +154,7 @@ def faults_of_layout(crate, room):
 
 def main():
     crates = listed_crates()
-    found = [*faults_of_crates(crates), *faults_of_edits(crates), *faults_of_links(), *faults_of_named_tests(), *faults_of_lengths(crates)]
+    found = [*faults_of_crates(crates), *faults_of_edits(crates), *faults_of_links(), *faults_of_samples(), *faults_of_named_tests(), *faults_of_lengths(crates)]
     with tempfile.TemporaryDirectory() as room:
         shutil.copy("crates.txt", room)
         with concurrent.futures.ThreadPoolExecutor(os.cpu_count()) as pool:

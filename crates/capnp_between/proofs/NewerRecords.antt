@@ -21,9 +21,9 @@ use Rattle.capnp_calls.specs.declared.call.SlotValue.{SlotValue}
 use Rattle.capnp_calls.specs.declared.call.SlotValue.TheVariants as slot
 use Rattle.capnp_calls.specs.CallViews.{call_view, action_view}
 use Rattle.capnp_model.specs.Printing.{as_it_is}
-use Rattle.capnp_relay.specs.Answers.{limits_view}
-use Rattle.capnp_relay.specs.Answers.{Bounds}
-use Rattle.capnp_relay.specs.Messages.{IsAnswerBy}
+use Rattle.capnp_relay_streams.specs.Answers.{limits_view}
+use Rattle.capnp_relay_streams.specs.Answers.{Bounds}
+use Rattle.capnp_relay_streams.specs.Messages.{IsAnswerBy}
 use Rattle.capnp_versions.specs.Whole.{IsWhole, IsWholeVerb}
 use Rattle.capnp_versions.specs.SameReplies.{SameReplies}
 use Rattle.capnp_versions.specs.TwoVersions.{TwoVersions, older, newer, newer_record}

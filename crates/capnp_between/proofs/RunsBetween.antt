@@ -10,9 +10,9 @@ use Rattle.capnp_calls.specs.declared.call.Call.{Call}
 use Rattle.capnp_calls.specs.CallViews.{call_view}
 use Rattle.capnp_loop.specs.declared.ends.Counts.{Counts}
 use Rattle.capnp_loop.specs.declared.ends.RelayFault.{RelayFault}
-use Rattle.capnp_relay.specs.declared.options.RelayOptions.{RelayOptions}
-use Rattle.capnp_relay.specs.Messages.{IsAnswerBy}
-use Rattle.capnp_relay.specs.Relaying.{relay_work}
+use Rattle.capnp_relay_streams.specs.declared.options.RelayOptions.{RelayOptions}
+use Rattle.capnp_relay_streams.specs.Messages.{IsAnswerBy}
+use Rattle.capnp_relay_streams.specs.Relaying.{relay_work}
 use Rattle.capnp_loop.specs.Run.{Relays}
 use Rattle.capnp_loop.specs.Streams.{Streams}
 use Rattle.capnp_between.specs.Newer.{MayRun}

@@ -7,14 +7,14 @@ use Rattle.capnp_model.specs.Answers.{Answer}
 use Rattle.capnp_queries.specs.declared.structs.StructSchema.{StructSchema}
 use Rattle.capnp_calls.specs.declared.call.Call.{Call}
 use Rattle.capnp_calls.specs.CallViews.{call_view}
-use Rattle.capnp_relay.specs.Answers.{IsTooLarge}
-use Rattle.capnp_relay.specs.Answers.{Bounds}
+use Rattle.capnp_relay_streams.specs.Answers.{IsTooLarge}
+use Rattle.capnp_relay_streams.specs.Answers.{Bounds}
 use Rattle.capnp_compatible.specs.Ways.{IsFirstRefused}
 use Rattle.capnp_loop.specs.declared.ends.Counts.{Counts}
 use Rattle.capnp_loop.specs.declared.ends.RelayFault.{RelayFault}
-use Rattle.capnp_relay.specs.declared.options.RelayOptions.{RelayOptions}
-use Rattle.capnp_relay.specs.Messages.{IsAnswerBy}
-use Rattle.capnp_relay.specs.Options.{reader_of, writer_of}
+use Rattle.capnp_relay_streams.specs.declared.options.RelayOptions.{RelayOptions}
+use Rattle.capnp_relay_streams.specs.Messages.{IsAnswerBy}
+use Rattle.capnp_relay_streams.specs.Options.{reader_of, writer_of}
 use Rattle.capnp_loop.specs.Work.{Work, work}
 use Rattle.capnp_loop.specs.Streams.{Streams}
 use Rattle.capnp_between.specs.declared.between.BetweenFault.{BetweenFault}

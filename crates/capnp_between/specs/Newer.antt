@@ -17,8 +17,8 @@ use Rattle.capnp_queries.specs.declared.structs.StructSchema.{StructSchema}
 use Rattle.capnp_calls.specs.declared.call.Call.{Call}
 use Rattle.capnp_calls.specs.CallViews.{call_view}
 use Rattle.capnp_model.specs.Printing.{as_it_is}
-use Rattle.capnp_relay.specs.Answers.{limits_view}
-use Rattle.capnp_relay.specs.Answers.{Bounds}
+use Rattle.capnp_relay_streams.specs.Answers.{limits_view}
+use Rattle.capnp_relay_streams.specs.Answers.{Bounds}
 use Rattle.capnp_versions.specs.SameReplies.{SameReplies}
 use Rattle.capnp_calls.specs.Roots.{record_at}
 

@@ -4,4 +4,4 @@
 pub mod between;
 
 pub use capnp_compatible::renamings;
-pub use capnp_relay::{ends, options, pauses, relay};
+pub use capnp_relay_streams::{ends, options, pauses, relay};

@@ -1,6 +1,8 @@
 //! The layout layer under one name: units and sizes, arenas, and the readers and builders of pointers, structs and lists. What a caller's type gives a builder stands in `owned`, as what it gives a reader stands here (`Owned`, `OwnedStruct`).
 #![tactic(auto)]
 
+pub mod laws;
+
 pub use capnp_builders::data_builder::DataBuilder;
 pub use capnp_builders::element::BuilderElement;
 pub use capnp_builders::list_builder::ListBuilder;
@@ -10,6 +12,8 @@ pub use capnp_builders::pointer_builder::PointerBuilder;
 pub use capnp_builders::struct_builder::StructBuilder;
 pub use capnp_builders::text_builder::TextBuilder;
 pub use capnp_builders::traits::SetterInput;
+pub use capnp_canonical_builders::copy::copy_canonical_from;
+pub use capnp_canonical_builders::sets::{set_list_canonical, set_struct_canonical};
 pub use capnp_copy::allocator::{Allocator, SegmentBytes};
 pub use capnp_copy::arena::{BuilderArena, Memory};
 pub use capnp_copy::fields::StructPlace;
@@ -29,7 +33,6 @@ pub use capnp_units::sizes::{
 };
 pub use capnp_units::units;
 pub use capnp_wire::arena::{NullArena, ReaderArena, ReaderArenaImpl};
-pub use capnp_wire::laws;
 pub use capnp_wire::list::ListReader;
 pub use capnp_wire::place::Place;
 pub use capnp_wire::pointer::PointerReader;

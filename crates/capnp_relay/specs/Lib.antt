@@ -1,4 +1,0 @@
-pub mod Messages
-pub mod Options
-pub mod Relaying
-pub mod Answers

@@ -1,10 +1,27 @@
-//! A relay of messages: calls are made at the root of each message of a source, and what they make of it is written and logged.
+//! The relay layer under one name: calls and what they reply, versions of schemas, the relay in both its forms, shown messages, and the program with its files.
 #![tactic(auto)]
 
-mod at_root;
 pub mod laws;
-mod message;
-pub mod options;
-pub mod relay;
 
-pub use capnp_loop::{ends, pauses};
+pub use capnp_between::between::{
+    BetweenFault, relay_between, relay_between_pausing, relay_between_with,
+};
+pub use capnp_calls::reply::Reply;
+pub use capnp_calls::{Action, Call, CallFault, CallValue, SlotValue, Step, Verb};
+pub use capnp_compatible::admitted::{Admission, admitted, admitted_with};
+pub use capnp_compatible::compatible::{compatible, compatible_with};
+pub use capnp_compatible::renamings::{Renaming, RenamingFault, Renamings};
+pub use capnp_compatible::root::Root;
+pub use capnp_files::calls_file::{CallsFile, calls_file};
+pub use capnp_files::fault::FileFault;
+pub use capnp_files::renames_file::renames_file;
+pub use capnp_files::schema_file::schema_file;
+pub use capnp_program::input::Input;
+pub use capnp_program::program::program;
+pub use capnp_relay_streams::ends::{Counts, Fault, RelayFault};
+pub use capnp_relay_streams::options::{Form, OptionsFault, ReaderOptions, RelayOptions};
+pub use capnp_relay_streams::pauses::{NoPause, Pause};
+pub use capnp_relay_streams::relay::{relay, relay_pausing};
+pub use capnp_run::builder::run;
+pub use capnp_run::fault::RunFault;
+pub use capnp_show::show::{ShowFault, show};

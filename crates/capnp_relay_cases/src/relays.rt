@@ -4,8 +4,8 @@ use crate::case::{Case, Fault};
 use crate::given::{Given, Left};
 use crate::sources::OneByOne;
 use capnp_between::between::{BetweenFault, relay_between, relay_between_with};
-use capnp_relay::ends::{Counts, RelayFault};
-use capnp_relay::relay::relay;
+use capnp_relay_streams::ends::{Counts, RelayFault};
+use capnp_relay_streams::relay::relay;
 use capnp_stream::traits::BufRead;
 use std::alloc::Global;
 

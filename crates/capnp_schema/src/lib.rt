@@ -6,6 +6,7 @@ pub mod dynamic_list;
 pub mod dynamic_struct;
 pub mod dynamic_value;
 pub mod introspect;
+pub mod laws;
 pub mod schema;
 
 pub use capnp_print::stringify;
@@ -17,4 +18,3 @@ pub use capnp_records::node::{
 pub use capnp_records::of_set::OfSet;
 pub use capnp_records::set::SchemaSet;
 pub use capnp_text::{data, text};
-pub use capnp_values::laws;

@@ -16,7 +16,7 @@ use Rattle.capnp_model.specs.Printing.{as_it_is}
 use Rattle.capnp_answers.specs.Answers.{MeansAfter}
 use Rattle.capnp_answers.specs.Bounds.{limits_view}
 use Rattle.capnp_answers.specs.declared.bounds.Bounds.{Bounds}
-use Rattle.capnp_relay.specs.Messages.{ReadsAsMade}
+use Rattle.capnp_relay_streams.specs.Messages.{ReadsAsMade}
 
 -- what the model's law says
 abbrev pub WrittenRecords : Type 0

@@ -1,8 +1,9 @@
 //! The options of a relay.
 ghost use Rattle.std.specs.Prelude.{◌≡◌, ◌+◌, ◌*◌, IfOk, IfErr};
-ghost use Rattle.capnp_relay.specs.Options.{IsOf, IsRefusalOf};
+ghost use Rattle.capnp_relay_streams.specs.Options.{IsOf, IsRefusalOf};
 
 use capnp_answers::bounds::Bounds;
+pub use capnp_message::options::ReaderOptions;
 
 /// How messages are spelled.
 #[derive(Clone, Copy, Debug, PartialEq, Eq)]
@@ -11,15 +12,6 @@ pub enum Form {
     Framed,
     /// The same, packed.
     Packed,
-}
-
-/// How far messages are followed when they are read.
-#[derive(Clone, Copy, Debug, PartialEq, Eq)]
-pub struct ReaderOptions {
-    /// The most words of a message and of what is followed in it; `None`: any number.
-    pub traversal_limit_in_words: Option<usize>,
-    /// The most levels of pointers.
-    pub nesting_limit: i32,
 }
 
 /// Why options are refused.

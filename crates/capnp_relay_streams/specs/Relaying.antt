@@ -4,9 +4,9 @@ use Rattle.capnp_queries.specs.declared.structs.StructSchema.{StructSchema}
 use Rattle.capnp_calls.specs.declared.call.Call.{Call}
 use Rattle.capnp_calls.specs.CallViews.{call_view}
 use Rattle.capnp_answers.specs.Answers.{IsTooLarge}
-use Rattle.capnp_relay.specs.declared.options.RelayOptions.{RelayOptions}
-use Rattle.capnp_relay.specs.Messages.{IsAnswerBy}
-use Rattle.capnp_relay.specs.Options.{reader_of, writer_of}
+use Rattle.capnp_relay_streams.specs.declared.options.RelayOptions.{RelayOptions}
+use Rattle.capnp_relay_streams.specs.Messages.{IsAnswerBy}
+use Rattle.capnp_relay_streams.specs.Options.{reader_of, writer_of}
 use Rattle.capnp_loop.specs.Work.{Work, work}
 
 -- The calls at the roots of messages, in the forms and within the limits of the options; whether the output and the log may want memory.

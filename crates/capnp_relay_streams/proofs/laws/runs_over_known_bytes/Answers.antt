@@ -1,6 +1,6 @@
-use Rattle.capnp_relay.specs.Relaying.{relay_work}
-use Rattle.capnp_relay.proofs.Whole.{fronts_of, GoesTo-of_all, GoesTo-of_framing}
-use Rattle.capnp_relay.proofs.laws.runs_over_known_bytes.Goals as goal
+use Rattle.capnp_relay_streams.specs.Relaying.{relay_work}
+use Rattle.capnp_relay_streams.proofs.Whole.{fronts_of, GoesTo-of_all, GoesTo-of_framing}
+use Rattle.capnp_relay_streams.proofs.laws.runs_over_known_bytes.Goals as goal
 
 pub returns-clause-finished : goal.returns-clause-finished
 returns-clause-finished g c root calls options old new counts all =

@@ -3,12 +3,12 @@ use Rattle.std.specs.Prelude.{◌≡◌, ℕ, pos, ◌-◌, ◌^◌, ◌<◌, �
 use Rattle.capnp_model.specs.Bytes.{bytes_of_words}
 use Rattle.capnp_model.specs.Packing.{packed, unpacked}
 use Rattle.capnp_model.specs.Messages.{Reader, Writer, plain_words}
-use Rattle.capnp_relay.specs.declared.options.Form.{Form}
-use Rattle.capnp_relay.specs.declared.options.Form.TheVariants as form
-use Rattle.capnp_relay.specs.declared.options.ReaderOptions.{ReaderOptions}
-use Rattle.capnp_relay.specs.declared.options.OptionsFault.{OptionsFault}
-use Rattle.capnp_relay.specs.declared.options.OptionsFault.TheVariants as fault
-use Rattle.capnp_relay.specs.declared.options.RelayOptions.{RelayOptions}
+use Rattle.capnp_relay_streams.specs.declared.options.Form.{Form}
+use Rattle.capnp_relay_streams.specs.declared.options.Form.TheVariants as form
+use Rattle.capnp_message.specs.declared.options.ReaderOptions.{ReaderOptions}
+use Rattle.capnp_relay_streams.specs.declared.options.OptionsFault.{OptionsFault}
+use Rattle.capnp_relay_streams.specs.declared.options.OptionsFault.TheVariants as fault
+use Rattle.capnp_relay_streams.specs.declared.options.RelayOptions.{RelayOptions}
 
 -- The options are of these forms and limits.
 pub record IsOf (from to : Form) (options : ReaderOptions) (o : RelayOptions) : Type 0 where

@@ -3,8 +3,8 @@ use Rattle.capnp_units.specs.Segments.{words_in}
 use Rattle.capnp_stream.specs.Buffers.{found_segments}
 use Rattle.capnp_loop.specs.MessageAnswers.{answer_view}
 use Rattle.capnp_answers.specs.RootCalls.{root_schema, root_calls}
-use Rattle.capnp_relay.proofs.Reading.{ReadsAsMade-of}
-use Rattle.capnp_relay.proofs.at_root.CallsAtRootAnswers.answer.Goals as goal
+use Rattle.capnp_relay_streams.proofs.Reading.{ReadsAsMade-of}
+use Rattle.capnp_relay_streams.proofs.at_root.CallsAtRootAnswers.answer.Goals as goal
 
 pub returns-clause-value : goal.returns-clause-value
 returns-clause-value c =

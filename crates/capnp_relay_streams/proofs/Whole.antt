@@ -13,9 +13,9 @@ use Rattle.capnp_model.specs.Runs.{BeginWith, finished, broken}
 use Rattle.capnp_stream.specs.Frames.{IsFrameFault}
 use Rattle.capnp_loop.specs.declared.ends.Counts.{Counts}
 use Rattle.capnp_loop.specs.declared.ends.Fault.TheVariants as faults
-use Rattle.capnp_relay.specs.declared.options.Form.{Form}
-use Rattle.capnp_relay.specs.declared.options.Form.TheVariants as form
-use Rattle.capnp_relay.specs.Options.{reader_of}
+use Rattle.capnp_relay_streams.specs.declared.options.Form.{Form}
+use Rattle.capnp_relay_streams.specs.declared.options.Form.TheVariants as form
+use Rattle.capnp_relay_streams.specs.Options.{reader_of}
 use Rattle.capnp_loop.specs.Work.{Work}
 use Rattle.capnp_loop.specs.Streams.{Streams}
 use Rattle.capnp_loop.specs.Run.{RunsOut, RunStops, GoesTo}

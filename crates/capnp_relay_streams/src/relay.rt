@@ -5,7 +5,7 @@ ghost use Rattle.capnp_loop.specs.declared.ends.Fault.{Fault};
 ghost use Rattle.capnp_loop.specs.Streams.{streams_of};
 ghost use Rattle.capnp_loop.specs.Run.{Relays};
 ghost use Rattle.capnp_loop.specs.Pauses.{RelaysPausing};
-ghost use Rattle.capnp_relay.specs.Relaying.{relay_work};
+ghost use Rattle.capnp_relay_streams.specs.Relaying.{relay_work};
 
 use crate::at_root::CallsAtRoot;
 use crate::options::{Form, RelayOptions};

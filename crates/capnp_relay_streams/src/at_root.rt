@@ -21,7 +21,7 @@ pub(crate) struct CallsAtRoot<'a> {
 impl<'a> Answers for CallsAtRoot<'a> {
     ghost use Rattle.capnp_answers.specs.Answers.{IsTooLarge};
     ghost use Rattle.capnp_answers.specs.RootCalls.{root_schema, root_calls};
-    ghost use Rattle.capnp_relay.specs.Messages.{IsAnswerBy};
+    ghost use Rattle.capnp_relay_streams.specs.Messages.{IsAnswerBy};
 
     ghost is_answer = { λ c. IsAnswerBy (root_schema c.calls) (root_calls c.calls) c.bounds };
 

@@ -1,0 +1,4 @@
+pub mod Messages
+pub mod Options
+pub mod Relaying
+pub mod Answers
