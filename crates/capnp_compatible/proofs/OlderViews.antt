@@ -23,16 +23,16 @@ RenamedViews = (rs : List Renaming) (v : TwoVersions) (t : Tree) → VersionsAre
 abbrev pub PlainViews : Type 0
 PlainViews = (nodes newer_nodes : List Node) (older newer : ℕ) (t : Tree) → IsAccepted nodes → IsCompatible (schema_of nodes) (schema_of newer_nodes) older newer → record_of (schema_of nodes) older t ≡ projected (schema_of nodes) older (record_of (schema_of newer_nodes) newer t)
 
-pub viewed-with : RenamedViews → (rs : List Renaming) (a b : Root) (yes : Bool) → MatchBool yes (AreCompatibleWith rs a b) (AreCompatibleWith rs a b → ⊥) → yes ≡ true → IsViewedWith rs a b
+pub viewed-with : RenamedViews → (rs : List Renaming) (a b : Root) (answer : Bool) → MatchBool answer (AreCompatibleWith rs a b) (AreCompatibleWith rs a b → ⊥) → answer ≡ true → IsViewedWith rs a b
 viewed-with law rs a b false h e = absurd (cc e)
 viewed-with law rs a b true h e = λ t.
     law rs (record { older_nodes = nodes_of a.set.now; newer_nodes = nodes_of b.set.now; older_root = a.id; newer_root = b.id }) t
     (record { older_accepted = a.set.now.accepted; newer_accepted = b.set.now.accepted; compatible = h })
 
-viewed_where : PlainViews → (a b : Root) (yes : Bool) → MatchBool yes (AreCompatible a b) (AreCompatible a b → ⊥) → yes ≡ true → IsViewed a b
+viewed_where : PlainViews → (a b : Root) (answer : Bool) → MatchBool answer (AreCompatible a b) (AreCompatible a b → ⊥) → answer ≡ true → IsViewed a b
 viewed_where law a b false h e = absurd (cc e)
 viewed_where law a b true h e = λ t. law (nodes_of a.set.now) (nodes_of b.set.now) a.id b.id t a.set.now.accepted h
 
-pub viewed : {E : Type 0} → PlainViews → (a b : Root) (result : Result Bool E) → IfOk result (λ yes. MatchBool yes (AreCompatible a b) (AreCompatible a b → ⊥)) → IfOk result (λ yes. yes ≡ true → IsViewed a b)
-viewed law a b (Ok yes) h = viewed_where law a b yes h
+pub viewed : {E : Type 0} → PlainViews → (a b : Root) (result : Result Bool E) → IfOk result (λ answer. MatchBool answer (AreCompatible a b) (AreCompatible a b → ⊥)) → IfOk result (λ answer. answer ≡ true → IsViewed a b)
+viewed law a b (Ok answer) h = viewed_where law a b answer h
 viewed law a b (Err e) h = h
