@@ -1,5 +1,5 @@
 -- Copies of what readers stand at.
-use Rattle.std.specs.Prelude.{◌≡◌, ⊤, ℕ, Bool, true, false, List, None, MatchOption, map, length, Result, Ok, Err}
+use Rattle.std.specs.Prelude.{◌≡◌, ⊤, ℕ, Bool, true, false, min, List, Option, None, MatchOption, map, length, Result, Ok, Err}
 use Rattle.capnp_model.specs.Sections.{words_for}
 use Rattle.capnp_model.specs.Segments.{Segments, Place}
 use Rattle.capnp_units.specs.declared.errors.Error.{Error}
@@ -11,9 +11,16 @@ use Rattle.capnp_wire.specs.Views.{PointerView, StructView, ListView}
 use Rattle.capnp_copy.specs.Clearing.{ClearsValue}
 use Rattle.capnp_copy.specs.declared.fields.StructPlace.{StructPlace}
 use Rattle.capnp_copy_from.specs.declared.lists.ListSource.{ListSource}
-use Rattle.capnp_copy_from.specs.Copies.{CopiesValue, CopiesStruct, StructSource}
+use Rattle.capnp_model.specs.Coverage.{from_each}
+use Rattle.capnp_model.specs.Sizes.{object_words, each_object_words}
+use Rattle.capnp_model.specs.Traversal.{tree_at, each}
+use Rattle.capnp_model.specs.Visits.{Visit, visits}
+use Rattle.capnp_object.specs.Inside.{met_in}
+use Rattle.capnp_copy.specs.States.{ArenaState}
+use Rattle.capnp_copy_from.specs.Fits.{FitsWhereRoom, HasLongList, IsLong, struct_tree}
+use Rattle.capnp_copy_from.specs.Copies.{CopiesValue, CopiesStruct, StructSource, IsStoppedOr}
 use Rattle.capnp_copy_from.specs.Contents.{CopiesContent}
-use Rattle.capnp_copy_from.specs.Lists.{CopiesList, listed_section}
+use Rattle.capnp_copy_from.specs.Lists.{CopiesList, listed_section, listed_object, listed_tree}
 
 -- What is done under a limit of words, by what it answers and what it took.
 abbrev pub Walk : Type 1
@@ -72,3 +79,29 @@ abbrev pub SetsList : ListView → Segments → Segments → Place → Walk
 SetsList v s u p old result new =
     MatchOption v.levels (WithoutLevels s u old result new) (λ n.
     Charged v.basis.paid (λ l r m. (x : ListSource) × (bytes : List ℕ) × IsListOf v x bytes × CopiesList n v.basis.segments x bytes s u p l r m) old result new)
+
+-- What a copy takes in the ith segment where that has room, and why it is refused, of which `told` tells what doesn't come of what is read.
+abbrev pub IsTold : {X : Type 0} → (X → ℕ) → Option X → List Visit → Type 0 → ℕ → ArenaState → ArenaState → (Error → Type 0) → Walk
+IsTold words there path Long i s u told old result new = FitsWhereRoom words there path Long i s u old result new × IsStoppedOr path old new told result
+
+-- The same of a pointer's value, a struct, the content of one, and a list.
+abbrev pub PointerTold : PointerView → ArenaState → ArenaState → ℕ → (Error → Type 0) → Walk
+PointerTold v s u i told old result new =
+    MatchOption v.levels (Unit {0}) (λ n.
+    MatchOption v.place (Unit {0}) (λ q.
+    Charged v.basis.paid (IsTold object_words (tree_at n v.basis.segments q) (visits n v.basis.segments q) (HasLongList v.basis.segments) i s u told) old result new))
+
+abbrev pub StructTold : StructView → ArenaState → ArenaState → ℕ → (Error → Type 0) → Walk
+StructTold v s u i told old result new =
+    MatchOption v.levels (Unit {0}) (λ n.
+    Charged v.basis.paid (λ l r m. (x : StructSource) × IsSourceOf v x × IsTold object_words (struct_tree (tree_at n v.basis.segments) x) (from_each (visits n v.basis.segments) (place_view x.first) x.pointers) (HasLongList v.basis.segments) i s u told l r m) old result new)
+
+abbrev pub ContentTold : StructView → ArenaState → ArenaState → StructPlace → (Error → Type 0) → Walk
+ContentTold v s u o told old result new =
+    MatchOption v.levels (Unit {0}) (λ n.
+    Charged v.basis.paid (λ l r m. (x : StructSource) × IsSourceOf v x × IsTold each_object_words (each (tree_at n v.basis.segments) (place_view x.first) (min x.pointers o.pointers)) (from_each (visits n v.basis.segments) (place_view x.first) (min x.pointers o.pointers)) (HasLongList v.basis.segments) o.start.segment s u told l r m) old result new)
+
+abbrev pub ListTold : ListView → ArenaState → ArenaState → ℕ → (Error → Type 0) → Walk
+ListTold v s u i told old result new =
+    MatchOption v.levels (Unit {0}) (λ n.
+    Charged v.basis.paid (λ l r m. (x : ListSource) × (bytes : List ℕ) × IsListOf v x bytes × IsTold object_words (listed_tree (tree_at n v.basis.segments) x bytes) (met_in (visits n v.basis.segments) (listed_object x)) (IsLong v.basis.segments (listed_object x)) i s u told l r m) old result new)

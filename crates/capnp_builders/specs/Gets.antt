@@ -1,5 +1,5 @@
 -- Values that are got, with a default in place of null. (Encoding, "Default Values")
-use Rattle.std.specs.Prelude.{◌≡◌, ◌⊎◌, ⊤, ℕ, ◌+◌, ◌^◌, ◌<◌, ◌≤◌, Bool, true, false, List, Option, Some, None, Result, Ok, Err, IfOk, IfErr}
+use Rattle.std.specs.Prelude.{◌≡◌, ◌⊎◌, ⊤, ℕ, ◌+◌, ◌^◌, ◌<◌, ◌≤◌, Bool, true, false, List, Option, Some, None, Result, Ok, Err, IsOk, IfOk, IfErr, OnOk}
 use Rattle.capnp_model.specs.Kinds.{Kind}
 use Rattle.capnp_model.specs.Chains.{◌and_then◌}
 use Rattle.capnp_model.specs.Segments.{Segments, Place, root, word_at}
@@ -15,7 +15,7 @@ use Rattle.capnp_object.specs.Objects.{object_at}
 use Rattle.capnp_wire.specs.Places.{place_view}
 use Rattle.capnp_footprints.specs.Footprints.{Owns}
 use Rattle.capnp_footprints.specs.Changes.{Replaces}
-use Rattle.capnp_copy_from.specs.Defaults.{WritesDefault, default_segments, is_null_at}
+use Rattle.capnp_copy_from.specs.Defaults.{WritesDefault, TellsDefault, default_segments, is_null_at}
 use Rattle.capnp_copy.specs.Elements.{LiesAt}
 use Rattle.capnp_copy.specs.Lists.{list_at}
 use Rattle.capnp_copy.specs.States.{ArenaState, HasWords}
@@ -23,15 +23,25 @@ use Rattle.capnp_copy.specs.Structs.{struct_at}
 use Rattle.capnp_copy.specs.Values.{LeadsTo}
 use Rattle.capnp_copy.specs.declared.fields.StructPlace.{StructPlace}
 use Rattle.capnp_copy.specs.declared.init.ListPlace.{ListPlace}
-use Rattle.capnp_widening.specs.Widened.{IsWide, StructRefused}
+use Rattle.capnp_widening.specs.Widened.{IsWide, StructRefused, StructTakes, StructLacks, IsStructOrNull}
 use Rattle.capnp_widening.specs.Got.{list_in}
 use Rattle.capnp_widening.specs.MovedElements.{as_structs}
-use Rattle.capnp_widening.specs.WidenedLists.{StructsGot, HasWideList, ListRefused, list_there}
+use Rattle.capnp_widening.specs.WidenedLists.{StructsGot, HasWideList, ListRefused, ListTakes, ListTakesAtMost, ListLacks, list_there}
 
 -- A default, where there is one, is written in place of null; else all stands as it was.
 abbrev pub Begins : Option (List (List ℕ)) → Segments → Segments → Place → Result ⊤ Error → Type 0
 Begins None s u p result = (u ≡ s) × (result ≡ Ok tt)
 Begins (Some words) s u p result = WritesDefault (default_segments words) s u p result
+
+-- What the default takes, and why it is refused, of which `told` tells what comes of no fault in it; none takes nothing, and isn't refused.
+abbrev pub BeginsTold : Option (List (List ℕ)) → ArenaState → ArenaState → Place → Result ⊤ Error → (Error → Type 0) → Type 0
+BeginsTold None s u p result told = (u.room ≡ s.room) × (result ≡ Ok tt)
+BeginsTold (Some words) s u p result told = TellsDefault (default_segments words) p s u result told
+
+-- What stands once the default is written, or nothing was to write.
+pub record Begun (default : Option (List (List ℕ))) (s m : ArenaState) (p : Place) (told : Error → Type 0) : Type 0 where
+  pub begins : Begins default (words_in s.segments) (words_in m.segments) p (Ok tt)
+  pub tells : BeginsTold default s m p (Ok tt) told
 
 -- The root's value in place of another, where that is null and the root isn't.
 abbrev pub in_place : Bool → Bool → Segments → Tree → Option Tree
@@ -62,12 +72,26 @@ pub record StructGot (default : Option (List (List ℕ))) (s u : Segments) (p : 
 abbrev pub NoStructGot : Option (List (List ℕ)) → Segments → Segments → Place → StructSize → Error → Type 0
 NoStructGot default s u p size e = Begins default s u p (Err e) ⊎ (Begins default s u p (Ok tt) × StructRefused u (object_at u p) size.data_words size.pointers e)
 
--- A struct of at least these sizes is got, with all its words, or it isn't given; the arena borrows what it did.
-pub record GetsStructOrDefault (default : Option (List (List ℕ))) (old new : ArenaState) (slot : code.Place) (size : StructSize) (r : Result StructPlace Error) : Type 0 where
+-- What it takes behind the default.
+abbrev pub StructTaken : Option (List (List ℕ)) → ArenaState → ArenaState → code.Place → StructSize → (Error → Type 0) → Type 0
+StructTaken default old new slot size told = (m : ArenaState) × Begun default old m (place_view slot) told × StructTakes (words_in m.segments) m.room (words_in new.segments) slot.segment (object_at (words_in m.segments) (place_view slot)) size.data_words size.pointers
+
+-- The default is refused; or it stands, where there was one to write, and there is no room for a struct in place of what is there, and `told` says of the error why it came where a struct or null is there.
+abbrev pub StructLacking : Option (List (List ℕ)) → ArenaState → ArenaState → code.Place → StructSize → (Error → Type 0) → Error → Type 0
+StructLacking default old new slot size told e =
+    BeginsTold default old new (place_view slot) (Err e) told
+    ⊎ ((m : ArenaState) × (new.segments ≡ m.segments) × Begun default old m (place_view slot) told
+    × StructLacks (words_in m.segments) m.room slot.segment (object_at (words_in m.segments) (place_view slot)) size.data_words size.pointers
+    × (IsStructOrNull (object_at (words_in m.segments) (place_view slot)) → told e))
+
+-- A struct of at least these sizes is got, with all its words, or it isn't given; the arena borrows what it did. Of an error `told` says why it came, where it comes of nothing that is read.
+pub record GetsStructOrDefault (default : Option (List (List ℕ))) (old new : ArenaState) (slot : code.Place) (size : StructSize) (r : Result StructPlace Error) (told : Error → Type 0) : Type 0 where
   pub got : IfOk r (StructGot default (words_in old.segments) (words_in new.segments) (place_view slot) size)
   pub there : IfOk r (λ o. HasWords new.segments o.start (o.data_words + o.pointers))
   pub near : IfOk r (λ o. o.start.position + (o.data_words + o.pointers) < 2 ^ 61)
   pub refused : IfErr r (NoStructGot default (words_in old.segments) (words_in new.segments) (place_view slot) size)
+  pub taken : OnOk r (StructTaken default old new slot size told)
+  pub lacking : IfErr r (StructLacking default old new slot size told)
   pub books : new.books ≡ old.books
 
 -- The list that the pointer at a place names, where elements of a size are expected, else the kind of the fault.
@@ -86,10 +110,12 @@ pub record ListGot (default : Option (List (List ℕ))) (s u : Segments) (slot :
 abbrev pub NoListGot : Option (List (List ℕ)) → Segments → Segments → code.Place → ElementSize → Error → Type 0
 NoListGot default s u slot expected e = Begins default s u (place_view slot) (Err e) ⊎ (Begins default s u (place_view slot) (Ok tt) × (list_named u slot expected ≡ Err (kind_of e.kind)))
 
--- A list is got or isn't given, and the arena borrows what it did.
-pub record GetsListOrDefault (default : Option (List (List ℕ))) (old new : ArenaState) (slot : code.Place) (expected : ElementSize) (r : Result ListPlace Error) : Type 0 where
+-- A list is got or isn't given, and the arena borrows what it did. The default alone takes words, and of an error `told` says why it came, where it comes of nothing that is read.
+pub record GetsListOrDefault (default : Option (List (List ℕ))) (old new : ArenaState) (slot : code.Place) (expected : ElementSize) (r : Result ListPlace Error) (told : Error → Type 0) : Type 0 where
   pub got : IfOk r (ListGot default (words_in old.segments) (words_in new.segments) slot expected)
   pub refused : IfErr r (NoListGot default (words_in old.segments) (words_in new.segments) slot expected)
+  pub taken : OnOk r (BeginsTold default old new (place_view slot) (Ok tt) told)
+  pub lacking : IfErr r (λ e. BeginsTold default old new (place_view slot) (Err e) told ⊎ BeginsTold default old new (place_view slot) (Ok tt) told)
   pub books : new.books ≡ old.books
 
 -- A list of structs of at least these sizes is got: the default is written first, and then what is there widened, where its elements are narrower or no structs.
@@ -104,8 +130,25 @@ pub record StructListGot (default : Option (List (List ℕ))) (s u : Segments) (
 abbrev pub NoStructListGot : Option (List (List ℕ)) → Segments → Segments → code.Place → StructSize → Error → Type 0
 NoStructListGot default s u slot size e = Begins default s u (place_view slot) (Err e) ⊎ (Begins default s u (place_view slot) (Ok tt) × ListRefused u (place_view slot) (list_there u slot) size.data_words size.pointers e)
 
--- A list of structs of at least these sizes is got or isn't given, and the arena borrows what it did.
-pub record GetsStructListOrDefault (default : Option (List (List ℕ))) (old new : ArenaState) (slot : code.Place) (size : StructSize) (r : Result ListPlace Error) : Type 0 where
+-- What it takes behind the default.
+pub record ListTaken (default : Option (List (List ℕ))) (old new : ArenaState) (slot : code.Place) (size : StructSize) (told : Error → Type 0) : Type 0 where
+  pub begun_with : ArenaState
+  pub begun : Begun default old begun_with (place_view slot) told
+  pub takes : ListTakes (words_in begun_with.segments) begun_with.room (words_in new.segments) slot size.data_words size.pointers
+  pub bound : ListTakesAtMost (words_in begun_with.segments) (words_in new.segments) slot size.data_words size.pointers
+
+-- The default is refused; or it stands, where there was one to write, and there is no room for a list of structs in place of what is there, and `told` says of the error why it came where a list of structs can be had.
+abbrev pub ListLacking : Option (List (List ℕ)) → ArenaState → ArenaState → code.Place → StructSize → (Error → Type 0) → Error → Type 0
+ListLacking default old new slot size told e =
+    BeginsTold default old new (place_view slot) (Err e) told
+    ⊎ ((m : ArenaState) × (new.segments ≡ m.segments) × Begun default old m (place_view slot) told
+    × ListLacks (words_in m.segments) m.room slot.segment (list_there (words_in m.segments) slot) size.data_words size.pointers
+    × (IsOk (list_there (words_in m.segments) slot) → told e))
+
+-- A list of structs of at least these sizes is got or isn't given, and the arena borrows what it did. Of an error `told` says why it came, where it comes of nothing that is read.
+pub record GetsStructListOrDefault (default : Option (List (List ℕ))) (old new : ArenaState) (slot : code.Place) (size : StructSize) (r : Result ListPlace Error) (told : Error → Type 0) : Type 0 where
   pub got : IfOk r (StructListGot default (words_in old.segments) (words_in new.segments) slot size)
   pub refused : IfErr r (NoStructListGot default (words_in old.segments) (words_in new.segments) slot size)
+  pub taken : OnOk r (ListTaken default old new slot size told)
+  pub lacking : IfErr r (ListLacking default old new slot size told)
   pub books : new.books ≡ old.books

@@ -3,8 +3,10 @@ ghost use Rattle.std.specs.Prelude.{◌≡◌, ◌+◌, ◌<◌, ◌^◌};
 ghost use Rattle.capnp_units.specs.Segments.{words_in};
 ghost use Rattle.capnp_wire.specs.Places.{place_view};
 ghost use Rattle.capnp_wire.specs.Views.{seen_pointer, seen_struct, seen_list};
-ghost use Rattle.capnp_copy.specs.States.{HasWords};
-ghost use Rattle.capnp_builders.specs.Copied.{CopiesPointer, SetsStruct, SetsList, TakesOver};
+ghost use Rattle.capnp_copy.specs.Refusals.{IsSizeOrRefusal};
+ghost use Rattle.capnp_copy.specs.States.{HasWords, state_in};
+ghost use Rattle.capnp_builders.specs.Copied.{CopiesPointer, SetsStruct, SetsList, TakesOver, PointerTold, StructTold, ListTold, ContentTold};
+ghost use Rattle.capnp_builders.specs.Making.{state_of};
 
 use crate::pointer_builder::PointerBuilder;
 use crate::struct_builder::StructBuilder;
@@ -37,6 +39,9 @@ fn copy_pointer<A: BuilderArena, B: ReaderArena>(
     ensures copy { CopiesPointer (seen_pointer B.segments other.entry)
         (words_in (A.segments arena.old))
         (words_in (A.segments arena.new)) (place_view slot) limiter.old result limiter.new }
+    ensures told { let at = state_in A.segments A.room A.books in
+        PointerTold (seen_pointer B.segments other.entry) (at arena.old) (at arena.new) slot.segment
+        (IsSizeOrRefusal A.refuses) limiter.old result limiter.new }
     ensures books { A.books arena.new ≡ A.books arena.old }
 {
     let Some(levels) = other.levels() else {
@@ -66,6 +71,9 @@ fn copy_struct<A: BuilderArena, B: ReaderArena>(
     requires near { slot.position < 2 ^ 61 }
     ensures copy { SetsStruct (seen_struct B.segments other.entry) (words_in (A.segments arena.old))
         (words_in (A.segments arena.new)) (place_view slot) limiter.old result limiter.new }
+    ensures told { let at = state_in A.segments A.room A.books in
+        StructTold (seen_struct B.segments other.entry) (at arena.old) (at arena.new) slot.segment
+        (IsSizeOrRefusal A.refuses) limiter.old result limiter.new }
     ensures books { A.books arena.new ≡ A.books arena.old }
 {
     let Some(levels) = other.levels() else {
@@ -108,6 +116,9 @@ fn copy_list<A: BuilderArena, B: ReaderArena>(
     requires near { slot.position < 2 ^ 61 }
     ensures copy { SetsList (seen_list B.segments other.entry) (words_in (A.segments arena.old))
         (words_in (A.segments arena.new)) (place_view slot) limiter.old result limiter.new }
+    ensures told { let at = state_in A.segments A.room A.books in
+        ListTold (seen_list B.segments other.entry) (at arena.old) (at arena.new) slot.segment
+        (IsSizeOrRefusal A.refuses) limiter.old result limiter.new }
     ensures books { A.books arena.new ≡ A.books arena.old }
 {
     let Some(levels) = other.levels() else {
@@ -145,6 +156,9 @@ fn copy_content<A: BuilderArena, B: ReaderArena>(
     ensures content { TakesOver (seen_struct B.segments other.entry)
         (words_in (A.segments arena.old))
         (words_in (A.segments arena.new)) object limiter.old result limiter.new }
+    ensures told { let at = state_in A.segments A.room A.books in
+        ContentTold (seen_struct B.segments other.entry) (at arena.old) (at arena.new) object
+        (IsSizeOrRefusal A.refuses) limiter.old result limiter.new }
     ensures books { A.books arena.new ≡ A.books arena.old }
 {
     let Some(levels) = other.levels() else {
@@ -193,6 +207,10 @@ impl<'a, A: BuilderArena> PointerBuilder<'a, A> {
             (words_in (A.segments self.old.memory.now.arena))
             (words_in (A.segments self.new.memory.now.arena))
             (place_view self.old.place) limiter.old result limiter.new }
+        ensures told { let at = state_of A.segments A.room A.books in
+            PointerTold (seen_pointer B.segments other.entry) (at self.old.memory.now)
+            (at self.new.memory.now) self.old.place.segment (IsSizeOrRefusal A.refuses)
+            limiter.old result limiter.new }
         ensures books { A.books self.new.memory.now.arena ≡ A.books self.old.memory.now.arena }
     {
         let place = self.place;
@@ -215,6 +233,10 @@ impl<'a, A: BuilderArena> PointerBuilder<'a, A> {
             (words_in (A.segments self.old.memory.now.arena))
             (words_in (A.segments self.new.memory.now.arena))
             (place_view self.old.place) limiter.old result limiter.new }
+        ensures told { let at = state_of A.segments A.room A.books in
+            StructTold (seen_struct B.segments value.entry) (at self.old.memory.now)
+            (at self.new.memory.now) self.old.place.segment (IsSizeOrRefusal A.refuses)
+            limiter.old result limiter.new }
         ensures books { A.books self.new.memory.now.arena ≡ A.books self.old.memory.now.arena }
     {
         let place = self.place;
@@ -237,6 +259,10 @@ impl<'a, A: BuilderArena> PointerBuilder<'a, A> {
             (words_in (A.segments self.old.memory.now.arena))
             (words_in (A.segments self.new.memory.now.arena))
             (place_view self.old.place) limiter.old result limiter.new }
+        ensures told { let at = state_of A.segments A.room A.books in
+            ListTold (seen_list B.segments value.entry) (at self.old.memory.now)
+            (at self.new.memory.now) self.old.place.segment (IsSizeOrRefusal A.refuses)
+            limiter.old result limiter.new }
         ensures books { A.books self.new.memory.now.arena ≡ A.books self.old.memory.now.arena }
     {
         let place = self.place;
@@ -263,6 +289,10 @@ impl<'a, A: BuilderArena> StructBuilder<'a, A> {
             (words_in (A.segments self.old.memory.now.arena))
             (words_in (A.segments self.new.memory.now.arena))
             self.old.place limiter.old result limiter.new }
+        ensures told { let at = state_of A.segments A.room A.books in
+            ContentTold (seen_struct B.segments other.entry) (at self.old.memory.now)
+            (at self.new.memory.now) self.old.place (IsSizeOrRefusal A.refuses)
+            limiter.old result limiter.new }
         ensures books { A.books self.new.memory.now.arena ≡ A.books self.old.memory.now.arena }
     {
         let place = self.place;

@@ -3,9 +3,10 @@ ghost use Rattle.std.specs.Prelude.{◌≡◌, ◌<◌, ◌^◌, option_copied, 
 ghost use Rattle.std.specs.Borrow.{sem, RestsIfErr};
 ghost use Rattle.capnp_units.specs.Segments.{words_in};
 ghost use Rattle.capnp_wire.specs.Places.{place_view};
+ghost use Rattle.capnp_copy.specs.Refusals.{IsSizeOrRefusal};
 ghost use Rattle.capnp_copy.specs.States.{state_in, HasWords};
 ghost use Rattle.capnp_copy.specs.contracts.arena.Memory.{the_row};
-ghost use Rattle.capnp_builders.specs.Gets.{Begins, GetsStructOrDefault, GetsListOrDefault, GetsStructListOrDefault};
+ghost use Rattle.capnp_builders.specs.Gets.{Begins, BeginsTold, GetsStructOrDefault, GetsListOrDefault, GetsStructListOrDefault};
 ghost use Rattle.capnp_builders.specs.Making.{state_of};
 
 use crate::list_builder::ListBuilder;
@@ -33,6 +34,9 @@ pub(crate) fn begin<A: BuilderArena>(
     requires near { slot.position < 2 ^ 61 }
     ensures begins { Begins (option_copied default.entry) (words_in (A.segments arena.old))
         (words_in (A.segments arena.new)) (place_view slot) result }
+    ensures told { let at = state_in A.segments A.room A.books in
+        BeginsTold (option_copied default.entry) (at arena.old) (at arena.new) (place_view slot)
+        result (IsSizeOrRefusal A.refuses) }
     ensures books { A.books arena.new ≡ A.books arena.old }
 {
     match default {
@@ -51,7 +55,8 @@ pub fn struct_or_default<A: BuilderArena>(
     requires there { HasWords (A.segments arena.old) slot 1 }
     requires near { slot.position < 2 ^ 61 }
     ensures { let at = state_in A.segments A.room A.books in GetsStructOrDefault
-        (option_copied default.entry) (at arena.old) (at arena.new) slot size result }
+        (option_copied default.entry) (at arena.old) (at arena.new) slot size result
+        (IsSizeOrRefusal A.refuses) }
 {
     changes_of_values();
     changes_with_more_levels();
@@ -69,7 +74,8 @@ fn list_here<A: BuilderArena>(
     requires there { HasWords (A.segments arena.old) slot 1 }
     requires near { slot.position < 2 ^ 61 }
     ensures { let at = state_in A.segments A.room A.books in GetsListOrDefault
-        (option_copied default.entry) (at arena.old) (at arena.new) slot expected result }
+        (option_copied default.entry) (at arena.old) (at arena.new) slot expected result
+        (IsSizeOrRefusal A.refuses) }
 {
     changes_of_values();
     changes_with_more_levels();
@@ -87,7 +93,8 @@ fn struct_list_here<A: BuilderArena>(
     requires there { HasWords (A.segments arena.old) slot 1 }
     requires near { slot.position < 2 ^ 61 }
     ensures { let at = state_in A.segments A.room A.books in GetsStructListOrDefault
-        (option_copied default.entry) (at arena.old) (at arena.new) slot size result }
+        (option_copied default.entry) (at arena.old) (at arena.new) slot size result
+        (IsSizeOrRefusal A.refuses) }
 {
     changes_of_values();
     changes_with_more_levels();
@@ -109,11 +116,13 @@ impl<'a, A: BuilderArena> PointerBuilder<'a, A> {
         ensures same { IfOk result (λ o. o.memory.ghost_name ≡ self.entry.memory.ghost_name) }
         ensures got { let at = state_of A.segments A.room A.books in IfOk result (λ o.
             GetsStructOrDefault (option_copied default.entry) (at self.entry.memory.now)
-            (at o.memory.now) self.entry.place size (Ok o.place)) }
+            (at o.memory.now) self.entry.place size (Ok o.place)
+            (IsSizeOrRefusal A.refuses)) }
         ensures* refused { let at = state_of A.segments A.room A.books in sem 𝓛 (RestsIfErr
             (the_row A.row) self.entry.memory (λ o. o.memory.ghost_name) result (λ n.
             IfErr result (λ e. GetsStructOrDefault (option_copied default.entry)
-            (at self.entry.memory.now) (at n) self.entry.place size (Err e)))) }
+            (at self.entry.memory.now) (at n) self.entry.place size (Err e)
+            (IsSizeOrRefusal A.refuses)))) }
     {
         let PointerBuilder { memory, place } = self;
         let place = struct_or_default(&mut memory.arena, place, size, default)?;
@@ -133,11 +142,13 @@ impl<'a, A: BuilderArena> PointerBuilder<'a, A> {
         ensures same { IfOk result (λ o. o.memory.ghost_name ≡ self.entry.memory.ghost_name) }
         ensures got { let at = state_of A.segments A.room A.books in IfOk result (λ o.
             GetsListOrDefault (option_copied default.entry) (at self.entry.memory.now)
-            (at o.memory.now) self.entry.place element_size (Ok o.place)) }
+            (at o.memory.now) self.entry.place element_size (Ok o.place)
+            (IsSizeOrRefusal A.refuses)) }
         ensures* refused { let at = state_of A.segments A.room A.books in sem 𝓛 (RestsIfErr
             (the_row A.row) self.entry.memory (λ o. o.memory.ghost_name) result (λ n.
             IfErr result (λ e. GetsListOrDefault (option_copied default.entry)
-            (at self.entry.memory.now) (at n) self.entry.place element_size (Err e)))) }
+            (at self.entry.memory.now) (at n) self.entry.place element_size (Err e)
+            (IsSizeOrRefusal A.refuses)))) }
     {
         let PointerBuilder { memory, place } = self;
         let place = list_here(&mut memory.arena, place, element_size, default)?;
@@ -157,11 +168,13 @@ impl<'a, A: BuilderArena> PointerBuilder<'a, A> {
         ensures same { IfOk result (λ o. o.memory.ghost_name ≡ self.entry.memory.ghost_name) }
         ensures got { let at = state_of A.segments A.room A.books in IfOk result (λ o.
             GetsStructListOrDefault (option_copied default.entry) (at self.entry.memory.now)
-            (at o.memory.now) self.entry.place element_size (Ok o.place)) }
+            (at o.memory.now) self.entry.place element_size (Ok o.place)
+            (IsSizeOrRefusal A.refuses)) }
         ensures* refused { let at = state_of A.segments A.room A.books in sem 𝓛 (RestsIfErr
             (the_row A.row) self.entry.memory (λ o. o.memory.ghost_name) result (λ n.
             IfErr result (λ e. GetsStructListOrDefault (option_copied default.entry)
-            (at self.entry.memory.now) (at n) self.entry.place element_size (Err e)))) }
+            (at self.entry.memory.now) (at n) self.entry.place element_size (Err e)
+            (IsSizeOrRefusal A.refuses)))) }
     {
         let PointerBuilder { memory, place } = self;
         let place = struct_list_here(&mut memory.arena, place, element_size, default)?;

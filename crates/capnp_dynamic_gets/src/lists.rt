@@ -3,6 +3,7 @@ ghost use Rattle.std.specs.Prelude.{◌≡◌, ◌+◌, ◌<◌, ◌^◌, true, 
 ghost use Rattle.capnp_model.specs.Accepted.{schema_of};
 ghost use Rattle.capnp_units.specs.Segments.{words_in};
 ghost use Rattle.capnp_wire.specs.Places.{place_view};
+ghost use Rattle.capnp_copy.specs.Refusals.{IsSizeOrRefusal};
 ghost use Rattle.capnp_copy.specs.States.{HasWords};
 ghost use Rattle.capnp_records.specs.NodeViews.{value_of};
 ghost use Rattle.capnp_records.specs.Sets.{nodes_of};
@@ -39,7 +40,8 @@ fn list_here<A: BuilderArena>(
     requires there { HasWords (A.segments memory.old.arena) slot 1 }
     requires near { slot.position < 2 ^ 61 }
     ensures { let at = state_of A.segments A.room A.books in GetsListOrDefault
-        (option_copied default.entry) (at memory.old) (at memory.new) slot expected result }
+        (option_copied default.entry) (at memory.old) (at memory.new) slot expected result
+        (IsSizeOrRefusal A.refuses) }
 {
     match (PointerBuilder {
         memory,
@@ -62,7 +64,8 @@ fn struct_list_here<A: BuilderArena>(
     requires there { HasWords (A.segments memory.old.arena) slot 1 }
     requires near { slot.position < 2 ^ 61 }
     ensures { let at = state_of A.segments A.room A.books in GetsStructListOrDefault
-        (option_copied default.entry) (at memory.old) (at memory.new) slot size result }
+        (option_copied default.entry) (at memory.old) (at memory.new) slot size result
+        (IsSizeOrRefusal A.refuses) }
 {
     match (PointerBuilder {
         memory,

@@ -1,5 +1,5 @@
 -- A default in place of null, and what is made of it.
-use Rattle.std.proofs.Common.{◌≡◌, ◌⊎◌, inr, ℕ, zero, suc, ◌+◌, ◌≤◌, ◌==◌, ◌||◌, not, unwrap_or, if◌then◌else◌, Bool, true, false, List, Option, Some, None, Result, Ok, Err, IfErr, OnErr, refl, ap, sym, subst, arith}
+use Rattle.std.proofs.Common.{◌≡◌, ◌⊎◌, inr, ℕ, zero, suc, ◌+◌, ◌≤◌, ◌==◌, ◌||◌, not, unwrap_or, if◌then◌else◌, Bool, true, false, List, Option, Some, None, Result, Ok, Err, IfErr, OnOk, OnErr, refl, ap, sym, subst, arith}
 use Rattle.std.specs.Bool.{⊤}
 use Rattle.std.specs.Option.{ok_or}
 use Rattle.capnp_model.specs.Kinds.{Kind, OutOfBounds}
@@ -14,8 +14,9 @@ use Rattle.capnp_wire.specs.Places.{seen}
 use Rattle.capnp_footprints.specs.Footprints.{Owns}
 use Rattle.capnp_footprints.specs.Changes.{Replaces}
 use Rattle.capnp_copy_from.specs.Defaults.{WritesDefault, is_null_at}
+use Rattle.capnp_copy.specs.States.{ArenaState}
 use Rattle.capnp_widening.specs.Widened.{IsWide}
-use Rattle.capnp_builders.specs.Gets.{Begins, in_place, begun, Gets}
+use Rattle.capnp_builders.specs.Gets.{Begins, BeginsTold, Begun, in_place, begun, Gets}
 
 -- what the laws of changes say
 pub record Laws : Type 0 where
@@ -91,3 +92,25 @@ refused_then default s m u p Refused b (Err e) same why = inr (subst (λ (y : Li
 pub refused_as : {X : Type 0} (default : Option (List (List ℕ))) (s u : Segments) (p : Place) (named : Result X Kind) → Begins default s u p (Ok tt) → (r : Result X Error) → seen (λ o. o) r ≡ named → IfErr r (λ e. Begins default s u p (Err e) ⊎ (Begins default s u p (Ok tt) × (named ≡ Err (kind_of e.kind))))
 refused_as default s u p named b (Ok x) is = tt
 refused_as default s u p named b (Err e) is = inr (b, sym is)
+
+-- Where there is no room behind the default.
+pub lacking_then : {X : Type 0} (default : Option (List (List ℕ))) (s m u : ArenaState) (p : Place) (told : Error → Type 0) (Lacks Can : ArenaState → Type 0) → Begins default (words_in s.segments) (words_in m.segments) p (Ok tt) → BeginsTold default s m p (Ok tt) told → (r : Result X Error) → OnErr r (u.segments ≡ m.segments) → OnErr r (Lacks m) → (Can m → IfErr r told)
+    → IfErr r (λ e. BeginsTold default s u p (Err e) told ⊎ ((x : ArenaState) × (u.segments ≡ x.segments) × Begun default s x p told × Lacks x × (Can x → told e)))
+lacking_then default s m u p told Lacks Can b t (Ok x) same lacks why = tt
+lacking_then default s m u p told Lacks Can b t (Err e) same lacks why = inr (m, same, record { begins = b; tells = t }, lacks, why)
+
+pub told_only : {X : Type 0} (default : Option (List (List ℕ))) (s u : ArenaState) (p : Place) (told : Error → Type 0) (r : Result X Error) → BeginsTold default s u p (Ok tt) told → IfErr r (λ e. BeginsTold default s u p (Err e) told ⊎ BeginsTold default s u p (Ok tt) told)
+told_only default s u p told (Ok x) t = tt
+told_only default s u p told (Err e) t = inr t
+
+pub on_ok : {X P Q : Type 0} (r : Result X Error) → OnOk r P → (P → Q) → OnOk r Q
+on_ok (Ok x) p f = f p
+on_ok (Err e) p f = tt
+
+pub both_on_ok : {X P R Q : Type 0} (r : Result X Error) → OnOk r P → OnOk r R → (P → R → Q) → OnOk r Q
+both_on_ok (Ok x) p q f = f p q
+both_on_ok (Err e) p q f = tt
+
+pub always_ok : {X Q : Type 0} (r : Result X Error) → Q → OnOk r Q
+always_ok (Ok x) q = q
+always_ok (Err e) q = tt

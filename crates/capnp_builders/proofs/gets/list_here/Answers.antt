@@ -11,7 +11,9 @@ use Rattle.capnp_copy.specs.Lists.{list_at}
 use Rattle.capnp_copy.specs.Values.{LeadsTo}
 use Rattle.capnp_copy.specs.declared.init.ListPlace.{ListPlace}
 use Rattle.capnp_builders.specs.Gets.{Begins, list_named, ListGot}
-use Rattle.capnp_builders.proofs.lemmas.Begun.{Laws, listed_then, refused_as}
+use Rattle.capnp_builders.proofs.lemmas.Begun.{Laws, listed_then, refused_as, told_only, always_ok}
+use Rattle.capnp_copy.specs.Refusals.{IsSizeOrRefusal}
+use Rattle.capnp_copy.specs.States.{state_in}
 use Rattle.capnp_builders.proofs.gets.list_here.Goals as goal
 
 got_by : (l : Laws) (default : Option (List (List ℕ))) (s u : Segments) (slot : code.Place) (expected : ElementSize) → Begins default s u (place_view slot) (Ok tt) → (r : Result ListPlace Error) → seen (λ o. o) r ≡ list_named u slot expected → IfOk r (λ o. (word_at u (place_view slot) ≡ Some 0) ⊎ LeadsTo u (place_view slot) (list_at o)) → IfOk r (LiesAt u (place_view slot)) → IfOk r (ListGot default s u slot expected)
@@ -32,6 +34,8 @@ returns g c =
     record {
       got = got_by laws (option_copied c.args.default) s u c.args.slot c.args.expected c.in_ok-begin.ensures.begins c.get_list.result c.get_list.ensures.list c.get_list.ensures.object c.get_list.ensures.inside;
       refused = refused_as (option_copied c.args.default) s u (place_view c.args.slot) (list_named u c.args.slot c.args.expected) c.in_ok-begin.ensures.begins c.get_list.result c.get_list.ensures.list;
+      taken = always_ok c.get_list.result c.in_ok-begin.ensures.told;
+      lacking = told_only (option_copied c.args.default) (state_in g.A.ReaderArena.segments g.A.BuilderArena.room g.A.BuilderArena.books c.args.arena.now) (state_in g.A.ReaderArena.segments g.A.BuilderArena.room g.A.BuilderArena.books c.begin.new.arena) (place_view c.args.slot) (IsSizeOrRefusal g.A.BuilderArena.refuses) c.get_list.result c.in_ok-begin.ensures.told;
       books = search rules;
     }
 
@@ -39,4 +43,4 @@ pub returns-in_err-begin : goal.returns-in_err-begin
 returns-in_err-begin g c =
     let p = err_from_is_err_and c.from_residual.result c.from_residual.ensures.1 in
     let e = c.in_err-begin.ensures in
-    rw (p.1, p.2) (record { got = tt; refused = inl e.begins; books = e.books })
+    rw (p.1, p.2) (record { got = tt; refused = inl e.begins; taken = tt; lacking = inl e.told; books = e.books })

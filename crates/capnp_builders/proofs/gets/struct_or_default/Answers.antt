@@ -9,9 +9,11 @@ use Rattle.capnp_wire.specs.Places.{place_view}
 use Rattle.capnp_copy.specs.Structs.{struct_at}
 use Rattle.capnp_copy.specs.Values.{LeadsTo}
 use Rattle.capnp_copy.specs.declared.fields.StructPlace.{StructPlace}
-use Rattle.capnp_widening.specs.Widened.{Widens, IsWide, StructRefused}
+use Rattle.capnp_widening.specs.Widened.{Widens, IsWide, StructRefused, StructLacks, IsStructOrNull}
 use Rattle.capnp_builders.specs.Gets.{Begins, StructGot}
-use Rattle.capnp_builders.proofs.lemmas.Begun.{Laws, made_then, refused_then, wide_stays}
+use Rattle.capnp_builders.proofs.lemmas.Begun.{Laws, made_then, refused_then, wide_stays, lacking_then, on_ok}
+use Rattle.capnp_copy.specs.Refusals.{IsSizeOrRefusal}
+use Rattle.capnp_copy.specs.States.{ArenaState, state_in}
 use Rattle.capnp_builders.proofs.gets.struct_or_default.Goals as goal
 
 got_by : {E : Type 0} (l : Laws) (default : Option (List (List ℕ))) (s m u : Segments) (p : Place) (size : StructSize) → Begins default s m p (Ok tt) → (IsWide m p size.data_words size.pointers → u ≡ m) → (r : Result StructPlace E) → IfOk r (λ o. Widens m u p size.data_words size.pointers) → IfOk r (λ o. LeadsTo u p (struct_at o)) → IfOk r (λ o. (size.data_words ≤ o.data_words) × (size.pointers ≤ o.pointers)) → IfOk r (StructGot default s u p size)
@@ -45,6 +47,8 @@ returns g c =
       there = e.there;
       near = e.near;
       refused = refused_then (option_copied c.args.default) s (g.A.ReaderArena.segments c.begin.new.arena) (g.A.ReaderArena.segments c.get_struct.new.arena) (place_view c.args.slot) (λ x. StructRefused x (object_at x (place_view c.args.slot)) c.args.size.data_words c.args.size.pointers) c.in_ok-begin.ensures.begins c.get_struct.result e.refused e.kind;
+      taken = on_ok c.get_struct.result e.taken (λ t. ((state_in g.A.ReaderArena.segments g.A.BuilderArena.room g.A.BuilderArena.books c.begin.new.arena), record { begins = c.in_ok-begin.ensures.begins; tells = c.in_ok-begin.ensures.told }, t));
+      lacking = lacking_then (option_copied c.args.default) (state_in g.A.ReaderArena.segments g.A.BuilderArena.room g.A.BuilderArena.books c.args.arena.now) (state_in g.A.ReaderArena.segments g.A.BuilderArena.room g.A.BuilderArena.books c.begin.new.arena) (state_in g.A.ReaderArena.segments g.A.BuilderArena.room g.A.BuilderArena.books c.get_struct.new.arena) (place_view c.args.slot) (IsSizeOrRefusal g.A.BuilderArena.refuses) (λ (x : ArenaState). StructLacks (words_in x.segments) x.room c.args.slot.segment (object_at (words_in x.segments) (place_view c.args.slot)) c.args.size.data_words c.args.size.pointers) (λ (x : ArenaState). IsStructOrNull (object_at (words_in x.segments) (place_view c.args.slot))) c.in_ok-begin.ensures.begins c.in_ok-begin.ensures.told c.get_struct.result e.refused e.full e.cause;
       books = search rules;
     }
 
@@ -52,4 +56,4 @@ pub returns-in_err-begin : goal.returns-in_err-begin
 returns-in_err-begin g c =
     let p = err_from_is_err_and c.from_residual.result c.from_residual.ensures.1 in
     let e = c.in_err-begin.ensures in
-    rw (p.1, p.2) (record { got = tt; there = tt; near = tt; refused = inl e.begins; books = e.books })
+    rw (p.1, p.2) (record { got = tt; there = tt; near = tt; refused = inl e.begins; taken = tt; lacking = inl e.told; books = e.books })
