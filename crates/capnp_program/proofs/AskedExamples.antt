@@ -1,5 +1,5 @@
 -- What words and files ask for, computed: faults in their order, calls with their numbers, and limits.
-use Rattle.std.proofs.Common.{◌≡◌, ℕ, pos, negsuc, Option, Some, None, Result, Ok, Err, List, [], ◌∷◌, codes, refl}
+use Rattle.std.proofs.Common.{◌≡◌, ℕ, pos, negsuc, true, false, Option, Some, None, Result, Ok, Err, List, [], ◌∷◌, codes, refl}
 use Rattle.capnp_model.specs.Calls.{name, whole_number, Verb, get, set_to, Call}
 use Rattle.capnp_model.specs.Messages.{message_at}
 use Rattle.capnp_model.specs.Partners.{Renaming}

@@ -97,3 +97,10 @@ pub calls_refused : (r : Request) (arguments : Arguments) (nodes : List Node) (n
     → IsRefusalOf ⊤ (calls_from 1 text.calls) e → IsRefused r e
 calls_refused r arguments nodes newer rs text e a n w s t (inl h) = inl (rw a (rw n (rw w (rw s (rw t (rw h refl))))))
 calls_refused r arguments nodes newer rs text e a n w s t (inr h) = inr (h.0, (rw a refl, some_file r.schema arguments.root nodes n))
+
+-- The same of a fault of the calls file.
+pub text_refused : (W : Type 0) (r : Request) (arguments : Arguments) (nodes : List Node) (newer : Option (List Node)) (rs : List Renaming) (e : Stop)
+    → arguments_in r.words ≡ Some arguments → version_in r.schema arguments.root ≡ Ok nodes → newer_in arguments.newer r.newer arguments.root ≡ Ok newer → renamings_in arguments.renames r.renames ≡ Ok rs
+    → IsRefusalOf W (text_in r.calls) e → IsRefused r e
+text_refused W r arguments nodes newer rs e a n w s (inl h) = inl (rw a (rw n (rw w (rw s (rw h refl)))))
+text_refused W r arguments nodes newer rs e a n w s (inr h) = inr (h.0, (rw a refl, some_file r.schema arguments.root nodes n))

@@ -1,5 +1,5 @@
 -- Texts that are written one behind the other.
-use Rattle.std.proofs.Common.{arith, ◌≡◌, ℕ, ◌+◌, ◌<◌, List, ◌++◌, length, length-append, sym, ◌∙◌, subst, Result, Ok, Err, Option, Some, None}
+use Rattle.std.proofs.Common.{arith, decimal, ◌≡◌, ℕ, ◌+◌, ◌<◌, List, ◌++◌, length, length-append, sym, ◌∙◌, subst, Result, Ok, Err, Option, Some, None}
 use Rattle.std.specs.Prelude.{IsSomeAnd}
 use Rattle.std.proofs.KnownBytes.{Appends-trans}
 use Rattle.capnp_units.specs.declared.errors.Error.{Error}
@@ -61,3 +61,7 @@ written_part g a b s t e first = record {
   refusal = refused_more g s.room (length a) (length b) (length (a ++ b)) e.kind (length-append a b) first.refusal;
   count = first.count;
 }
+
+-- Equal numbers have one text.
+pub number_written : (g : Type 0) (m n : ℕ) (s t : SinkSeen) (r : Result (Unit {0}) Error) → m ≡ n → Writes g (decimal m) s r t → Writes g (decimal n) s r t
+number_written g m n s t r e w = subst (λ (k : ℕ). Writes g (decimal k) s r t) e w

@@ -1,6 +1,6 @@
 //! The words behind the program's name.
 ghost use Rattle.std.specs.Prelude.{◌≡◌, map, string_bytes};
-ghost use Rattle.capnp_program.specs.Arguments.{decimal_in, forms_named, arguments_in, is_help};
+ghost use Rattle.capnp_program.specs.Arguments.{decimal_in, forms_named, arguments_of, arguments_in, is_help};
 
 use capnp_between::options::Form;
 
@@ -40,6 +40,21 @@ fn forms(word: &str) -> Option<(Form, Form)>
     }
 }
 
+/// What the root's word and the forms' say, where these files are named.
+fn arguments_of(root: &str, form: &str, newer: bool, renames: bool) -> Option<Arguments>
+    ensures { result ≡ arguments_of root.now form.now newer renames }
+{
+    let root = decimal(root)?;
+    let (input, output) = forms(form)?;
+    Some(Arguments {
+        root,
+        input,
+        output,
+        newer,
+        renames,
+    })
+}
+
 impl Arguments {
     /// What the words say: a schema file, a calls file, the root's id in decimal digits alone, and a form: `framed`, `packed`,
     /// `framed-packed` or `packed-framed`, the input's and then the output's; and a newer schema file, if any; and behind that a
@@ -47,21 +62,21 @@ impl Arguments {
     pub fn new(words: &[String]) -> Option<Arguments>
         ensures { result ≡ arguments_in (map string_bytes words.now) }
     {
-        let [_schema, _calls, root, form, newer @ ..] = words else {
-            return None;
-        };
-        if newer.len() > 2 {
-            return None;
+        match words {
+            [_schema, _calls, root, form] => arguments_of(
+                root.as_str(),
+                form.as_str(),
+                false,
+                false,
+            ),
+            [_schema, _calls, root, form, _newer] => {
+                arguments_of(root.as_str(), form.as_str(), true, false)
+            }
+            [_schema, _calls, root, form, _newer, _renames] => {
+                arguments_of(root.as_str(), form.as_str(), true, true)
+            }
+            _ => None,
         }
-        let root = decimal(root.as_str())?;
-        let (input, output) = forms(form.as_str())?;
-        Some(Arguments {
-            root,
-            input,
-            output,
-            newer: !newer.is_empty(),
-            renames: newer.len() > 1,
-        })
     }
 }
 

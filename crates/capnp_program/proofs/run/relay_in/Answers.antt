@@ -1,6 +1,6 @@
 use Rattle.std.proofs.Common.{Ok, Err}
 use Rattle.capnp_loop.specs.Streams.{source_seen, sink_seen, streams}
-use Rattle.capnp_program.proofs.Running.{ran_alone, ran_beside}
+use Rattle.capnp_program.proofs.Running.{ran_alone, ran_beside, held_beside}
 use Rattle.capnp_program.proofs.run.relay_in.Goals as goal
 
 pub returns-in_default-clause-ran : goal.returns-in_default-clause-ran
@@ -23,3 +23,8 @@ returns-in-Err-Relay-clause-ran g c =
     let run = rw c.in-Err-Relay.field-0-is at c.in-Err-Relay.ensures.run in
     ran_beside c.root-root.result c.as_slice-calls.result.now c.args.settings.now g.W.Write.may_grow g.L.Write.may_grow old new c.root-root.ensures.nodes c.root-root.ensures.id c.as_slice-calls.ensures.value
     c.root-newer.result c.in-Some.newer c.in-Some.is c.root-newer.ensures.nodes c.root-newer.ensures.id (Err c.in-Err-Relay.e) run
+
+pub returns-in-Err-NotAdmitted-clause-held : goal.returns-in-Err-NotAdmitted-clause-held
+returns-in-Err-NotAdmitted-clause-held g c =
+    let held = rw c.in-Err-NotAdmitted.field-0-is at c.in-Err-NotAdmitted.ensures.run in
+    held_beside c.root-root.result c.root-newer.result c.as_slice-calls.result.now c.args.settings.now c.in-Some.newer c.in-Err-NotAdmitted.n c.root-root.ensures.nodes c.root-root.ensures.id c.as_slice-calls.ensures.value c.in-Some.is c.root-newer.ensures.nodes c.root-newer.ensures.id held

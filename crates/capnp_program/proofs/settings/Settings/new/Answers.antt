@@ -9,7 +9,7 @@ use Rattle.capnp_between.specs.Relay.{IsOf}
 use Rattle.capnp_program.specs.Arguments.{arguments_in}
 use Rattle.capnp_program.specs.Asked.{request}
 use Rattle.capnp_program.specs.Versions.{nodes_at}
-use Rattle.capnp_program.proofs.Asking.{parts_ask, calls_refused}
+use Rattle.capnp_program.proofs.Asking.{parts_ask, text_refused, calls_refused}
 use Rattle.capnp_program.proofs.settings.Settings.new.Goals as goal
 
 pub returns-in-Ok-clause-ok : goal.returns-in-Ok-clause-ok
@@ -28,3 +28,10 @@ returns-in_err-calls-clause-refused c =
     let arguments : arguments_in (map string_bytes c.args.words.now) ≡ Some c.in_ok-arguments.arguments = search rules in
     rw (p.1, p.2) (calls_refused (request (map string_bytes c.args.words.now) (option_copied c.args.schema) (option_copied c.args.calls) (option_copied c.args.newer) (option_copied c.args.renames)) c.in_ok-arguments.arguments (nodes_at c.in_ok-version.version) (option_map nodes_at c.in_ok-newer.newer) (renamings_of c.in_ok-renamings.renamings) (file_of c.in_ok-text.text) _
     arguments c.in_ok-version.ensures.ok c.in_ok-newer.ensures.ok c.in_ok-renamings.ensures.ok c.in_ok-text.ensures.ok c.in_err-calls.ensures.refused)
+
+pub returns-in_err-text-clause-refused : goal.returns-in_err-text-clause-refused
+returns-in_err-text-clause-refused c =
+    let p = err_from_is_err_and c.from_residual-in_err-text.result c.from_residual-in_err-text.ensures.1 in
+    let arguments : arguments_in (map string_bytes c.args.words.now) ≡ Some c.in_ok-arguments.arguments = search rules in
+    rw (p.1, p.2) (text_refused _ (request (map string_bytes c.args.words.now) (option_copied c.args.schema) (option_copied c.args.calls) (option_copied c.args.newer) (option_copied c.args.renames)) c.in_ok-arguments.arguments (nodes_at c.in_ok-version.version) (option_map nodes_at c.in_ok-newer.newer) (renamings_of c.in_ok-renamings.renamings) _
+    arguments c.in_ok-version.ensures.ok c.in_ok-newer.ensures.ok c.in_ok-renamings.ensures.ok c.in_err-text.ensures.refused)
