@@ -3,7 +3,6 @@
 use capnp_calls::CallValue;
 use capnp_files::calls_file::calls_file;
 use capnp_files::fault::FileFault;
-use capnp_files::renames_file::renames_file;
 use capnp_files::schema_file::schema_file;
 use capnp_records::node::{FieldBody, NodeBody, NodeRecord, Value};
 use std::alloc::{AllocError, Global};
@@ -121,26 +120,6 @@ const CALLS: [Long; 5] = [
     },
 ];
 
-/// Newer names of half a mebibyte, and thousands of renamings.
-const RENAMES: [Long; 2] = [
-    Long {
-        front: r#"[{"node":1,"from":"a","to":""#,
-        part: "abcdefgh",
-        times: 1 << 16,
-        end: r#""}]"#,
-        other: r#"","name":"a"}]"#,
-        sizes: [1, 524288, 0, 0],
-    },
-    Long {
-        front: "[",
-        part: r#"{"node":1,"from":"a","to":"c"},"#,
-        times: 5000,
-        end: r#"{"node":1,"from":"a","to":"cc"}]"#,
-        other: r#"{"node":1,"from":"a","to":7}]"#,
-        sizes: [5001, 2, 0, 0],
-    },
-];
-
 /// How many bytes the default of a field has.
 fn default_len(body: &FieldBody) -> usize {
     match body {
@@ -203,20 +182,6 @@ fn long_calls_files_are_read(rt: HostRuntime) -> Result<(), Fail> {
         assert!(rt; [file.calls.len(), path, value, 0] == long.sizes);
         let other = long.with_end(rt.alloc(), long.other)?;
         let answer = calls_file(rt.alloc(), &other).err();
-        assert!(rt; answer == Some(FileFault::Form));
-    }
-    Ok(())
-}
-
-#[test]
-fn long_renames_files_are_read(rt: HostRuntime) -> Result<(), Fail> {
-    for long in &RENAMES {
-        let bytes = long.with_end(rt.alloc(), long.end)?;
-        let renamings = renames_file(rt.alloc(), &bytes)?;
-        let name = renamings.last().map_or(0, |renaming| renaming.newer.len());
-        assert!(rt; [renamings.len(), name, 0, 0] == long.sizes);
-        let other = long.with_end(rt.alloc(), long.other)?;
-        let answer = renames_file(rt.alloc(), &other).err();
         assert!(rt; answer == Some(FileFault::Form));
     }
     Ok(())

@@ -234,28 +234,3 @@ fn the_most_segments_are_read(rt: HostRuntime) -> std::result::Result<(), Fail> 
     assert!(rt; message.get_segment(511).is_none());
     Ok(())
 }
-
-#[test]
-fn many_bytes_are_written_at_once(rt: HostRuntime) -> std::result::Result<(), Fail> {
-    let alloc = rt.alloc();
-    let bytes = vec![in alloc; 7u8; 100_000]?;
-    let mut held = Vec::new(alloc);
-    Write::write_all(&mut held, &bytes)?;
-    assert!(rt; held == bytes);
-    Ok(())
-}
-
-#[test]
-fn long_segments_are_read(rt: HostRuntime) -> std::result::Result<(), Fail> {
-    let alloc = rt.alloc();
-    let mut bytes = vec![in alloc; 0, 0, 0, 0, 0, 0, 1, 0]?;
-    bytes.resize(8 + 0x8_0000, 7)?;
-    let message = read_message(alloc, &mut bytes.as_slice(), None)?;
-    assert!(rt; message.len() == 1);
-    assert!(rt;
-        message
-            .get_segment(0)
-            .is_some_and(|segment| segment == &bytes[8..])
-    );
-    Ok(())
-}

@@ -88,25 +88,3 @@ fn long_runs_take_few_looks(rt: HostRuntime) -> std::result::Result<(), Fail> {
     assert!(rt; packed.inner.looks() <= 4);
     Ok(())
 }
-
-/// How often a source is asked for a run that is cut at most once: for the two groups of bytes that the cut leaves, and for each byte of a group's front and of a word that the cut parts.
-const FEW_LOOKS: usize = 24;
-
-#[test]
-fn a_run_is_taken_in_slices_wherever_it_is_cut(rt: HostRuntime) -> std::result::Result<(), Fail> {
-    let alloc = rt.alloc();
-    let mut packed = vec![in alloc; 255u8; 2050]?;
-    packed.resize(2051, 7)?;
-    let mut words = vec![in alloc; 0u8; 2048]?;
-    for cut in 0..2052 {
-        words.fill(0);
-        let mut source = PackedRead {
-            inner: Shown::new(&packed, cut, usize::MAX),
-        };
-        source.read_exact(&mut words)?;
-        assert!(rt; words.iter().all(|b| *b == 255), "at {cut}");
-        assert!(rt; source.inner.bytes == [7].as_slice(), "at {cut}");
-        assert!(rt; source.inner.looks() <= FEW_LOOKS, "at {cut}");
-    }
-    Ok(())
-}
