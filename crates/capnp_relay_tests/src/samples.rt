@@ -78,7 +78,8 @@ pub(crate) fn relayed<R: BufRead, W: Write, L: Write>(
 ) -> Result<Result<Counts, RelayFault>, Fail> {
     let words = words_in(alloc, form)?;
     let schema = Some(SCHEMA.as_bytes());
-    let Ok(settings) = Settings::new(alloc, &words, schema, Some(calls.as_bytes()), None) else {
+    let Ok(settings) = Settings::new(alloc, &words, schema, Some(calls.as_bytes()), None, None)
+    else {
         return Err(Fail::from("the run is refused"));
     };
     let Ok(version) = Version::new(alloc, schema, 1) else {
