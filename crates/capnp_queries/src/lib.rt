@@ -8,6 +8,7 @@ pub mod fields;
 pub mod introspect;
 pub mod laws;
 mod named;
+pub mod names;
 pub mod slots;
 pub mod structs;
 pub mod subsets;

@@ -1,18 +1,17 @@
 //! Schemas of structs and groups.
 
-ghost use Rattle.std.specs.Prelude.{◌≡◌, ◌==◌, map};
+ghost use Rattle.std.specs.Prelude.{◌≡◌, ◌==◌};
 ghost use Rattle.std.proofs.Common.{rules};
 ghost use Rattle.std.specs.Cmp.Rules.{comparing, hashing};
 ghost use Rattle.std.specs.Hash as fed;
 ghost use Rattle.std.specs.Ordering.{on};
-ghost use Rattle.capnp_records.specs.NodeViews.{field_of};
 ghost use Rattle.capnp_records.specs.Sets.{nodes_of, IsNodeOf};
-ghost use Rattle.capnp_queries.specs.Names.{place_named};
 
 use crate::annotations::AnnotationList;
 use crate::fields::{Field, FieldList};
+use crate::names::place_of;
 use crate::subsets::FieldSubset;
-use capnp_records::node::{FieldRecord, NodeRecord, StructRecord};
+use capnp_records::node::{NodeRecord, StructRecord};
 use capnp_records::raw::RawBrandedStructSchema;
 use capnp_records::set::SchemaSet;
 use capnp_records::tables::FieldTables;
@@ -29,12 +28,12 @@ pub struct StructSchema<'a> {
 }
 
 impl<'a> StructSchema<'a> {
-    ghost use Rattle.std.specs.Prelude.{◌≡◌, ◌*◌, Some, None, option_map, IsOkAnd, IfOk, IfErr};
+    ghost use Rattle.std.specs.Prelude.{◌≡◌, ◌<◌, ◌≤◌, ◌*◌, ◌^◌, ℕ, Some, None, option_map, IsOkAnd, IfOk, IfErr};
     ghost use Rattle.capnp_model.specs.Accepted.{find_node};
     ghost use Rattle.capnp_units.specs.declared.kinds.ErrorKind.TheVariants.{FieldNotFound};
     ghost use Rattle.capnp_records.specs.NodeViews.{node_of, struct_of};
     ghost use Rattle.capnp_records.specs.Sets.{nodes_of, IsNodeOf};
-    ghost use Rattle.capnp_queries.specs.Fields.{union_in};
+    ghost use Rattle.capnp_queries.specs.Fields.{union_in, field_count};
     ghost use Rattle.capnp_queries.specs.Structs.{nodes_around, id_of, shape_of_struct, fields_of_struct, annotations_recorded, index_named, index_of_member, IsRecordOf, IsTabled};
     ghost use Rattle.capnp_queries.specs.Annotations.{AreAnnotations};
     ghost use Rattle.capnp_queries.specs.Handles.{IsFieldAt, AreMembers, AreOthers};
@@ -130,12 +129,17 @@ impl<'a> StructSchema<'a> {
         Ok(FieldSubset::new(self, others))
     }
 
-    fn find(self, name: &str) -> Option<Field<'a>>
-        ensures { IsFieldAt self.entry (index_named self.entry name.now) result }
+    /// The field of a name, and how many names were compared: at most as many as the number of fields has binary digits.
+    pub fn find_field_by_name_counted(&self, name: &str) -> (Option<Field<'a>>, u32)
+        ensures found { IsFieldAt self.now (index_named self.now name.now) result.0 }
+        ensures few { (digits : ℕ) → field_count (fields_of_struct self.now) < 2 ^ digits
+            → result.1 ≤ digits }
     {
-        match place_of(&self.record().fields, name) {
-            None => None,
-            Some(index) => Some(Field::new(self, index as u16)),
+        let by_name = self.set.field_tables(self.raw).by_name.as_slice();
+        let (place, compared) = place_of(&self.record().fields, by_name, name);
+        match place {
+            None => (None, compared),
+            Some(index) => (Some(Field::new(*self, index)), compared),
         }
     }
 
@@ -144,7 +148,7 @@ impl<'a> StructSchema<'a> {
         ensures { IsOkAnd result
             (λ found. IsFieldAt self.now (index_named self.now name.now) found) }
     {
-        Ok(self.find(name))
+        Ok(self.find_field_by_name_counted(name).0)
     }
 
     /// The field of a name. A name that the struct lacks is refused by `FieldNotFound`.
@@ -154,7 +158,7 @@ impl<'a> StructSchema<'a> {
         ensures missing { IfErr result (λ e.
             (e.kind ≡ FieldNotFound) × (index_named self.now name.now ≡ None)) }
     {
-        match self.find(name) {
+        match self.find_field_by_name_counted(name).0 {
             Some(field) => Ok(field),
             None => Err(Error::from(ErrorKind::FieldNotFound)),
         }
@@ -167,18 +171,6 @@ impl<'a> StructSchema<'a> {
     {
         Ok(AnnotationList::new(self.set, &self.set.struct_node(self.raw).annotations))
     }
-}
-
-/// The place of the first field of a name.
-fn place_of(fields: &[FieldRecord], name: &str) -> Option<usize>
-    ensures { result ≡ place_named name.now 0 (map field_of fields.now) }
-{
-    for i in 0..fields.len() {
-        if fields[i].name.as_str() == name {
-            return Some(i);
-        }
-    }
-    None
 }
 
 impl PartialEq for StructSchema<'_> {

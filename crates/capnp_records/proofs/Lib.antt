@@ -8,5 +8,6 @@ mod DistinctNames
 mod Below
 mod FoundNodes
 mod FieldTables
+mod ByName
 mod Holders
 mod OneMore

@@ -2,6 +2,7 @@
 #![tactic(auto)]
 
 mod area;
+mod by_name;
 mod check;
 mod defaults;
 pub mod fault;

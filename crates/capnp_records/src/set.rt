@@ -5,7 +5,7 @@ ghost use Rattle.std.specs.HashMap.{get};
 ghost use Rattle.std.proofs.Props.{props};
 ghost use Rattle.capnp_model.specs.Accepted.{IsAccepted};
 ghost use Rattle.capnp_records.specs.NodeViews.{node_of};
-ghost use Rattle.capnp_records.specs.Tables.{members_in, others_in, node_place};
+ghost use Rattle.capnp_records.specs.Tables.{members_in, others_in, AreNodesByName, node_place};
 
 use crate::check::check;
 use crate::fault::SchemaFault;
@@ -29,6 +29,7 @@ pub struct SchemaSet {
     pub ghost placed: { (id : ℕ) → get nat_eq places id ≡ node_place id 0 (map node_of nodes.items) } by { Prim.hlevel props },
     pub ghost members: { map (λ t. t.members.items) tables.items ≡ map (λ n. members_in n.kind) (map node_of nodes.items) } by { Prim.hlevel props },
     pub ghost others: { map (λ t. t.others.items) tables.items ≡ map (λ n. others_in n.kind) (map node_of nodes.items) } by { Prim.hlevel props },
+    pub ghost by_name: { AreNodesByName (map node_of nodes.items) tables.items } by { Prim.hlevel props },
 }
 
 impl SchemaSet {

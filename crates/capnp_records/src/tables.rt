@@ -3,10 +3,11 @@
 ghost use Rattle.std.specs.Prelude.{◌≡◌, ℕ, ◌≤◌, true, map, length, nat_eq, IfOk};
 ghost use Rattle.std.specs.List.{list_all};
 ghost use Rattle.std.specs.HashMap.{get};
-ghost use Rattle.capnp_model.specs.Accepted.{is_short};
+ghost use Rattle.capnp_model.specs.Accepted.{is_short, fields_of_kind};
 ghost use Rattle.capnp_records.specs.NodeViews.{field_of, node_kind, node_of};
-ghost use Rattle.capnp_records.specs.Tables.{members_from, others_from, members_in, others_in, node_place};
+ghost use Rattle.capnp_records.specs.Tables.{members_from, others_from, members_in, others_in, AreByName, AreNodesByName, node_place};
 
+use crate::by_name::places_by_name;
 use crate::node::{FieldRecord, NO_DISCRIMINANT, NodeBody, NodeRecord};
 use std::alloc::{AllocError, Global};
 use std::collections::HashMap;
@@ -18,6 +19,8 @@ pub struct FieldTables {
     pub members: Vec<u16>,
     /// Of the other fields, in order.
     pub others: Vec<u16>,
+    /// Of all fields, in the order of their names, which compare by bytes.
+    pub by_name: Vec<u16>,
 }
 
 fn members_of(alloc: Global, fields: &[FieldRecord], count: u16) -> Result<Vec<u16>, AllocError>
@@ -53,15 +56,19 @@ fn tables_of_node(alloc: Global, node: &NodeRecord) -> Result<FieldTables, Alloc
     requires { is_short (node_of node.now) ≡ true }
     ensures members { IfOk result (λ t. t.members.items ≡ members_in (node_kind node.now.body)) }
     ensures others { IfOk result (λ t. t.others.items ≡ others_in (node_kind node.now.body)) }
+    ensures by_name { IfOk result (λ t.
+        AreByName (fields_of_kind (node_kind node.now.body)) t.by_name.items) }
 {
     match &node.body {
         NodeBody::Struct(record) => Ok(FieldTables {
             members: members_of(alloc, &record.fields, record.discriminant_count)?,
             others: others_of(alloc, &record.fields)?,
+            by_name: places_by_name(alloc, &record.fields)?,
         }),
         NodeBody::Enum(_) => Ok(FieldTables {
             members: Vec::new(alloc),
             others: Vec::new(alloc),
+            by_name: Vec::new(alloc),
         }),
     }
 }
@@ -73,6 +80,7 @@ pub(crate) fn tables_of(alloc: Global, nodes: &[NodeRecord]) -> Result<Vec<Field
         ≡ map (λ n. members_in n.kind) (map node_of nodes.now)) }
     ensures others { IfOk result (λ v. map (λ t. t.others.items) v.items
         ≡ map (λ n. others_in n.kind) (map node_of nodes.now)) }
+    ensures by_name { IfOk result (λ v. AreNodesByName (map node_of nodes.now) v.items) }
 {
     let mut tables = Vec::new(alloc);
     for node in nodes {

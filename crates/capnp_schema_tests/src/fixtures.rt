@@ -27,6 +27,23 @@ pub(crate) const SCHEMAS: &str = r#"[
         {"name":"p","type":"AnyPointer","offset":0}]},
     {"id":7,"name":"E","enumerants":["red","green"]}]"#;
 
+/// A schema file of S (1), whose fields f0, f1 and so on, so many, are a byte each.
+pub(crate) fn many_fields_text(alloc: Global, count: u32) -> Result<String, Fail> {
+    let mut text = String::from_str(
+        alloc,
+        r#"[{"id":1,"name":"S","data":8192,"pointers":0,"fields":["#,
+    )?;
+    for offset in 0..count {
+        let comma = if offset == 0 { "" } else { "," };
+        let field = format!(in alloc;
+            "{comma}{{\"name\":\"f{offset}\",\"type\":\"UInt8\",\"offset\":{offset}}}"
+        )?;
+        text.push_str(field.as_str())?;
+    }
+    text.push_str("]}]")?;
+    Ok(text)
+}
+
 /// The nodes of a schema file.
 pub(crate) fn nodes_of(alloc: Global, text: &str) -> Result<Vec<NodeRecord>, Fail> {
     Ok(

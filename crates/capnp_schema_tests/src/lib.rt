@@ -8,6 +8,8 @@ mod fixtures;
 #[cfg(test)]
 mod keys;
 #[cfg(test)]
+mod lookups;
+#[cfg(test)]
 mod own_type;
 #[cfg(test)]
 mod rules;

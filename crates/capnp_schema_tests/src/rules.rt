@@ -1,5 +1,5 @@
 //! Rules that no schema file can break: defaults of other sorts, annotations, and too many fields.
-use crate::fixtures::nodes_of;
+use crate::fixtures::{many_fields_text, nodes_of};
 use capnp_records::fault::SchemaFault;
 use capnp_records::node::{
     AnnotationRecord, BaseType, FieldBody, NodeBody, NodeRecord, TypeRecord, Value,
@@ -236,18 +236,7 @@ fn annotations_are_canonical(rt: HostRuntime) -> Result<(), Fail> {
 
 /// What is answered to a struct of so many bytes, each a field.
 fn fault_of_many(alloc: Global, count: u32) -> Result<Option<SchemaFault>, Fail> {
-    let mut text = String::from_str(
-        alloc,
-        r#"[{"id":1,"name":"S","data":8192,"pointers":0,"fields":["#,
-    )?;
-    for offset in 0..count {
-        let comma = if offset == 0 { "" } else { "," };
-        let field = format!(in alloc;
-            "{comma}{{\"name\":\"f{offset}\",\"type\":\"UInt8\",\"offset\":{offset}}}"
-        )?;
-        text.push_str(field.as_str())?;
-    }
-    text.push_str("]}]")?;
+    let text = many_fields_text(alloc, count)?;
     Ok(SchemaSet::new(nodes_of(alloc, text.as_str())?).err())
 }
 
