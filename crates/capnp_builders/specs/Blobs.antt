@@ -17,9 +17,14 @@ use Rattle.capnp_object.specs.Objects.{object_at}
 use Rattle.capnp_wire.specs.Places.{place_view}
 use Rattle.capnp_wire.specs.Views.{section_at}
 use Rattle.capnp_copy.specs.declared.bytes.BlobPlace.{BlobPlace}
+use Rattle.capnp_copy.specs.Bytes.{HasBytes}
 use Rattle.capnp_copy.specs.States.{ArenaState}
 use Rattle.capnp_copy.specs.Values.{Becomes, LeadsTo}
 use Rattle.capnp_builders.specs.Gets.{Begins, Gets}
+
+-- Such bytes lie there, and this holds of them.
+abbrev pub HoldsOfBytes : Segments → BlobPlace → (List ℕ → Type 0) → Type 0
+HoldsOfBytes s o P = (bytes : List ℕ) × HasBytes s o bytes × P bytes
 
 -- The bytes of a list of bytes that an object is, none of null.
 abbrev pub blob_of_object : Object → Result (Option BlobPlace) Kind

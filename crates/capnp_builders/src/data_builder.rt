@@ -6,6 +6,7 @@ ghost use Rattle.capnp_copy.specs.Bytes.{HasBytes, SetsBytes};
 
 use capnp_copy::arena::{BuilderArena, Memory};
 use capnp_copy::bytes::{BlobPlace, get_bytes, set_bytes};
+use std::fmt;
 
 /// Data that are built, where their bytes lie in an arena.
 #[derive(Drop)]
@@ -90,5 +91,13 @@ impl<'a, A: BuilderArena> DataBuilder<'a, A> {
     {
         let place = self.place;
         set_bytes(&mut self.memory.arena, place, index, &[byte]);
+    }
+}
+
+/// Writes the bytes as Rust does those of a slice.
+impl<A: BuilderArena> fmt::Debug for DataBuilder<'_, A> {
+    fn fmt<W: fmt::Write>(&self, f: &mut fmt::Formatter<W>) -> fmt::Result {
+        let bytes = self.as_bytes();
+        write!(f, "{bytes:?}")
     }
 }

@@ -17,7 +17,7 @@ use capnp_copy::arena::{BuilderArena, Memory};
 use capnp_copy::elements::{first_element, get_element, set_element};
 use capnp_copy::fields::StructPlace;
 use capnp_copy::init::ListPlace;
-use capnp_units::sizes::data_bits_per_element;
+use capnp_units::sizes::{ElementSize, data_bits_per_element};
 use capnp_units::units::ElementCount32;
 use capnp_wire::list::ListReader;
 use capnp_wire::place::Place;
@@ -96,6 +96,13 @@ impl<'a, A: BuilderArena> ListBuilder<'a, A> {
         ensures { result ≡ (self.now.place.count == 0) }
     {
         self.place.count == 0
+    }
+
+    /// The size of the elements: `InlineComposite` for a list of structs.
+    pub fn element_size(&self) -> ElementSize
+        ensures { result ≡ self.now.place.size }
+    {
+        self.place.size
     }
 
     /// An element of a list of plain elements, by its index: the value in its lowest bits. It is one of the list's, and has as many.

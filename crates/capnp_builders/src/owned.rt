@@ -24,7 +24,7 @@ use crate::struct_builder::StructBuilder;
 use crate::text_builder::TextBuilder;
 use capnp_copy::arena::BuilderArena;
 use capnp_copy::clear::clear;
-use capnp_text::data;
+use capnp_text::{data, text};
 use capnp_units::errors::Result;
 use capnp_units::sizes::Word;
 use capnp_wire::traits::{FromPointerReader, HasStructSize, IntoInternalStructReader};
@@ -247,6 +247,13 @@ impl<'a, A: BuilderArena + 'a> Owned<'a, A> for data::Owned {
     type Reader = &'a [u8];
 
     type Builder = DataBuilder<'a, A>;
+}
+
+/// Texts are read as their bytes without the zero byte.
+impl<'a, A: BuilderArena + 'a> Owned<'a, A> for text::Owned {
+    type Reader = text::Reader<'a>;
+
+    type Builder = TextBuilder<'a, A>;
 }
 
 /// A type of structs, with what they are read and built as.

@@ -1,7 +1,7 @@
 //! Structs that are built.
-ghost use Rattle.std.specs.Prelude.{◌≡◌, ◌+◌, ◌*◌, ◌<◌, ◌≤◌, ◌^◌, ◌==◌, bit_xor, length, map};
+ghost use Rattle.std.specs.Prelude.{◌≡◌, ◌+◌, ◌*◌, ◌<◌, ◌≤◌, ◌^◌, ◌==◌, bit_xor, length, map, unwrap_or};
 ghost use Rattle.std.specs.Borrow.{sem};
-ghost use Rattle.capnp_model.specs.Segments.{after};
+ghost use Rattle.capnp_model.specs.Segments.{after, word_at};
 ghost use Rattle.capnp_units.specs.Segments.{words_in};
 ghost use Rattle.capnp_wire.specs.Places.{place_view};
 ghost use Rattle.capnp_wire.specs.Views.{bit_of_bool, seen_struct, struct_at};
@@ -14,7 +14,7 @@ use capnp_copy::bits::{bit_of, bits_of, number_in};
 use capnp_copy::fields::{StructPlace, bit_at, get_bits, set_bits};
 use capnp_units::primitive::{Mask, Primitive};
 use capnp_units::units::{ElementCount, WirePointerCount};
-use capnp_wire::place::Place;
+use capnp_wire::place::{Place, word_at};
 use capnp_wire::structs::StructReader;
 
 /// The struct at a place, to read.
@@ -99,6 +99,23 @@ impl<'a, A: BuilderArena> StructBuilder<'a, A> {
             position: start.position + place.data_words as usize + ptr_index,
         };
         PointerBuilder { memory, place }
+    }
+
+    /// Whether a pointer of the struct is null, a word of zeros, by its index. It is one of the struct's.
+    pub fn is_pointer_field_null(&self, ptr_index: WirePointerCount) -> bool
+        requires near { self.now.place.start.position +
+            (self.now.place.data_words + self.now.place.pointers) < 2 ^ 61 }
+        requires inside { ptr_index < self.now.place.pointers }
+        ensures { let o = self.now.place in
+            result ≡ (unwrap_or (word_at (words_in (A.segments self.now.memory.now.arena))
+            (after (after (place_view o.start) o.data_words) ptr_index)) 0 == 0) }
+    {
+        let start = self.place.start;
+        let place = Place {
+            segment: start.segment,
+            position: start.position + self.place.data_words as usize + ptr_index,
+        };
+        word_at(&self.memory.arena, place).unwrap_or(0) == 0
     }
 
     /// A number of the data section, counted in its own width. The field lies in the section.

@@ -1,12 +1,20 @@
 //! Texts that are built.
-ghost use Rattle.std.specs.Prelude.{◌≡◌, ◌∷◌, [], ◌+◌, ◌<◌, ◌≤◌, ◌^◌, ◌==◌, length, map, replicate};
+ghost use Rattle.std.specs.Prelude.{◌≡◌, ◌∷◌, [], ◌+◌, ◌<◌, ◌≤◌, ◌^◌, ◌==◌, length, map, nat_eq, replicate, string_bytes, IfOk};
 ghost use Rattle.std.specs.Borrow.{sem};
+ghost use Rattle.std.specs.Cmp.Lexicographic.{pointwise, slice_cmp};
+ghost use Rattle.std.specs.Ordering.{nat_cmp};
 ghost use Rattle.capnp_units.specs.Segments.{words_in};
+ghost use Rattle.capnp_text.specs.Texts.{IsText, IsTextIfAny};
 ghost use Rattle.capnp_copy.specs.Bytes.{HasBytes, SetsBytes};
+ghost use Rattle.capnp_builders.specs.Blobs.{HoldsOfBytes};
 
 use capnp_copy::arena::{BuilderArena, Memory};
 use capnp_copy::bytes::{BlobPlace, get_bytes, set_bytes, zero_bytes};
 use capnp_text::text::Reader;
+use std::alloc::{AllocError, Global};
+use std::cmp::Ordering;
+use std::fmt;
+use std::str::Utf8Error;
 
 /// A text that is built, where its bytes lie in an arena, with a position in bytes at which pushes write. The text has all of its bytes, those behind the position too; the zero byte at its end is none of them.
 #[derive(Drop)]
@@ -55,6 +63,38 @@ impl<'a, A: BuilderArena> TextBuilder<'a, A> {
             result.now }
     {
         get_bytes(&self.memory.arena, self.place)
+    }
+
+    /// The text as a `str`, lent in place. It is refused where the bytes aren't UTF-8.
+    pub fn to_str(&self) -> Result<&str, Utf8Error>
+        ensures { HoldsOfBytes (words_in (A.segments self.now.memory.now.arena)) self.now.place
+            (λ bytes. IsText (λ text. text.now) bytes result) }
+    {
+        self.reborrow_as_reader().to_str()
+    }
+
+    /// The text as a `String`, or none where the bytes aren't UTF-8. It is refused for want of memory alone.
+    pub fn to_string(&self, alloc: Global) -> Result<Option<String>, AllocError>
+        ensures { HoldsOfBytes (words_in (A.segments self.now.memory.now.arena)) self.now.place
+            (λ bytes. IfOk result (IsTextIfAny string_bytes bytes)) }
+    {
+        self.reborrow_as_reader().to_string(alloc)
+    }
+
+    /// Whether the text has just the bytes of a `str`.
+    pub fn eq_str(&self, other: &str) -> bool
+        ensures { HoldsOfBytes (words_in (A.segments self.now.memory.now.arena)) self.now.place
+            (λ bytes. result ≡ pointwise nat_eq bytes other.now) }
+    {
+        self.reborrow_as_reader().eq_str(other)
+    }
+
+    /// How the text compares with a `str`: by the first bytes that differ, else by length.
+    pub fn cmp_str(&self, other: &str) -> Ordering
+        ensures { HoldsOfBytes (words_in (A.segments self.now.memory.now.arena)) self.now.place
+            (λ bytes. result ≡ slice_cmp nat_cmp bytes other.now) }
+    {
+        self.reborrow_as_reader().cmp_str(other)
     }
 
     /// The text, to read for a while.
@@ -145,5 +185,15 @@ impl<'a, A: BuilderArena> TextBuilder<'a, A> {
         let place = self.place;
         zero_bytes(&mut self.memory.arena, place);
         self.position = 0;
+    }
+}
+
+/// Writes a text as Rust does, between quotes.
+impl<A: BuilderArena> fmt::Debug for TextBuilder<'_, A> {
+    fn fmt<W: fmt::Write>(&self, f: &mut fmt::Formatter<W>) -> fmt::Result {
+        match std::str::from_utf8(self.as_bytes()) {
+            Ok(text) => write!(f, "{text:?}"),
+            Err(_) => f.write_str("<invalid utf-8>"),
+        }
     }
 }
