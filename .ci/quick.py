@@ -1,5 +1,6 @@
 #!/usr/bin/env python3
-"""Refuses in seconds what would fail the gate after an hour: files out of layout, edits that no longer apply, dead links.
+"""Refuses in seconds what would fail the gate after an hour: files out of layout, edits that no longer apply, dead links,
+dependencies that nothing cites.
 
 usage: quick.py    (at the top of the repository)
 
@@ -33,10 +34,17 @@ def files_below(folder):
             yield os.path.join(at, name)
 
 
+def listed_lines():
+    """The crates that crates.txt names, each with the crates that it uses."""
+    for line in text_of("crates.txt").splitlines():
+        head, _, uses = line.split("#")[0].partition(":")
+        if head.strip():
+            yield head.split()[0], uses.split()
+
+
 def listed_crates():
     """The crates that crates.txt names."""
-    lines = [line.split("#")[0].strip() for line in text_of("crates.txt").splitlines()]
-    return [line.split(":")[0].split()[0] for line in lines if line]
+    return [crate for crate, _ in listed_lines()]
 
 
 def faults_of_crates(crates):
@@ -45,6 +53,16 @@ def faults_of_crates(crates):
     yield from (f"crates.txt: {it} is listed twice" for it in set(crates) if crates.count(it) > 1)
     yield from (f"crates.txt: crates/{it} is not there" for it in sorted(set(crates) - there))
     yield from (f"crates/{it} is not in crates.txt" for it in sorted(there - set(crates)))
+
+
+def faults_of_uses():
+    """Crates that a line of crates.txt names and no file of its crate cites."""
+    for crate, uses in listed_lines():
+        paths = [it for part in PARTS for it in files_below(f"crates/{crate}/{part}") if it.endswith((".rt", ".antt"))]
+        text = "\n".join(map(text_of, paths))
+        for used in uses:
+            if not re.search(rf"\b{used}::|\bRattle\.{used}\.", text):
+                yield f"crates.txt: no file of {crate} cites {used}"
 
 
 def fault_of_edit(crate, path):
@@ -154,7 +172,8 @@ def faults_of_layout(crate, room):
 
 def main():
     crates = listed_crates()
-    found = [*faults_of_crates(crates), *faults_of_edits(crates), *faults_of_links(), *faults_of_samples(), *faults_of_named_tests(), *faults_of_lengths(crates)]
+    found = [*faults_of_crates(crates), *faults_of_uses(), *faults_of_edits(crates), *faults_of_links(), *faults_of_samples()]
+    found += [*faults_of_named_tests(), *faults_of_lengths(crates)]
     with tempfile.TemporaryDirectory() as room:
         shutil.copy("crates.txt", room)
         with concurrent.futures.ThreadPoolExecutor(os.cpu_count()) as pool:

@@ -24,12 +24,10 @@ use capnp_widening::struct_lists::get_struct_list;
 use capnp_widening::structs::get_struct;
 use capnp_wire::place::Place;
 
-/// Puts a copy of a default, where there is one, in place of null, as `write_default`.
-pub(crate) fn begin<A: BuilderArena>(
-    arena: &mut A,
-    slot: Place,
-    default: Option<&[Word]>,
-) -> Result<()>
+/// Puts a copy of a default, where there is one, in place of null, as `write_default`; for gets over places.
+///
+/// With no default nothing happens. It is refused as `write_default` is; then all words stand as they were, and new ones are zero.
+pub fn begin<A: BuilderArena>(arena: &mut A, slot: Place, default: Option<&[Word]>) -> Result<()>
     requires there { HasWords (A.segments arena.old) slot 1 }
     requires near { slot.position < 2 ^ 61 }
     ensures begins { Begins (option_copied default.entry) (words_in (A.segments arena.old))

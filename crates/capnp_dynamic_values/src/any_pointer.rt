@@ -14,8 +14,8 @@ ghost use Rattle.capnp_wire.specs.ValueSizes.{PointerSize};
 ghost use Rattle.capnp_values.specs.Sources.{WithoutLimit, pointer_seen};
 ghost use Rattle.capnp_dynamic_values.specs.Untyped.{IsPointerThere, IsReady, Clears, IsMadeNull, IsGotAsItIs, LeavesAs, is_null, pointer_of, words_around};
 
-use crate::default::begin;
 use crate::inputs::PointerInput;
+use capnp_builders::gets::begin;
 use capnp_builders::owned;
 use capnp_builders::owned::FromPointerBuilder;
 use capnp_builders::pointer_builder::PointerBuilder;

@@ -7,15 +7,12 @@ ghost use Rattle.capnp_units.specs.Segments.{words_in};
 ghost use Rattle.capnp_wire.specs.Places.{place_view};
 ghost use Rattle.capnp_records.specs.NodeViews.{value_of};
 ghost use Rattle.capnp_copy_from.specs.Defaults.{is_null_at};
-ghost use Rattle.capnp_builders.specs.Gets.{Begins};
 ghost use Rattle.capnp_dynamic_values.specs.Defaults.{default_bytes, BytesBegin, BytesNotBegun};
 
 use capnp_copy::arena::BuilderArena;
 use capnp_copy::blobs::{set_data, set_text};
-use capnp_copy_from::defaults::write_default;
 use capnp_records::node::Value;
 use capnp_units::errors::Result;
-use capnp_units::sizes::Word;
 use capnp_wire::place::{Place, word_at};
 
 /// Whether the pointer at a place is null, or not there.
@@ -23,25 +20,6 @@ fn is_null<A: BuilderArena>(arena: &A, slot: Place) -> bool
     ensures { result ≡ is_null_at (words_in (A.segments arena.now)) (place_view slot) }
 {
     word_at(arena, slot).unwrap_or(0) == 0
-}
-
-/// Puts a copy of a default, where there is one, in place of null, as `write_default`.
-pub(crate) fn begin<A: BuilderArena>(
-    arena: &mut A,
-    slot: Place,
-    default: Option<&[Word]>,
-) -> Result<()>
-    requires there { is_some (words_at (words_in (A.segments arena.old)) (place_view slot) 1)
-        ≡ true }
-    requires near { slot.position < 2 ^ 61 }
-    ensures begins { Begins (option_copied default.entry) (words_in (A.segments arena.old))
-        (words_in (A.segments arena.new)) (place_view slot) result }
-    ensures books { A.books arena.new ≡ A.books arena.old }
-{
-    match default {
-        None => Ok(()),
-        Some(words) => write_default(arena, slot, words),
-    }
 }
 
 /// Puts the default of a text or of data, where there is one, in place of null. It is refused as `set_text` and `set_data` are; then all words stand.

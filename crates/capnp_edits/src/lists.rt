@@ -7,14 +7,14 @@ ghost use Rattle.capnp_model.specs.Segments.{words_at};
 ghost use Rattle.capnp_units.specs.Segments.{words_in};
 ghost use Rattle.capnp_wire.specs.Places.{place_view};
 ghost use Rattle.capnp_records.specs.Sets.{nodes_of};
-ghost use Rattle.capnp_builders.specs.Gets.{Begins, Gets};
+ghost use Rattle.capnp_builders.specs.Gets.{Gets};
 ghost use Rattle.capnp_queries.specs.Types.{ty_of, is_type_of};
 ghost use Rattle.capnp_dynamic.specs.Grown.{GrowsBehind};
 ghost use Rattle.capnp_edits.specs.Elements.{ListBehind};
 
+use capnp_builders::gets::begin;
 use capnp_copy::arena::BuilderArena;
 use capnp_copy::init::ListPlace;
-use capnp_copy_from::defaults::write_default;
 use capnp_dynamic::init::{struct_of_type, struct_size};
 use capnp_footprints::laws::{changes_of_values, changes_with_more_levels};
 use capnp_queries::introspect::Type;
@@ -24,21 +24,6 @@ use capnp_units::sizes::Word;
 use capnp_widening::lists::get_list;
 use capnp_widening::struct_lists::get_struct_list;
 use capnp_wire::place::Place;
-
-/// Puts a copy of a default, where there is one, in place of null, as `write_default`.
-fn begin<A: BuilderArena>(arena: &mut A, slot: Place, default: Option<&[Word]>) -> Result<()>
-    requires there { is_some (words_at (words_in (A.segments arena.old)) (place_view slot) 1)
-        ≡ true }
-    requires near { slot.position < 2 ^ 61 }
-    ensures begins { Begins (option_copied default.entry) (words_in (A.segments arena.old))
-        (words_in (A.segments arena.new)) (place_view slot) result }
-    ensures books { A.books arena.new ≡ A.books arena.old }
-{
-    match default {
-        None => Ok(()),
-        Some(words) => write_default(arena, slot, words),
-    }
-}
 
 /// Readies the list of elements of a type behind a pointer: a null pointer gets the default, and where the elements are structs, the list becomes one of structs of their schema's sizes.
 fn begin_list<A: BuilderArena>(
