@@ -4,6 +4,7 @@ use capnp_layout::{
     StructBuilder, StructPlace, TextBuilder, has_words,
 };
 use capnp_message::message::{Builder, HeapAllocator, StructSize, root_of, with_message};
+use capnp_schema::any_pointer;
 use std::test::Fail;
 
 /// Positions that are too far for a handle.
@@ -17,9 +18,19 @@ fn nulls(message: &mut Builder<HeapAllocator>) -> Result<(bool, bool, bool)> {
     Ok((lent, read, root.into_reader().reborrow().is_null()))
 }
 
+/// The same of an untyped pointer, and the words of its value.
+fn untyped_nulls(message: &mut Builder<HeapAllocator>) -> Result<(bool, u64, bool)> {
+    let mut root = any_pointer::Builder::new(root_of(&mut message.memory)?);
+    let lent = root.reborrow().is_null();
+    let words = root.target_size()?.word_count;
+    let read = root.reborrow_as_reader().is_null();
+    Ok((lent, words, read && root.into_reader().is_null()))
+}
+
 #[test]
 fn pointers_are_lent(rt: HostRuntime) -> std::result::Result<(), Fail> {
     assert!(rt; with_message(rt.alloc(), nulls)? == (true, true, true));
+    assert!(rt; with_message(rt.alloc(), untyped_nulls)? == (true, 0, true));
     Ok(())
 }
 
