@@ -2,7 +2,8 @@
 use Rattle.std.proofs.Common.{◌≡◌, ◌≤◌, ◌++◌, ℕ, List, [], ◌∷◌, length, refl, sym, subst, arith}
 use Rattle.std.specs.List.{flat_map}
 
-nothing : {X : Type 0} → X → List ℕ
+-- What an item is lent.
+abbrev pub nothing : {X : Type 0} → X → List ℕ
 nothing x = []
 
 no_loans : {X : Type 0} (xs : List X) → flat_map nothing xs ≡ []
