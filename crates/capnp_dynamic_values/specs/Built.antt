@@ -1,10 +1,11 @@
 -- Values that are built, by where they lie. (Encoding, "Structs", "Lists", "Blobs")
-use Rattle.std.specs.Prelude.{◌≡◌, ◌<◌, ◌^◌, ℕ, ℤ, true, List, Option, Some, None}
+use Rattle.std.specs.Prelude.{◌≡◌, ◌<◌, ◌^◌, ℕ, ℤ, Bool, true, false, List, Option, Some, None}
 use Rattle.std.specs.Borrow.{MutBor}
 use Rattle.capnp_model.specs.Segments.{Segments}
 use Rattle.capnp_model.specs.Accepted.{schema_of}
 use Rattle.capnp_units.specs.Segments.{words_in}
 use Rattle.capnp_copy.specs.Bytes.{HasBytes}
+use Rattle.capnp_copy.specs.declared.bytes.BlobPlace.{BlobPlace}
 use Rattle.capnp_copy.specs.declared.arena.Memory.{Memory}
 use Rattle.capnp_records.specs.Sets.{nodes_of}
 use Rattle.capnp_queries.specs.Structs.{shape_of_struct}
@@ -99,10 +100,23 @@ IsPlaced s (placed.List part) = IsListPlaced s part
 IsPlaced s (placed.AnyPointer p) = IsPointerThere s p
 IsPlaced s (placed.Capability c) = Unit {0}
 
+-- The byte from which a text is written: the first where it was begun, else the one behind its last.
+abbrev pub text_start : Bool → BlobPlace → ℕ
+text_start true o = 0
+text_start false o = o.count
+
+-- A text is written from there on.
+abbrev pub IsWrittenFrom : {A : Type 0} → Bool → Builder A → Type 0
+IsWrittenFrom begun (value.Text t) = t.position ≡ text_start begun t.place
+IsWrittenFrom begun _ = Unit {0}
+
+-- A text is written from its first byte on.
+abbrev pub IsAtStart : {A : Type 0} → Builder A → Type 0
+IsAtStart v = IsWrittenFrom true v
+
 -- A text is written from its end on.
 abbrev pub IsAtEnd : {A : Type 0} → Builder A → Type 0
-IsAtEnd (value.Text t) = t.position ≡ t.place.count
-IsAtEnd _ = Unit {0}
+IsAtEnd v = IsWrittenFrom false v
 
 module _ {A : Type 0} (bytes : A → List (List ℕ)) where
   -- What a value lies at is there, in the memory that it holds.

@@ -1,5 +1,8 @@
 -- What the variants of values that are built hold.
-use Rattle.std.specs.Prelude.{Option, Some, None}
+use Rattle.std.specs.Prelude.{Bool, false, Option, Some, None}
+use Rattle.capnp_model.specs.Schemas.{Ty}
+use Rattle.capnp_queries.specs.Structs.{id_of}
+use Rattle.capnp_values.specs.Variants.{is_struct_of}
 use Rattle.capnp_builders.specs.declared.text_builder.TextBuilder.{TextBuilder}
 use Rattle.capnp_builders.specs.declared.data_builder.DataBuilder.{DataBuilder}
 use Rattle.capnp_values.specs.declared.dynamic_value.Enum.{Enum}
@@ -38,3 +41,7 @@ struct_in _ = None
 abbrev pub untyped_in : {A : Type 0} → Builder A → Option (Untyped A)
 untyped_in (value.AnyPointer x) = Some x
 untyped_in _ = None
+
+-- The value is a struct of the type, by its id.
+abbrev pub fits_struct : {A : Type 0} → Ty → Builder A → Bool
+fits_struct ty v = elim (struct_in v) [ None ↦ false | Some b ↦ is_struct_of (id_of b.schema) ty ]

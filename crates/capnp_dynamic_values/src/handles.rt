@@ -1,29 +1,35 @@
 //! Handles of values that were got, and what these are read as.
 ghost use Rattle.std.specs.Prelude.{◌≡◌, IfSome, is_some, true};
 ghost use Rattle.capnp_units.specs.Segments.{words_in};
-ghost use Rattle.capnp_dynamic_values.specs.Built.{memory_in, placed_of, IsPlaced, IsReady, IsAtEnd, ReadsAs};
+ghost use Rattle.capnp_dynamic_values.specs.Built.{memory_in, placed_of, IsPlaced, IsReady, IsAtStart, IsAtEnd, IsWrittenFrom, ReadsAs, text_start};
 
-use crate::any_pointer;
 use crate::downcast::DowncastBuilder;
 use crate::dynamic_value::Builder;
 use crate::placed::{ListPart, Placed};
+use crate::{any_pointer, callers};
 use capnp_builders::data_builder::DataBuilder;
+use capnp_builders::owned::OwnedStruct;
 use capnp_builders::text_builder::TextBuilder;
 use capnp_copy::arena::{BuilderArena, Memory};
 use capnp_copy::bytes::BlobPlace;
 use capnp_dynamic::dynamic_struct;
 use capnp_dynamic::init::Part;
 use capnp_dynamic_lists::dynamic_list;
+use capnp_queries::introspect::Introspect;
 use capnp_values::dynamic_value::Reader;
 use capnp_wire::place::Place;
 
-/// A text, to write from its end on.
-fn text_at<'a, A: BuilderArena>(memory: &'a mut Memory<A>, place: BlobPlace) -> TextBuilder<'a, A>
+/// A text, to write from its first byte on where it was begun, else from its end on.
+fn text_at<'a, A: BuilderArena>(
+    memory: &'a mut Memory<A>,
+    place: BlobPlace,
+    begun: bool,
+) -> TextBuilder<'a, A>
     ensures same { result.memory.ghost_name ≡ memory.entry.ghost_name }
     ensures now { result.memory.now ≡ memory.old }
-    ensures place { (result.place ≡ place) × (result.position ≡ place.count) }
+    ensures place { (result.place ≡ place) × (result.position ≡ text_start begun place) }
 {
-    let position = place.count as usize;
+    let position = if begun { 0 } else { place.count as usize };
     TextBuilder {
         memory,
         place,
@@ -72,6 +78,40 @@ fn list_at<'a, A: BuilderArena>(
     }
 }
 
+/// A value of a message, to write; a text that was begun from its first byte on, any other from its end on.
+fn value_at<'a, A: BuilderArena>(
+    memory: &'a mut Memory<A>,
+    placed: Placed<'a>,
+    begun: bool,
+) -> Builder<'a, A>
+    requires there { IsPlaced (words_in (A.segments memory.old.arena)) placed }
+    ensures same { IfSome (memory_in result) (λ m. m.ghost_name ≡ memory.entry.ghost_name) }
+    ensures now { IfSome (memory_in result) (λ m. m.now ≡ memory.old) }
+    ensures placed { placed_of result ≡ placed.entry }
+    ensures position { IsWrittenFrom begun result }
+    ensures ready { IsReady A.segments result }
+{
+    match placed {
+        Placed::Void => Builder::Void,
+        Placed::Bool(value) => Builder::Bool(value),
+        Placed::Int8(value) => Builder::Int8(value),
+        Placed::Int16(value) => Builder::Int16(value),
+        Placed::Int32(value) => Builder::Int32(value),
+        Placed::Int64(value) => Builder::Int64(value),
+        Placed::UInt8(value) => Builder::UInt8(value),
+        Placed::UInt16(value) => Builder::UInt16(value),
+        Placed::UInt32(value) => Builder::UInt32(value),
+        Placed::UInt64(value) => Builder::UInt64(value),
+        Placed::Enum(value) => Builder::Enum(value),
+        Placed::Text(place) => Builder::Text(text_at(memory, place, begun)),
+        Placed::Data(place) => Builder::Data(DataBuilder { memory, place }),
+        Placed::Struct(part) => Builder::Struct(struct_at(memory, part)),
+        Placed::List(part) => Builder::List(list_at(memory, part)),
+        Placed::AnyPointer(place) => Builder::AnyPointer(any_pointer::Builder { memory, place }),
+        Placed::Capability(value) => Builder::Capability(value),
+    }
+}
+
 impl<'a, A: BuilderArena> Builder<'a, A> {
     /// A value of a message, to write: one that a `get` told, as long as it stays where it is. Of a plain value the memory isn't held. A text is written from its end on.
     pub fn new(memory: &'a mut Memory<A>, placed: Placed<'a>) -> Self
@@ -82,28 +122,19 @@ impl<'a, A: BuilderArena> Builder<'a, A> {
         ensures end { IsAtEnd result }
         ensures ready { IsReady A.segments result }
     {
-        match placed {
-            Placed::Void => Builder::Void,
-            Placed::Bool(value) => Builder::Bool(value),
-            Placed::Int8(value) => Builder::Int8(value),
-            Placed::Int16(value) => Builder::Int16(value),
-            Placed::Int32(value) => Builder::Int32(value),
-            Placed::Int64(value) => Builder::Int64(value),
-            Placed::UInt8(value) => Builder::UInt8(value),
-            Placed::UInt16(value) => Builder::UInt16(value),
-            Placed::UInt32(value) => Builder::UInt32(value),
-            Placed::UInt64(value) => Builder::UInt64(value),
-            Placed::Enum(value) => Builder::Enum(value),
-            Placed::Text(place) => Builder::Text(text_at(memory, place)),
-            Placed::Data(place) => Builder::Data(DataBuilder { memory, place }),
-            Placed::Struct(part) => Builder::Struct(struct_at(memory, part)),
-            Placed::List(part) => Builder::List(list_at(memory, part)),
-            Placed::AnyPointer(place) => Builder::AnyPointer(any_pointer::Builder {
-                memory,
-                place,
-            }),
-            Placed::Capability(value) => Builder::Capability(value),
-        }
+        value_at(memory, placed, false)
+    }
+
+    /// The same of a value that was just begun: a text is written from its first byte on.
+    pub fn begun(memory: &'a mut Memory<A>, placed: Placed<'a>) -> Self
+        requires there { IsPlaced (words_in (A.segments memory.old.arena)) placed }
+        ensures same { IfSome (memory_in result) (λ m. m.ghost_name ≡ memory.entry.ghost_name) }
+        ensures now { IfSome (memory_in result) (λ m. m.now ≡ memory.old) }
+        ensures placed { placed_of result ≡ placed.entry }
+        ensures start { IsAtStart result }
+        ensures ready { IsReady A.segments result }
+    {
+        value_at(memory, placed, true)
     }
 
     /// The value to read, of which no handle to write is left. Its pointers are followed under the arena's nesting limit.
@@ -142,5 +173,31 @@ impl<'a, A> Builder<'a, A> {
         ensures { T.variant self.entry ≡ Some result }
     {
         T::downcast_builder(self)
+    }
+}
+
+impl<'a, A: BuilderArena + 'a> Builder<'a, A> {
+    ghost use Rattle.capnp_dynamic_values.specs.Variants.{fits_struct, struct_in};
+
+    /// Whether the value is a struct that can be handed on as a caller's type: its schema's id is that of the type.
+    pub fn fits_struct<T: Introspect>(&self) -> bool
+        ensures { result ≡ fits_struct T.ty self.now }
+    {
+        match self {
+            Builder::Struct(inner) => callers::fits_struct::<T, A>(inner),
+            _ => false,
+        }
+    }
+
+    /// The struct as a caller's type, which `fits_struct` tells: the type's handle is made from the struct where it lies.
+    pub fn downcast_struct<T: OwnedStruct<'a, A> + Introspect>(self) -> T::Builder
+        requires { fits_struct T.ty self ≡ true }
+        ensures { IfSome (struct_in self.entry) (λ b.
+            T.Builder.from_gives (record { memory = b.memory; place = b.place }) result) }
+    {
+        let Builder::Struct(inner) = self else {
+            unreachable!()
+        };
+        callers::downcast_struct::<A, T>(inner)
     }
 }

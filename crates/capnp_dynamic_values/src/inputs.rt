@@ -9,19 +9,20 @@ ghost use Rattle.capnp_units.specs.declared.errors.Error.{Error};
 ghost use Rattle.capnp_object.specs.declared.place.Place as code;
 ghost use Rattle.capnp_wire.specs.Places.{place_view};
 ghost use Rattle.capnp_wire.specs.Views.{seen_pointer};
-ghost use Rattle.capnp_builders.specs.Copied.{CopiesPointer};
-ghost use Rattle.capnp_values.specs.Sources.{WithoutLimit, pointer_seen};
+ghost use Rattle.capnp_builders.specs.Copied.{CopiesPointer, SetsStruct, SetsList};
+ghost use Rattle.capnp_values.specs.Sources.{WithoutLimit, pointer_seen, struct_seen, list_seen};
 ghost use Rattle.capnp_dynamic_values.specs.Inputs.{PutsBytes};
 
 use crate::any_pointer::Owned;
 use capnp_builders::pointer_builder::PointerBuilder;
 use capnp_copy::arena::{BuilderArena, Memory};
 use capnp_copy::blobs::{set_data, set_text};
+use capnp_dynamic::values::{Source, put_source};
 use capnp_text::{data, text};
 use capnp_units::errors::Result;
 use capnp_units::limiter::ReadLimiter;
-use capnp_values::any_pointer;
 use capnp_values::source::PointerSource;
+use capnp_values::{any_pointer, dynamic_list, dynamic_struct};
 use capnp_wire::arena::ReaderArena;
 use capnp_wire::place::Place;
 use capnp_wire::pointer::PointerReader;
@@ -127,5 +128,33 @@ impl<B: ReaderArena> PointerInput<Owned> for any_pointer::Reader<'_, B> {
                 put_pointer(memory, place, &mut unlimited, pointer)
             }
         }
+    }
+}
+
+/// A struct, of a message or of a default, whatever its schema: its data in whole words and the values of its pointers, under no limit of words. It is refused as `PointerBuilder::set_struct` refuses; then all words stand, and new ones are zero.
+impl<B: ReaderArena> PointerInput<Owned> for dynamic_struct::Reader<'_, B> {
+    ghost sets = { λ v s u p. WithoutLimit
+        (SetsStruct (struct_seen B.segments v.source) s u (place_view p)) };
+
+    fn set_at<A: BuilderArena>(
+        memory: &mut Memory<A>,
+        place: Place,
+        value: dynamic_struct::Reader<'_, B>,
+    ) -> Result<()> {
+        put_source(memory, place, Source::Struct(value.source()))
+    }
+}
+
+/// A list, of a message or of a default, whatever its type: one of structs is copied whole. It is refused as `PointerBuilder::set_list` refuses, under no limit of words; then all words stand, and new ones are zero.
+impl<B: ReaderArena> PointerInput<Owned> for dynamic_list::Reader<'_, B> {
+    ghost sets = { λ v s u p. WithoutLimit
+        (SetsList (list_seen B.segments v.source) s u (place_view p)) };
+
+    fn set_at<A: BuilderArena>(
+        memory: &mut Memory<A>,
+        place: Place,
+        value: dynamic_list::Reader<'_, B>,
+    ) -> Result<()> {
+        put_source(memory, place, Source::List(value.source()))
     }
 }

@@ -16,6 +16,7 @@ pub use capnp_canonical_builders::copy::copy_canonical_from;
 pub use capnp_canonical_builders::sets::{set_list_canonical, set_struct_canonical};
 pub use capnp_copy::allocator::{Allocator, SegmentBytes};
 pub use capnp_copy::arena::{BuilderArena, Memory};
+pub use capnp_copy::bytes::BlobPlace;
 pub use capnp_copy::fields::StructPlace;
 pub use capnp_copy::init::ListPlace;
 pub use capnp_copy::segments::BuilderArenaImpl;
@@ -34,7 +35,7 @@ pub use capnp_units::sizes::{
 pub use capnp_units::units;
 pub use capnp_wire::arena::{NullArena, ReaderArena, ReaderArenaImpl};
 pub use capnp_wire::list::ListReader;
-pub use capnp_wire::place::Place;
+pub use capnp_wire::place::{Place, ROOT, has_words};
 pub use capnp_wire::pointer::PointerReader;
 pub use capnp_wire::structs::StructReader;
 pub use capnp_wire::traits::{

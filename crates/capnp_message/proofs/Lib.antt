@@ -1,5 +1,6 @@
 mod Written
 mod Held
+mod Lent
 mod Rooms
 mod Owning
 mod Building

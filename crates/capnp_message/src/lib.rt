@@ -11,6 +11,7 @@ pub mod options;
 pub mod placed;
 pub mod reader;
 pub mod roots;
+pub mod scoped;
 pub mod serialize;
 pub mod serialize_packed;
 pub mod typed;

@@ -1,7 +1,13 @@
 //! Messages, by the names under which a user of the library looks for them.
 pub use crate::builder::Builder;
 pub use crate::options::{DEFAULT_READER_OPTIONS, ReaderOptions};
+pub use crate::placed::{
+    BlobPlace, DataPlace, OwnedPlaced, Placed, PlacedStruct, PointerPlace, StructPlace, StructSize,
+    TextPlace,
+};
 pub use crate::reader::{Reader, SegmentArray};
+pub use crate::roots::root_of;
+pub use crate::scoped::with_message;
 pub use crate::typed::TypedReader;
 pub use crate::typed_builder::TypedBuilder;
 pub use capnp_allocators::growth::{

@@ -6,7 +6,9 @@ ghost use Rattle.capnp_units.specs.declared.errors.Error.{Error};
 ghost use Rattle.capnp_units.specs.declared.kinds.ErrorKind.TheVariants.{SizeOverflow};
 ghost use Rattle.capnp_units.specs.declared.sizes.StructSize.{StructSize};
 ghost use Rattle.capnp_object.specs.declared.place.Place as code;
+ghost use Rattle.capnp_wire.specs.Places.{place_view};
 ghost use Rattle.capnp_copy.specs.Allocations.{total_words};
+ghost use Rattle.capnp_copy.specs.Clearing.{ClearsValue};
 ghost use Rattle.capnp_copy.specs.Refusals.{IsSizeOrRefusal};
 ghost use Rattle.capnp_copy.specs.States.{HasWords};
 ghost use Rattle.capnp_copy.specs.declared.fields.StructPlace.{StructPlace};
@@ -23,8 +25,10 @@ use capnp_builders::pointer_builder::PointerBuilder;
 use capnp_copy::allocator::Allocator;
 use capnp_copy::arena::{BuilderArena, Memory};
 pub use capnp_copy::bytes::BlobPlace;
+use capnp_copy::clear::clear;
 pub use capnp_copy::fields::StructPlace;
 use capnp_copy::init::init_struct;
+use capnp_text::{data, text};
 use capnp_units::errors::Result;
 pub use capnp_units::sizes::StructSize;
 use capnp_wire::place::{Place, ROOT};
@@ -219,6 +223,44 @@ impl Placed for DataPlace {
         let pointer = PointerBuilder { memory, place };
         Ok(DataPlace(pointer.get_data(None)?.place))
     }
+}
+
+/// Where a pointer of no type lies; a `PointerBuilder` over the place writes it, as a list say.
+#[derive(Clone, Copy)]
+pub struct PointerPlace(pub Place);
+
+/// A pointer of no type is made null, and got as it is; neither is refused.
+impl Placed for PointerPlace {
+    ghost is_made = { λ s u slot n o. ClearsValue s u (place_view slot) × (o.0 ≡ slot) };
+
+    ghost is_too_large = { λ n words. ⊥ };
+
+    ghost is_got = { λ s u slot o. (u ≡ s) × (o.0 ≡ slot) };
+
+    ghost is_not_got = { λ s u slot e. ⊥ };
+
+    fn init_at<A: BuilderArena>(
+        memory: &mut Memory<A>,
+        place: Place,
+        _length: u32,
+    ) -> Result<PointerPlace> {
+        clear(&mut memory.arena, place);
+        Ok(PointerPlace(place))
+    }
+
+    fn get_at<A: BuilderArena>(_memory: &mut Memory<A>, place: Place) -> Result<PointerPlace> {
+        Ok(PointerPlace(place))
+    }
+}
+
+/// Texts are built by where their bytes lie.
+impl OwnedPlaced for text::Owned {
+    type Builder = TextPlace;
+}
+
+/// Data are built by where they lie.
+impl OwnedPlaced for data::Owned {
+    type Builder = DataPlace;
 }
 
 impl<A: Allocator> Builder<A> {

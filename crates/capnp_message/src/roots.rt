@@ -4,7 +4,6 @@ ghost use Rattle.std.specs.Borrow.{sem, RestsIfErr};
 ghost use Rattle.capnp_units.specs.Segments.{words_in};
 ghost use Rattle.capnp_copy.specs.contracts.arena.Memory.{the_row};
 ghost use Rattle.std.specs.List.{flat_map};
-ghost use Rattle.capnp_wire.specs.Places.{place_view};
 ghost use Rattle.std.specs.Option.{is_some};
 ghost use Rattle.capnp_model.specs.Segments.{root, words_at};
 ghost use Rattle.capnp_units.specs.declared.kinds.ErrorKind.TheVariants.{SizeOverflow};
@@ -69,7 +68,7 @@ pub(crate) fn begin<A: BuilderArena>(arena: &mut A) -> Result<()>
 /// It is refused as the allocator refuses, or with `OutOfBounds` where the first segment was allocated by hand and has no word; then all stands as it was.
 pub fn root_of<A: BuilderArena>(memory: &mut Memory<A>) -> Result<PointerBuilder<'_, A>>
     ensures same { IfOk result (λ p. p.memory.ghost_name ≡ memory.entry.ghost_name) }
-    ensures place { IfOk result (λ p. place_view p.place ≡ root) }
+    ensures place { IfOk result (λ p. p.place ≡ root_slot) }
     ensures rooted { IfOk result (λ p. words_in (A.segments p.memory.now.arena)
         ≡ rooted (words_in (A.segments memory.entry.now.arena))) }
     ensures there { IfOk result (λ p. HasWords (A.segments p.memory.now.arena) root_slot 1) }

@@ -5,3 +5,4 @@ pub use capnp_dynamic_values::dynamic_value::Builder;
 pub use capnp_dynamic_values::placed::{ListPart, Placed};
 pub use capnp_values::downcast::DowncastReader;
 pub use capnp_values::dynamic_value::{Capability, Enum, Reader};
+pub use capnp_values::source::{ListSource, PointerSource, StructSource};
