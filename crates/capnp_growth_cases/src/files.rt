@@ -14,7 +14,7 @@ use capnp_records::set::SchemaSet;
 use std::alloc::Global;
 
 /// A field that another name has in the newer schema.
-pub const RENAMES: &str = r#"[{"node":1,"older":"a","newer":"number"}]"#;
+pub const RENAMES: &str = r#"[{"node":1,"from":"a","to":"number"}]"#;
 
 /// A frame of a struct of the number 5.
 const FRAME: [u8; 24] = [

@@ -11,7 +11,7 @@ use capnp_copy::fields::StructPlace;
 use capnp_units::errors::{Error, Result};
 use capnp_units::kinds::ErrorKind;
 use capnp_units::limiter::ReadLimiter;
-use capnp_units::sizes::{ElementSize, StructSize};
+use capnp_units::sizes::{ElementSize, PointerType, StructSize};
 use capnp_wire::arena::{ReaderArena, ReaderArenaImpl};
 use capnp_wire::place::{Place, ROOT, has_words};
 use capnp_wire::pointer::PointerReader;
@@ -19,8 +19,11 @@ use capnp_wire::pointer::PointerReader;
 /// What is read of a struct of the number 7 and the text `hi`.
 #[derive(Clone, Copy, Debug)]
 struct Seen {
+    is_struct: bool,
     number: u16,
+    masked: u16,
     is_odd: bool,
+    is_even: bool,
     text: usize,
     words: u64,
     is_null: bool,
@@ -39,8 +42,11 @@ fn read_struct<B: ReaderArena>(root: PointerReader<'_, B>) -> Result<Seen> {
     let text = object.get_pointer_field(0).get_text(&mut unlimited, None)?;
     let size = object.total_size(&mut unlimited)?;
     Ok(Seen {
+        is_struct: root.get_pointer_type()? == PointerType::Struct,
         number: object.get_data_field::<u16>(0),
+        masked: object.get_data_field_mask::<u16>(0, 1),
         is_odd: object.get_bool_field(0),
+        is_even: object.get_bool_field_mask(0, true),
         text: text.len(),
         words: words.min(size.word_count.saturating_add(1)),
         is_null: object.is_pointer_field_null(0) || root.is_null(),
@@ -62,23 +68,48 @@ fn read_list<B: ReaderArena>(root: PointerReader<'_, B>) -> Result<usize> {
     Ok(count)
 }
 
-/// Sets and gets plain fields of a struct of a message, and then clears its pointer. The number and whether the pointer is null.
-fn edit<A: BuilderArena>(memory: &mut Memory<A>, place: StructPlace) -> Result<(u16, bool)> {
-    let words = place.data_words as usize + place.pointers as usize;
-    let is_near = place.start.position < 1 << 60;
-    if place.data_words == 0 || place.pointers == 0 || !is_near {
-        return Err(Error::from(ErrorKind::OutOfBounds));
-    }
-    if !has_words(&memory.arena, place.start, words) {
-        return Err(Error::from(ErrorKind::OutOfBounds));
+/// What is told where a struct isn't there.
+const NOT_THERE: Error = Error {
+    kind: ErrorKind::OutOfBounds,
+};
+
+/// Sets the number of a struct of a message.
+fn set_number<A: BuilderArena>(memory: &mut Memory<A>, place: StructPlace) -> Result<()> {
+    let is_near = place.data_words > 0 && place.start.position < 1 << 60;
+    if !is_near || !has_words(&memory.arena, place.start, place.data_words as usize) {
+        return Err(NOT_THERE);
     }
     let mut object = StructBuilder { memory, place };
     object.set_data_field::<u16>(0, 8);
+    Ok(())
+}
+
+/// Sets its lowest bit. The number then.
+fn set_flag<A: BuilderArena>(memory: &mut Memory<A>, place: StructPlace) -> Result<u16> {
+    let is_near = place.data_words > 0 && place.start.position < 1 << 60;
+    if !is_near || !has_words(&memory.arena, place.start, place.data_words as usize) {
+        return Err(NOT_THERE);
+    }
+    let mut object = StructBuilder { memory, place };
     object.set_bool_field(0, true);
-    let number = object.get_data_field::<u16>(0);
-    let mut pointer = object.get_pointer_field(0);
+    Ok(object.get_data_field::<u16>(0))
+}
+
+/// Clears its pointer. Whether that is null then.
+fn clear<A: BuilderArena>(memory: &mut Memory<A>, place: StructPlace) -> Result<bool> {
+    if place.pointers == 0 || place.start.position >= 1 << 60 {
+        return Err(NOT_THERE);
+    }
+    let mut pointer = StructBuilder { memory, place }.get_pointer_field(0);
     pointer.clear();
-    Ok((number, pointer.is_null()))
+    Ok(pointer.is_null())
+}
+
+/// Edits a struct of a message. The number and whether the pointer is null then.
+fn edit<A: BuilderArena>(memory: &mut Memory<A>, place: StructPlace) -> Result<(u16, bool)> {
+    set_number(memory, place)?;
+    let number = set_flag(memory, place)?;
+    Ok((number, clear(memory, place)?))
 }
 
 /// The same of the struct at the root, which is wide enough.

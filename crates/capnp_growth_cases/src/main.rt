@@ -50,6 +50,7 @@ fn told_without_memory(rt: &HostRuntime, part: &str, call: &str) -> Result<Strin
         "layout" => layout_reads::told(rt, call),
         "schema" => dynamics::told(rt, call),
         "untyped" => elements::told(rt, call),
+        "root" => roots::read_back(rt),
         "read" => reading::lent(rt, call),
         "write" => writing::lent(rt),
         "record" => schema_reads::told(rt, call),

@@ -18,6 +18,11 @@ pub const NEWER: &str = r#"[{"id":1,"name":"P","data":2,"pointers":2,"fields":[
     {"name":"a","type":"UInt16","offset":0},{"name":"t","type":"Text","offset":0},
     {"name":"b","type":"UInt64","offset":1},{"name":"u","type":"Text","offset":1}]}]"#;
 
+/// The newer one with another name for a.
+pub const RENAMED: &str = r#"[{"id":1,"name":"P","data":2,"pointers":2,"fields":[
+    {"name":"number","type":"UInt16","offset":0},{"name":"t","type":"Text","offset":0},
+    {"name":"b","type":"UInt64","offset":1},{"name":"u","type":"Text","offset":1}]}]"#;
+
 /// Two calls: t is set to a text, and got.
 pub const CALLS: &str = r#"{"calls":[{"path":["t"],"verb":"set","value":{"text":"hi"}},
     {"path":["t"],"verb":"get"}],"words":1000}"#;

@@ -5,7 +5,7 @@ ghost use Rattle.capnp_message.specs.Built.{loans_held};
 
 use crate::fault::Fault;
 use crate::marks;
-use crate::messages::{outcome, stands, tree_of};
+use crate::messages::{end, outcome, roomy, stands, tree_of};
 use crate::samples::STRUCT;
 use capnp_copy::allocator::Allocator;
 use capnp_copy::fields::StructPlace;
@@ -17,6 +17,7 @@ use capnp_message::placed::{DataPlace, PlacedStruct, TextPlace};
 use capnp_text::text;
 use capnp_units::errors::{Error, Result};
 use capnp_units::kinds::ErrorKind;
+use capnp_units::limiter::ReadLimiter;
 use capnp_units::sizes::StructSize;
 use capnp_wire::arena::ReaderArena;
 use std::alloc::Global;
@@ -152,4 +153,21 @@ pub fn told(rt: &HostRuntime, name: &str) -> std::result::Result<String, Fault> 
     };
     let count = region.iter().filter(|byte| **byte == 0).count();
     Ok(format!(in alloc; "{}; {count} bytes are zero", text.as_str())?)
+}
+
+/// What a message tells that is read where it was built, and given back, which takes no memory.
+pub fn read_back(rt: &HostRuntime) -> std::result::Result<String, Fault> {
+    let alloc = rt.alloc();
+    let mut builder = roomy(alloc);
+    let done = builder.set_root::<text::Owned, &str>("hi");
+    let mut unlimited = ReadLimiter::new(None);
+    marks::begin(rt);
+    let reader = builder.into_reader();
+    let words = reader.size_in_words();
+    let is_canonical = reader.is_canonical(&mut unlimited);
+    let builder = reader.into_segments();
+    marks::end(rt);
+    end(builder);
+    done?;
+    Ok(format!(in alloc; "{words} words, canonical {}", is_canonical?)?)
 }

@@ -9,7 +9,7 @@ use crate::fault::Fault;
 use crate::files::RENAMES;
 use crate::marks;
 use crate::messages::{Segments, end, outcome, put_words, small, tree_of};
-use crate::relays::{NEWER, SCHEMA, settings, version};
+use crate::relays::{NEWER, RENAMED, SCHEMA, settings, version};
 use crate::schemas::{NEW, root_place, schema_of, set_of, struct_at};
 use capnp_calls::Call;
 use capnp_calls::reply::Reply;
@@ -40,7 +40,7 @@ const HI: [u8; 40] = [
 ];
 
 /// What is told of a call that memory was refused to.
-const REFUSED: &str = "refused Memory; stands";
+const REFUSED: &str = "refused Memory";
 
 /// Answers the calls of a run at the root of a message, between the marks.
 fn answered<A: BuilderArena>(
@@ -61,12 +61,12 @@ fn answered<A: BuilderArena>(
     match replies {
         Ok(replies) => match replies.as_slice() {
             [Reply::Done, Reply::Text(text)] => {
-                Ok(format!(in alloc; "done; {:?}", str::from_utf8(text).unwrap_or("?"))?)
+                Ok(format!(in alloc; "done; {}", str::from_utf8(text).unwrap_or("?"))?)
             }
             _ => Err(Fault::Unmade),
         },
         Err(RunFault::Refused(error)) if error.kind == ErrorKind::OutOfMemory => {
-            Ok(String::from_str(alloc, REFUSED)?)
+            Ok(format!(in alloc; "{REFUSED}; changed")?)
         }
         Err(_) => Err(Fault::Unmade),
     }
@@ -142,7 +142,12 @@ fn compared(
 /// What a call at two versions tells.
 fn told_of_versions(rt: &HostRuntime, call: &str) -> std::result::Result<String, Fault> {
     let alloc = rt.alloc();
-    let (older, newer) = (version(alloc, SCHEMA)?, version(alloc, NEWER)?);
+    let file = if call.ends_with("_with") {
+        RENAMED
+    } else {
+        NEWER
+    };
+    let (older, newer) = (version(alloc, SCHEMA)?, version(alloc, file)?);
     let settings = settings(alloc, "framed")?;
     let list = renames_file(alloc, RENAMES.as_bytes())?;
     let renamings = Renamings::new(list).ok().ok_or(Fault::Unmade)?;
