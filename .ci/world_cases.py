@@ -23,16 +23,22 @@ from world_growths import build, renumbered
 from world_runs import LIMIT, Failure
 
 EVERY, WITHOUT_MEMORY = 0, "no_memory."
-REFUSED = re.compile(r"refused (OutOfMemory|Memory)(; stands(; .*)?)?")
-# What a refused call may leave beside what stood: the source's data with each pointer old, new or null; a beginning of
-# a group's writes; the record before the first call, with the text of the first, or an empty struct.
+REFUSED = re.compile(r"refused (OutOfMemory|Memory)(; stands; .*)?")
+RECORD = (
+    '(number = 5, flag = true, colour = green, plain = 3, text = "old", data = 0x"0102", list = ["a"], '
+    "structs = [(a = 1)], untyped = <opaque pointer>, group = {}, nothing = ())"
+)
+# What a refused call may leave in place of what stood: the source's data with each pointer old, new or null; a group with
+# a beginning of the writes to it; the root before the first call, made an empty struct, or with the first call's text.
 MAY_LEAVE = {
     "layout.copy_content_from": [
-        "00000000010001000700000000000000010000001a0000006869000000000000",
         "0000000001000100070000000000000001000000220000006f6c640000000000",
+        "00000000010001000700000000000000010000001a0000006869000000000000",
         "000000000100010007000000000000000000000000000000",
     ],
-    "schema.set.group": ["group = ()", "group = (count = 0)", 'group = (first = "g", count = 0)', 'group = (first = "g", count = 8)'],
+    "schema.set.group": [
+        RECORD.format(it) for it in ("(count = 0)", '(first = "g", count = 0)', '(first = "g", count = 8)')
+    ],
     "record.run": [
         "0000000000000000",
         "000000000100010000000000000000000000000000000000",
@@ -42,12 +48,12 @@ MAY_LEAVE = {
 RUN = re.compile(r'(.+), written (\d), refused (\d), clean; ([0-9a-f]*); (".*?(?<!\\)"|"")')
 
 
-def told(program, shim, name, number=None):
-    """What the case tells with that growth refused, or every one, or none; and whether a growth was refused."""
+def told(program, shim, name, number):
+    """What the case tells with that growth refused, or every one; and whether one was refused."""
     out, mark = os.pipe()
-    env = {} if number is None else {"LD_PRELOAD": shim, "REFUSE_AT": str(number), "REFUSE_TOLD": str(mark)}
-    env["REFUSE_MARKED"] = "1"
-    it = subprocess.run([program, name], env=env, capture_output=True, pass_fds=(mark,), timeout=LIMIT, check=False)
+    env = {"LD_PRELOAD": shim, "REFUSE_AT": str(number), "REFUSE_TOLD": str(mark), "REFUSE_MARKED": "1"}
+    how = {"env": env, "pass_fds": (mark,), "capture_output": True, "timeout": LIMIT}
+    it = subprocess.run([program, name], check=False, **how)
     os.close(mark)
     met = os.read(out, 1) == b"r"
     os.close(out)
@@ -83,7 +89,7 @@ def stands(name, text, wanted):
     if REFUSED.fullmatch(text):
         return True
     head, _, left = text.partition("; changed; ")
-    return head in ("refused OutOfMemory", "refused Memory") and any(it in left for it in MAY_LEAVE.get(name, []))
+    return head in ("refused OutOfMemory", "refused Memory") and left in MAY_LEAVE.get(name, [])
 
 
 def without_memory(program, shim, name, wanted):

@@ -141,7 +141,7 @@ fn called(rt: &HostRuntime, call: &str) -> Result<End, Fault> {
 pub fn told(rt: &HostRuntime, call: &str) -> Result<String, Fault> {
     match called(rt, call)? {
         Ok(count) => Ok(format!(in rt.alloc(); "done; {count}")?),
-        Err(Ended::Memory) => Ok(String::from_str(rt.alloc(), "refused Memory; stands")?),
+        Err(Ended::Memory) => Ok(String::from_str(rt.alloc(), "refused Memory")?),
         Err(Ended::Otherwise) => Err(Fault::Unmade),
     }
 }

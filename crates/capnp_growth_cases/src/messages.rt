@@ -124,3 +124,8 @@ pub fn outcome(
         }
     }
 }
+
+/// What a refused call answered that has nothing to leave.
+pub fn refusal(alloc: Global, error: Error) -> std::result::Result<String, Fault> {
+    Ok(format!(in alloc; "refused {}", error.kind.name())?)
+}

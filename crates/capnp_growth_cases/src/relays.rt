@@ -183,12 +183,11 @@ pub fn told(rt: &HostRuntime, call: &str) -> Result<String, Fault> {
         &FRAMED
     };
     let (answered, first) = told_of(alloc, &ran(rt, form, is_between, messages)?)?;
-    let rest = messages
-        .get(messages.len() / 2 * answered..)
-        .ok_or(Fault::Unmade)?;
-    if rest.is_empty() {
-        return Ok(first);
-    }
+    let rest = match answered {
+        0 => messages,
+        1 => messages.get(messages.len() / 2..).ok_or(Fault::Unmade)?,
+        _ => return Ok(first),
+    };
     let (_, second) = told_of(alloc, &ran(rt, form, is_between, rest)?)?;
     Ok(format!(in alloc; "{}; then {}", first.as_str(), second.as_str())?)
 }

@@ -8,7 +8,7 @@ use crate::dynamics::record;
 use crate::fault::Fault;
 use crate::files::RENAMES;
 use crate::marks;
-use crate::messages::{Segments, end, outcome, put_words, small, tree_of};
+use crate::messages::{Segments, end, outcome, put_words, refusal, small, tree_of};
 use crate::relays::{NEWER, RENAMED, SCHEMA, settings, version};
 use crate::schemas::{NEW, root_place, schema_of, set_of, struct_at};
 use capnp_calls::Call;
@@ -164,7 +164,7 @@ fn told_of_versions(rt: &HostRuntime, call: &str) -> std::result::Result<String,
     marks::end(rt);
     match answer {
         Ok(is_so) => Ok(format!(in alloc; "done; {is_so}")?),
-        Err(error) => Ok(format!(in alloc; "refused {}; stands", error.kind.name())?),
+        Err(error) => refusal(alloc, error),
     }
 }
 

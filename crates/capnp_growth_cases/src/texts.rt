@@ -2,6 +2,7 @@
 
 use crate::fault::Fault;
 use crate::marks;
+use crate::messages::refusal;
 use crate::samples::STRUCT;
 use capnp_message::message::{DEFAULT_READER_OPTIONS, Reader, SegmentArray};
 use capnp_stream::segments::{SegmentLengthsBuilder, words_of};
@@ -79,6 +80,6 @@ pub fn told(rt: &HostRuntime, call: &str) -> std::result::Result<String, Fault> 
     let words = hex::decode(alloc, STRUCT.as_bytes())?;
     match called(rt, call, &words) {
         Ok(count) => Ok(format!(in alloc; "done; {count}")?),
-        Err(error) => Ok(format!(in alloc; "refused {}; stands", error.kind.name())?),
+        Err(error) => refusal(alloc, error),
     }
 }

@@ -2,7 +2,7 @@
 
 use crate::fault::Fault;
 use crate::marks;
-use crate::messages::{end, outcome, small};
+use crate::messages::{end, outcome, refusal, small};
 use capnp_message::laws::built_segments_can_be_written;
 use capnp_message::message::{Builder, HeapAllocator};
 use capnp_message::{serialize, serialize_packed};
@@ -63,8 +63,11 @@ fn told_of(
         let made = bytes_of(alloc, call, message);
         marks::end(rt);
         return match made {
-            Ok(bytes) => outcome(alloc, Ok(()), true, hex::encode(alloc, &bytes)?.as_str()),
-            Err(error) => outcome(alloc, Err(error), true, ""),
+            Ok(bytes) => {
+                let bytes = hex::encode(alloc, &bytes)?;
+                Ok(format!(in alloc; "done; {}", bytes.as_str())?)
+            }
+            Err(error) => refusal(alloc, error),
         };
     }
     let mut whole = Vec::new(alloc);
