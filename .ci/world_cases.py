@@ -26,10 +26,11 @@ EVERY, WITHOUT_MEMORY = 0, "no_memory."
 REFUSED = re.compile(r"refused (OutOfMemory|Memory)(; stands; .*)?")
 RECORD = (
     '(number = 5, flag = true, colour = green, plain = 3, text = "old", data = 0x"0102", list = ["a"], '
-    "structs = [(a = 1)], untyped = <opaque pointer>, group = {}, nothing = ())"
+    "structs = [(a = {})], untyped = <opaque pointer>, group = {}, nothing = ())"
 )
-# What a refused call may leave in place of what stood: the source's data with each pointer old, new or null; a group with
-# a beginning of the writes to it; the root before the first call, made an empty struct, or with the first call's text.
+# What a refused call may leave in place of what stood: the source's data with each pointer old, new or null, where a
+# content is copied, to a struct element too; a group with a beginning of the writes to it; the root before the first
+# call, made an empty struct, or with the first call's text.
 MAY_LEAVE = {
     "layout.copy_content_from": [
         "0000000001000100070000000000000001000000220000006f6c640000000000",
@@ -37,8 +38,9 @@ MAY_LEAVE = {
         "000000000100010007000000000000000000000000000000",
     ],
     "schema.set.group": [
-        RECORD.format(it) for it in ("(count = 0)", '(first = "g", count = 0)', '(first = "g", count = 8)')
+        RECORD.format(1, it) for it in ("(count = 0)", '(first = "g", count = 0)', '(first = "g", count = 8)')
     ],
+    "element.set.structs": [RECORD.format(7, "(count = 4)")],
     "record.run": [
         "0000000000000000",
         "000000000100010000000000000000000000000000000000",

@@ -13,7 +13,7 @@ use crate::dynamics::{Call, record};
 use crate::fault::Fault;
 use crate::marks;
 use crate::messages::{Segments, end, outcome, put_words, segments_of, small, stands, tree_of};
-use crate::schemas::{NEW, OLD, root_place, schema_of, set_of, struct_at};
+use crate::schemas::{NEW, OLD, root_place, root_text, schema_of, set_of, struct_at};
 use capnp_builders::data_builder::DataBuilder;
 use capnp_builders::list_builder::ListBuilder;
 use capnp_builders::text_builder::TextBuilder;
@@ -189,12 +189,12 @@ fn told_of<A: BuilderArena>(
     let before = segments_of(alloc, &memory.arena)?;
     let done = called(rt, memory, schema, call, &source);
     let is_standing = stands(&memory.arena, &before);
-    outcome(
-        alloc,
-        done,
-        is_standing,
-        tree_of(alloc, &memory.arena)?.as_str(),
-    )
+    let read = if call.field == "untyped" {
+        tree_of(alloc, &memory.arena)?
+    } else {
+        root_text(alloc, memory, schema)?
+    };
+    outcome(alloc, done, is_standing, read.as_str())
 }
 
 /// What a case tells.
