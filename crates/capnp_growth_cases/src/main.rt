@@ -1,0 +1,97 @@
+//! Makes calls whose growths a shim may refuse, and prints what they answer and what stands then.
+//!
+//! Each argument names a case; README.md tells them.
+#![tactic(auto)]
+
+mod dynamics;
+mod elements;
+mod fault;
+mod files;
+mod layout;
+mod layout_gets;
+mod layout_reads;
+mod marks;
+mod messages;
+mod reading;
+mod relays;
+mod roots;
+mod samples;
+mod schema_reads;
+mod schemas;
+mod shows;
+mod texts;
+mod writing;
+
+use fault::Fault;
+use std::process::ExitCode;
+use std::{env, io};
+
+/// What a call of a part of the library tells that takes memory.
+fn told_with_memory(rt: &HostRuntime, part: &str, call: &str) -> Result<String, Fault> {
+    match part {
+        "layout" => layout::told(rt, call),
+        "layout_get" => layout_gets::told(rt, call),
+        "schema" => dynamics::told(rt, call),
+        "element" | "untyped" => elements::told(rt, call),
+        "root" => roots::told(rt, call),
+        "read" => reading::told(rt, call),
+        "write" => writing::told(rt, call),
+        "make" => texts::told(rt, call),
+        "file" => files::told(rt, call),
+        "record" => shows::told(rt, call),
+        "relay" => relays::told(rt, call),
+        _ => Err(Fault::NoCase),
+    }
+}
+
+/// The same of one that takes none.
+fn told_without_memory(rt: &HostRuntime, part: &str, call: &str) -> Result<String, Fault> {
+    match part {
+        "layout" => layout_reads::told(rt, call),
+        "schema" => dynamics::told(rt, call),
+        "untyped" => elements::told(rt, call),
+        "root" => roots::read_back(rt),
+        "read" => reading::lent(rt, call),
+        "write" => writing::lent(rt),
+        "record" => schema_reads::told(rt, call),
+        _ => Err(Fault::NoCase),
+    }
+}
+
+/// What a case tells, by its name: the part of the library, and the call.
+fn told(rt: &HostRuntime, name: &str) -> Result<String, Fault> {
+    let (case, takes_memory) = match name.strip_prefix("no_memory.") {
+        Some(case) => (case, false),
+        None => (name, true),
+    };
+    let (part, call) = case.split_once('.').ok_or(Fault::NoCase)?;
+    if takes_memory {
+        told_with_memory(rt, part, call)
+    } else {
+        told_without_memory(rt, part, call)
+    }
+}
+
+/// Prints what each case tells. Whether there is one, and each could be made.
+fn run(rt: &HostRuntime) -> io::Result<bool> {
+    let mut are_made = true;
+    let mut count: usize = 0;
+    for name in env::args(rt)?.skip(1) {
+        count = count.saturating_add(1);
+        match told(rt, name.as_str()) {
+            Ok(text) => println!(rt; "{}: {}", name.as_str(), text.as_str())?,
+            Err(fault) => {
+                println!(rt; "{}: {fault}", name.as_str())?;
+                are_made = false;
+            }
+        }
+    }
+    Ok(are_made && count > 0)
+}
+
+fn main(rt: HostRuntime) -> ExitCode {
+    match run(&rt) {
+        Ok(true) => ExitCode::SUCCESS,
+        _ => ExitCode::FAILURE,
+    }
+}

@@ -1,0 +1,193 @@
+//! Runs of the relay, and then of the rest of the input.
+
+use crate::fault::Fault;
+use crate::marks;
+use capnp_between::between::{BetweenFault, relay_between};
+use capnp_program::settings::Settings;
+use capnp_program::version::Version;
+use capnp_relay_streams::ends::{Counts, RelayFault};
+use capnp_relay_streams::relay::relay;
+use std::alloc::Global;
+
+/// P (1): a UInt16, t Text.
+pub const SCHEMA: &str = r#"[{"id":1,"name":"P","data":1,"pointers":1,"fields":[
+    {"name":"a","type":"UInt16","offset":0},{"name":"t","type":"Text","offset":0}]}]"#;
+
+/// The same with b UInt64 and a text more.
+pub const NEWER: &str = r#"[{"id":1,"name":"P","data":2,"pointers":2,"fields":[
+    {"name":"a","type":"UInt16","offset":0},{"name":"t","type":"Text","offset":0},
+    {"name":"b","type":"UInt64","offset":1},{"name":"u","type":"Text","offset":1}]}]"#;
+
+/// The newer one with another name for a.
+pub const RENAMED: &str = r#"[{"id":1,"name":"P","data":2,"pointers":2,"fields":[
+    {"name":"number","type":"UInt16","offset":0},{"name":"t","type":"Text","offset":0},
+    {"name":"b","type":"UInt64","offset":1},{"name":"u","type":"Text","offset":1}]}]"#;
+
+/// Two calls: t is set to a text, and got.
+pub const CALLS: &str = r#"{"calls":[{"path":["t"],"verb":"set","value":{"text":"hi"}},
+    {"path":["t"],"verb":"get"}],"words":1000}"#;
+
+/// A frame of a capability, and one of a null root; and the same packed.
+const FRAMED: [u8; 32] = [
+    0, 0, 0, 0, 1, 0, 0, 0, 3, 0, 0, 0, 0, 0, 0, 0, 0, 0, 0, 0, 1, 0, 0, 0, 0, 0, 0, 0, 0, 0, 0, 0,
+];
+
+const PACKED: [u8; 8] = [0x10, 1, 1, 3, 0x10, 1, 0, 0];
+
+/// What the region holds before a run.
+const DIRT: u8 = 0xff;
+
+/// The bytes that the output, and the log, have room for beforehand.
+const ROOM: usize = 1000;
+
+/// What is left of a run.
+#[derive(Drop)]
+struct Left {
+    end: std::result::Result<Counts, BetweenFault>,
+    out: Vec<u8>,
+    log: Vec<u8>,
+    /// The byte that the region holds everywhere, if it is one.
+    region: Option<u8>,
+}
+
+/// The byte that a region holds everywhere, if it is one.
+fn byte_of(region: &[u8]) -> Option<u8> {
+    let first = *region.first()?;
+    if region.iter().all(|byte| *byte == first) {
+        Some(first)
+    } else {
+        None
+    }
+}
+
+/// The words of a run in a form, with a newer schema.
+fn words_in(alloc: Global, form: &str) -> Result<Vec<String>, Fault> {
+    let mut words = Vec::new(alloc);
+    for word in ["p.json", "c.json", "1", form, "n.json"] {
+        words.push(String::from_str(alloc, word)?)?;
+    }
+    Ok(words)
+}
+
+/// The calls and the limits of a run.
+pub fn settings(alloc: Global, form: &str) -> Result<Settings, Fault> {
+    let words = words_in(alloc, form)?;
+    let schema = Some(SCHEMA.as_bytes());
+    let (calls, newer) = (Some(CALLS.as_bytes()), Some(NEWER.as_bytes()));
+    match Settings::new(alloc, &words, schema, calls, newer, None) {
+        Ok(settings) => Ok(settings),
+        Err(_) => Err(Fault::Unmade),
+    }
+}
+
+/// The version of a schema file.
+pub fn version(alloc: Global, file: &str) -> Result<Version, Fault> {
+    match Version::new(alloc, Some(file.as_bytes()), 1) {
+        Ok(version) => Ok(version),
+        Err(_) => Err(Fault::Unmade),
+    }
+}
+
+/// A run of the relay on messages, of which the growths between the marks are counted.
+fn ran(rt: &HostRuntime, form: &str, is_between: bool, mut source: &[u8]) -> Result<Left, Fault> {
+    let alloc = rt.alloc();
+    let settings = settings(alloc, form)?;
+    let (older, newer) = (version(alloc, SCHEMA)?, version(alloc, NEWER)?);
+    let (calls, options) = (settings.calls.as_slice(), settings.options);
+    let (root, newer) = (older.root(), newer.root());
+    let mut out = Vec::with_capacity(alloc, ROOM)?;
+    let mut log = Vec::with_capacity(alloc, ROOM)?;
+    let mut region = vec![in alloc; DIRT; options.region_len()]?;
+    marks::begin(rt);
+    let end = if is_between {
+        relay_between(
+            alloc,
+            &mut source,
+            &mut out,
+            &mut log,
+            root,
+            newer,
+            calls,
+            options,
+            &mut region,
+        )
+    } else {
+        match relay(
+            alloc,
+            &mut source,
+            &mut out,
+            &mut log,
+            root,
+            calls,
+            options,
+            &mut region,
+        ) {
+            Ok(counts) => Ok(counts),
+            Err(fault) => Err(BetweenFault::Relay(fault)),
+        }
+    };
+    marks::end(rt);
+    let region = byte_of(&region);
+    Ok(Left {
+        end,
+        out,
+        log,
+        region,
+    })
+}
+
+/// How many messages a run has answered, and how it ended. Its region is clean, or as it was where the run didn't begin.
+fn end_of(alloc: Global, left: &Left) -> Result<(usize, String), Fault> {
+    let (counts, text, byte) = match &left.end {
+        Ok(counts) => (*counts, String::from_str(alloc, "done")?, 0),
+        Err(BetweenFault::Relay(fault)) => (fault.counts, format!(in alloc; "{fault}")?, 0),
+        Err(fault) => (
+            Counts {
+                written: 0,
+                refused: 0,
+            },
+            format!(in alloc; "{fault}")?,
+            DIRT,
+        ),
+    };
+    let Counts { written, refused } = counts;
+    let region = if left.region == Some(byte) {
+        "clean"
+    } else {
+        "dirty"
+    };
+    let text = text.as_str();
+    let told = format!(in alloc; "{text}, written {written}, refused {refused}, {region}")?;
+    Ok((written.saturating_add(refused).min(2) as usize, told))
+}
+
+/// What a run left: its end, the output in hex and the log.
+fn told_of(alloc: Global, left: &Left) -> Result<(usize, String), Fault> {
+    let (answered, end) = end_of(alloc, left)?;
+    let out = hex::encode(alloc, &left.out)?;
+    let log = str::from_utf8(&left.log).ok().ok_or(Fault::Unmade)?;
+    let told = format!(in alloc; "{}; {}; {log:?}", end.as_str(), out.as_str())?;
+    Ok((answered, told))
+}
+
+/// What a case tells: a run, and a run on the messages that it didn't answer.
+pub fn told(rt: &HostRuntime, call: &str) -> Result<String, Fault> {
+    let alloc = rt.alloc();
+    let (form, is_between) = match call.strip_prefix("between.") {
+        Some(form) => (form, true),
+        None => (call, false),
+    };
+    let messages: &[u8] = if form.starts_with("packed") {
+        &PACKED
+    } else {
+        &FRAMED
+    };
+    let (answered, first) = told_of(alloc, &ran(rt, form, is_between, messages)?)?;
+    let rest = match answered {
+        0 => messages,
+        1 => messages.get(messages.len() / 2..).ok_or(Fault::Unmade)?,
+        _ => return Ok(first),
+    };
+    let (_, second) = told_of(alloc, &ran(rt, form, is_between, rest)?)?;
+    Ok(format!(in alloc; "{}; then {}", first.as_str(), second.as_str())?)
+}
