@@ -13,16 +13,16 @@ use Rattle.capnp_answers.proofs.Walks.{put_back, deeper}
 use Rattle.capnp_answers.proofs.Edited.{EditLaws, writes_root, deep_root}
 use Rattle.capnp_answers.proofs.built.answer_root.Goals as goal
 
-pub returns-then-most-levels-clause-all : goal.returns-then-most-levels-clause-all
-returns-then-most-levels-clause-all g c =
+pub returns-in-NestingLimitExceeded-clause-all : goal.returns-in-NestingLimitExceeded-clause-all
+returns-in-NestingLimitExceeded-clause-all g c =
     let laws : EditLaws = record { after = c.changes_of_values.ensures.owned; meant = c.values_as_a_relation.ensures.meant; one = c.values_as_a_relation.ensures.one; deep = c.values_that_are_read.ensures.deep; fits = c.values_that_are_read.ensures.fits; trim_fits = c.trimmed_values.ensures.fits; trim_depth = c.trimmed_values.ensures.depth; means = c.words_mean_their_value.ensures.means } in
     let seg = g.A.ReaderArena.segments in
     let u = words_in (seg c.run_root.new.arena) in
     elim c.in-Err-write_canonical.ensures.halted.why [
       | inl stop ↦
-        let walk = stopped_on_walk c.min-most.result u root c.new-unlimited.result c.write_canonical.new.limiter c.in-Err-write_canonical.e c.in-NestingLimitExceeded.is stop in
-        deep_root laws (words_in (seg c.args.arena.now)) u c.args.schema (map call_view c.args.calls.now) c.args.levels c.in-Ok.replies.items c.in-Ok.ensures.all _
-        (λ n t there. let far = deeper (record { deep = c.values_that_are_read.ensures.deep; levels = c.values_that_are_read.ensures.levels }) c.values_on_walks.ensures.cost u n c.min-most.result t c.new-unlimited.result c.write_canonical.new.limiter c.in-Err-write_canonical.e c.new-unlimited.ensures.left walk there in let same = c.if-most-levels.true in omega (arith, far, same))
+          let walk = stopped_on_walk c.min-most.result u root c.new-unlimited.result c.write_canonical.new.limiter c.in-Err-write_canonical.e c.in-NestingLimitExceeded.is stop in
+          deep_root laws (words_in (seg c.args.arena.now)) u c.args.schema (map call_view c.args.calls.now) c.args.levels c.in-Ok.replies.items c.in-Ok.ensures.all _
+          (λ n t there. let far = deeper (record { deep = c.values_that_are_read.ensures.deep; levels = c.values_that_are_read.ensures.levels }) c.values_on_walks.ensures.cost u n c.min-most.result t c.new-unlimited.result c.write_canonical.new.limiter c.in-Err-write_canonical.e c.new-unlimited.ensures.left walk there in let same = c.if-most-levels.true in omega (arith, far, same))
       | inr full ↦ let no : BufferNotLargeEnough ≡ NestingLimitExceeded = sym full.why ∙ c.in-NestingLimitExceeded.is in absurd cc
     ]
 
