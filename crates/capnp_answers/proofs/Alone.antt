@@ -59,12 +59,12 @@ module _ (bytes : List ℕ) (b : Bounds) where
   abbrev Message : Segments
   Message = whole_words bytes ∷ []
 
-  pub stands : ValueLaws → CanonicalHolds → (l m : ReadLimiter) (is : Bool) → left_of l ≡ Some b.words → length bytes / 8 < 2 ^ 29 → TellsMessage b.nesting Message l (Ok is) m → OnTrue is (StandsCanonical b Message)
-  stands laws holds l m false left few tells = tt
-  stands laws holds l m true left few tells =
-      let h = holds b.nesting Message tells.0 in
+  pub stands : ValueLaws → CanonicalHolds → (n : ℕ) → n ≤ b.nesting → (l m : ReadLimiter) (is : Bool) → left_of l ≡ Some b.words → length bytes / 8 < 2 ^ 29 → TellsMessage n Message l (Ok is) m → OnTrue is (StandsCanonical b Message)
+  stands laws holds n less l m false left few tells = tt
+  stands laws holds n less l m true left few tells =
+      let h = holds n Message tells.0 in
       let long = ap length (head_is _ _ h.3) in
-      stands_within laws Message b l m h.0 left tells.1 h.1 h.2 h.3 (let size = whole_words-length bytes in omega (arith, long, size, few))
+      stands_within laws Message b n less l m h.0 left tells.1 h.1 h.2 h.3 (let size = whole_words-length bytes in omega (arith, long, size, few))
 
   -- its words, copied, are those of its value
   pub copied : StandsCanonical b Message → (into : List (List ℕ)) (count : ℕ) → filled count into ≡ whole_words bytes → count ≡ length bytes / 8 → count ≤ length into → ReadsValue b Message into count

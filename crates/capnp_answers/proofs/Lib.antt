@@ -1,3 +1,4 @@
+mod Levels
 mod Walks
 mod Heads
 mod Edited

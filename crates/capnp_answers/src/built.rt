@@ -1,10 +1,8 @@
 //! The answer of calls to a value that is built.
-ghost use Rattle.std.specs.Prelude.{◌≡◌, ◌≤◌, ◌<◌, ◌^◌, ℕ, true, map, length, Err, IfOk, ◌++◌, []};
+ghost use Rattle.std.specs.Prelude.{◌≡◌, ◌≤◌, ◌<◌, ◌^◌, true, map, length, Err, IfOk, ◌++◌, []};
 ghost use Rattle.std.specs.Option.{is_some};
 ghost use Rattle.std.specs.List.{flat_map};
 ghost use Rattle.capnp_model.specs.Segments.{root, words_at};
-ghost use Rattle.capnp_model.specs.Trees.{Tree, depth};
-ghost use Rattle.capnp_model.specs.Traversal.{tree_at};
 ghost use Rattle.capnp_units.specs.Segments.{words_in};
 ghost use Rattle.capnp_calls.specs.CallViews.{call_view};
 ghost use Rattle.capnp_calls.specs.Roots.{IsRoot};
@@ -18,7 +16,7 @@ ghost use Rattle.capnp_answers.specs.Answers.{AnswersRoot, AnswersWords, LongFro
 ghost use Rattle.capnp_canonical.specs.Writes.{filled};
 
 use crate::answer::{MessageAnswer, Reason, Want};
-use crate::reading::make_room;
+use crate::reading::{STACK_LEVELS, make_room};
 use capnp_calls::Call;
 use capnp_canonical::copy::write_canonical;
 use capnp_copy::allocator::Allocator;
@@ -32,26 +30,15 @@ use capnp_model::laws::{
     words_mean_their_value,
 };
 use capnp_object::place::ROOT;
-use capnp_object::size::size_at;
 use capnp_queries::structs::StructSchema;
 use capnp_run::fault::RunFault;
 use capnp_run::root::run_root;
+use capnp_units::kinds::ErrorKind;
 use capnp_units::limiter::ReadLimiter;
 use capnp_units::sizes::Word;
 use capnp_ways::ways::Ways;
 use capnp_wire::arena::ReaderArena;
 use std::alloc::Global;
-
-/// Whether the value of a message, which has one, is more than so many levels deep.
-fn is_deeper<A: ReaderArena>(arena: &A, levels: u32) -> bool
-    ensures { (n : ℕ) (t : Tree) → result ≡ true
-        → tree_at n (words_in (A.segments arena.now)) root ≡ Some t → levels < depth t }
-{
-    values_that_are_read();
-    values_on_walks();
-    let mut unlimited = ReadLimiter::new(None);
-    size_at(arena, &mut unlimited, ROOT, levels).is_err()
-}
 
 /// What is wanted where calls in turn end early.
 fn want_after(fault: RunFault) -> Want
@@ -64,6 +51,8 @@ fn want_after(fault: RunFault) -> Want
 }
 
 /// Answers calls in turn at the root of a message, a struct or null that takes no word twice, and writes the canonical words of what it becomes into a buffer.
+///
+/// `Memory`: a growth was refused, or what it becomes has more than `STACK_LEVELS` levels, where more are allowed. The calls themselves take stack for each level of what they clear, which is no deeper than the value and the calls' own paths and values together.
 fn answer_root<A: BuilderArena>(
     alloc: Global,
     arena: &mut A,
@@ -85,6 +74,7 @@ fn answer_root<A: BuilderArena>(
 {
     changes_of_values();
     values_as_a_relation();
+    values_on_walks();
     values_that_are_read();
     trimmed_values();
     words_mean_their_value();
@@ -94,14 +84,15 @@ fn answer_root<A: BuilderArena>(
     };
     make_room(words, arena.size_in_words())?;
     let mut unlimited = ReadLimiter::new(None);
-    match write_canonical(arena, &mut unlimited, ROOT, levels, words.as_mut_slice()) {
+    let most = levels.min(STACK_LEVELS);
+    match write_canonical(arena, &mut unlimited, ROOT, most, words.as_mut_slice()) {
         Ok(count) => Ok(MessageAnswer::Written { count, replies }),
-        Err(e) => {
-            if is_deeper(arena, levels) {
-                return Ok(MessageAnswer::Refused(Reason::Depth));
+        Err(e) => match e.kind {
+            ErrorKind::NestingLimitExceeded if most == levels => {
+                Ok(MessageAnswer::Refused(Reason::Depth))
             }
-            Err(Want::from(e))
-        }
+            _ => Err(Want::Memory),
+        },
     }
 }
 

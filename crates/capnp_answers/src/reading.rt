@@ -24,6 +24,9 @@ use capnp_wire::place::ROOT;
 /// A message has fewer words than this.
 const MESSAGE_WORDS: usize = 0x2000_0000;
 
+/// The most levels of pointers that a value is followed, whatever the bounds allow. Each walk over a value takes stack for each level; so many levels take at most half of a stack of 1 MiB.
+pub(crate) const STACK_LEVELS: u32 = 1024;
+
 /// Makes the buffer so many words long. `OutOfMemory`: it can't grow.
 #[inline(never)]
 fn grow(words: &mut Vec<Word>, count: usize) -> Result<()>
@@ -46,7 +49,7 @@ pub(crate) fn make_room(words: &mut Vec<Word>, count: usize) -> Result<()>
 
 /// Writes the canonical words of a message's value into a buffer, and answers how many they are; none where it has no value within the bounds, or one with a capability.
 ///
-/// It is refused with `BufferNotLargeEnough` where the buffer has no room for them.
+/// It is refused with `BufferNotLargeEnough` where the buffer has no room for them, and with `NestingLimitExceeded` where the bounds allow more levels than `STACK_LEVELS`, and an object below those is met before any other fault.
 fn read_canonical<M: ReaderArena>(
     message: &M,
     bounds: Bounds,
@@ -59,11 +62,18 @@ fn read_canonical<M: ReaderArena>(
     trimmed_values();
     copies_as_walks();
     let mut limiter = ReadLimiter::new(Some(bounds.words as u64));
+    let levels = bounds.nesting.min(STACK_LEVELS);
     let into = words.as_mut_slice();
-    match write_canonical(message, &mut limiter, ROOT, bounds.nesting, into) {
+    match write_canonical(message, &mut limiter, ROOT, levels, into) {
         Ok(count) => Ok(Some(count)),
         Err(e) => match e.kind {
             ErrorKind::BufferNotLargeEnough => Err(e),
+            ErrorKind::NestingLimitExceeded => {
+                if levels < bounds.nesting {
+                    return Err(e);
+                }
+                Ok(None)
+            }
             _ => Ok(None),
         },
     }
@@ -71,7 +81,7 @@ fn read_canonical<M: ReaderArena>(
 
 /// Writes the canonical words of a message's value into a buffer, which grows where they don't fit, and answers how many they are; none where the message has no value within the bounds, or one with a capability.
 ///
-/// The buffer has room for as many words as the message first. Where its pointers share words, its canonical words may be more; then the buffer becomes a word longer than the bounds allow, and the walk begins again. It is refused with `OutOfMemory` where the buffer can't grow, and with `BufferNotLargeEnough` where the canonical words are 2^29 or more.
+/// The buffer has room for as many words as the message first. Where its pointers share words, its canonical words may be more; then the buffer becomes a word longer than the bounds allow, and the walk begins again. It is refused with `OutOfMemory` where the buffer can't grow, with `BufferNotLargeEnough` where the canonical words are 2^29 or more, and with `NestingLimitExceeded` as `read_canonical` is.
 #[inline(never)]
 fn write_value<M: ReaderArena>(
     message: &M,
@@ -81,14 +91,15 @@ fn write_value<M: ReaderArena>(
     ensures { IfOk result (Reads bounds (words_in (M.segments message.now)) words.new.items) }
 {
     make_room(words, message.size_in_words())?;
-    if let Ok(read) = read_canonical(message, bounds, words) {
-        return Ok(read);
+    match read_canonical(message, bounds, words) {
+        Err(e) if e.kind == ErrorKind::BufferNotLargeEnough => {}
+        read => return read,
     }
     make_room(words, bounds.words as usize + 1)?;
     read_canonical(message, bounds, words)
 }
 
-/// Whether the words of a message of one segment are the canonical words of its value, which is within the bounds and has no capability, and fewer than 2^29. They are looked at up to the first that is otherwise.
+/// Whether the words of a message of one segment are the canonical words of its value, which is within the bounds and `STACK_LEVELS` and has no capability, and fewer than 2^29. They are looked at up to the first that is otherwise.
 #[inline(always)]
 fn stands_canonical(message: &OneSegment<'_>, bounds: Bounds) -> bool
     ensures { OnTrue result (StandsCanonical bounds (words_in (message.now.bytes.now ∷ []))) }
@@ -102,7 +113,7 @@ fn stands_canonical(message: &OneSegment<'_>, bounds: Bounds) -> bool
         return false;
     }
     let mut limiter = ReadLimiter::new(Some(bounds.words as u64));
-    match is_canonical_message(message, &mut limiter, bounds.nesting) {
+    match is_canonical_message(message, &mut limiter, bounds.nesting.min(STACK_LEVELS)) {
         Ok(stands) => stands,
         Err(_) => false,
     }
