@@ -1,18 +1,19 @@
 //! The streams of a program, over std's readers and writers.
-ghost use Rattle.std.specs.Prelude.{◌≡◌, ◌≤◌, ◌<◌, ◌↔◌, [], length, drop, vec_len, IfOk, IfErr, OnOk, IsTrue};
-ghost use Rattle.std.specs.Io.KnownBytes.{Keeps, IsAtEnd, prepend_known};
-ghost use Rattle.std.specs.Io.Buffered.{writer_inner, writer_buffer};
+ghost use Rattle.std.specs.Prelude.{◌≡◌, ◌⊎◌, [], length, IfOk, IfErr, OnOk};
+ghost use Rattle.std.specs.Io.KnownBytes.{Keeps, Consumes, prepend_known};
+ghost use Rattle.std.specs.Io.Buffered.{writer_inner, writer_buffer, writer_contents};
 ghost use Rattle.capnp_units.specs.declared.kinds.ErrorKind.{ErrorKind};
+ghost use Rattle.capnp_io.specs.Adapters.{source_inner, source_window, source_remaining, source_failures, sink_inner, sink_failures};
 ghost use Rattle.capnp_io.specs.Counting.{Counts};
+ghost use Rattle.capnp_io.specs.Streams.{ConsumesFewer, EndsBefore};
 
-use crate::devices::{flush_retrying, read_retrying, write_whole};
-use crate::memory::copy_beginning;
-use crate::traits::{BufRead, Read, Write};
+use crate::devices::{flush_retrying, read_retrying, refill, write_whole};
+use crate::traits::{BufRead, Read, Windowed, Write};
 use capnp_units::errors::{Error, Result};
 use capnp_units::kinds::ErrorKind;
-use std::alloc::{AllocError, Global};
+use std::alloc::Global;
 use std::io;
-use std::io::BufWriter;
+use std::io::{BufRead as _, BufReader, BufWriter};
 
 /// How many bytes are asked of a reader at once.
 pub const INPUT_BUFFER_LEN: usize = 64 * 1024;
@@ -20,127 +21,65 @@ pub const INPUT_BUFFER_LEN: usize = 64 * 1024;
 /// How many bytes a buffered sink holds back.
 pub const OUTPUT_BUFFER_LEN: usize = 64 * 1024;
 
-/// What was read and is not yet taken.
-#[derive(Drop)]
-pub struct Window {
-    buf: Vec<u8>,
-    start: usize,
-    end: usize,
-    ghost ordered: { start ≤ end },
-    ghost in_range: { end ≤ vec_len buf },
-    ghost wide: { 0 < vec_len buf },
-}
-
-impl Window {
-    ghost use Rattle.capnp_io.specs.Adapters.{window_bytes};
-
-    fn new(alloc: Global) -> std::result::Result<Window, AllocError>
-        ensures { IfOk result (λ w. window_bytes w ≡ []) }
-    {
-        let buf = vec![in alloc; 0; INPUT_BUFFER_LEN]?;
-        Ok(Window {
-            buf,
-            start: 0,
-            end: 0,
-        })
-    }
-
-    fn is_empty(&self) -> bool
-        ensures { IsTrue result ↔ (length (window_bytes self.now) ≡ 0) }
-    {
-        self.start >= self.end
-    }
-
-    fn as_slice(&self) -> &[u8]
-        ensures { result.now ≡ window_bytes self.now }
-    {
-        &self.buf[self.start..self.end]
-    }
-
-    fn consume(&mut self, amount: usize)
-        requires { amount ≤ length (window_bytes self.old) }
-        ensures { window_bytes self.new ≡ drop amount (window_bytes self.old) }
-    {
-        self.start += amount;
-    }
-
-    /// Reads anew, over what was taken.
-    fn refill<S: io::Read>(&mut self, inner: &mut S) -> Result<()>
-        requires { length (window_bytes self.old) ≡ 0 }
-        ensures kept { Keeps (S.remaining inner.old)
-            (prepend_known (window_bytes self.new) (S.remaining inner.new)) }
-        ensures end { OnOk result
-            (length (window_bytes self.new) ≡ 0 → IsAtEnd (S.remaining inner.new)) }
-        ensures refusal { IfErr result (λ e. e.kind ≡ ErrorKind.Device) }
-    {
-        self.start = 0;
-        self.end = 0;
-        self.end = read_retrying(inner, &mut self.buf)?;
-        Ok(())
-    }
-}
-
-/// A reader with a buffer, which counts the failures of its device.
+/// A reader with a buffer of 64 KiB, which shows what it holds without a wait, and counts the failures of its device.
 ///
-/// After a failure the bytes that were read before it are still there, and the next call asks the reader again.
+/// A call that a signal interrupts is made again. After a failure the bytes that were read before it are still there, and the next call asks the reader again.
 #[derive(Drop)]
 pub struct Source<S> {
-    inner: S,
-    window: Window,
+    inner: BufReader<S>,
     failures: u64,
 }
 
 impl<S: io::Read> Source<S> {
-    ghost use Rattle.capnp_io.specs.Adapters.{window_bytes, source_inner, source_remaining, source_failures};
-
-    pub fn new(alloc: Global, inner: S) -> std::result::Result<Source<S>, AllocError>
+    /// The source of a reader. Nothing is read yet. `OutOfMemory`: the memory for the buffer was refused.
+    pub fn new(alloc: Global, inner: S) -> Result<Source<S>>
     where
         S: Drop,
         ensures inner { IfOk result (λ s. source_inner s ≡ inner) }
+        ensures empty { IfOk result (λ s. source_window s ≡ []) }
         ensures remaining { IfOk result
             (λ s. source_remaining S.remaining s ≡ prepend_known [] (S.remaining inner)) }
         ensures failures { IfOk result (λ s. source_failures s ≡ 0) }
+        ensures err { IfErr result (λ e. e.kind ≡ ErrorKind.OutOfMemory) }
     {
-        let window = Window::new(alloc)?;
-        Ok(Source {
-            inner,
-            window,
-            failures: 0,
-        })
+        match BufReader::with_capacity(alloc, INPUT_BUFFER_LEN, inner) {
+            Ok(inner) => Ok(Source { inner, failures: 0 }),
+            Err(_) => Err(Error::from(ErrorKind::OutOfMemory)),
+        }
     }
 
     /// How many bytes were read and are not yet taken. Where there are none the next read asks the reader, and may wait.
     pub fn buffered(&self) -> usize
-        ensures { result ≡ length (window_bytes self.now.window) }
+        ensures { result ≡ length (source_window self.now) }
     {
-        self.window.as_slice().len()
-    }
-
-    /// Asks the reader for more where all that it gave is taken. At the end of input nothing comes.
-    fn refill(&mut self) -> Result<()>
-        ensures kept { Keeps (source_remaining S.remaining self.old)
-            (source_remaining S.remaining self.new) }
-        ensures end { OnOk result (length (window_bytes self.new.window) ≡ 0
-            → IsAtEnd (S.remaining self.new.inner)) }
-        ensures refusal { IfErr result (λ e. e.kind ≡ ErrorKind.Device) }
-        ensures count { Counts result (source_failures self.old) (source_failures self.new) }
-    {
-        if !self.window.is_empty() {
-            return Ok(());
-        }
-        match self.window.refill(&mut self.inner) {
-            Ok(()) => Ok(()),
-            Err(e) => {
-                self.failures = self.failures.saturating_add(1);
-                Err(e)
-            }
-        }
+        self.inner.buffer().len()
     }
 }
 
-impl<S: io::Read> Read for Source<S> {
-    ghost use Rattle.capnp_io.specs.Adapters.{source_remaining, source_failures};
+/// Fills the whole of `buf` by reads, or refuses at the end of input, which it then has reached.
+#[inline(never)]
+fn read_whole<S: io::Read>(source: &mut Source<S>, buf: &mut [u8]) -> Result<()>
+    ensures ok { OnOk result (Consumes (source_remaining S.remaining source.old)
+        (source_remaining S.remaining source.new) buf.new) }
+    ensures part { let old = source_remaining S.remaining source.old in
+        let new = source_remaining S.remaining source.new in
+        IfErr result (λ e. ((e.kind ≡ ErrorKind.Device) × ConsumesFewer old new (length buf.old))
+        ⊎ ((e.kind ≡ ErrorKind.FailedToFillTheWholeBuffer)
+        × EndsBefore old new (length buf.old))) }
+    ensures count { Counts result (source_failures source.old) (source_failures source.new) }
+{
+    let mut at = 0;
+    while at < buf.len() {
+        let n = source.read(&mut buf[at..])?;
+        if n == 0 {
+            return Err(Error::from(ErrorKind::FailedToFillTheWholeBuffer));
+        }
+        at += n;
+    }
+    Ok(())
+}
 
+impl<S: io::Read> Read for Source<S> {
     ghost remaining = { source_remaining S.remaining };
 
     ghost failures = { source_failures };
@@ -148,10 +87,28 @@ impl<S: io::Read> Read for Source<S> {
     ghost refuses = { λ k. k ≡ ErrorKind.Device };
 
     fn read(&mut self, buf: &mut [u8]) -> Result<usize> {
-        self.refill()?;
-        let n = copy_beginning(self.window.as_slice(), buf);
-        self.window.consume(n);
-        Ok(n)
+        match read_retrying(&mut self.inner, buf) {
+            Ok(n) => Ok(n),
+            Err(e) => {
+                self.failures = self.failures.saturating_add(1);
+                Err(e)
+            }
+        }
+    }
+
+    #[inline(always)]
+    fn read_exact(&mut self, buf: &mut [u8]) -> Result<()> {
+        let len = buf.len();
+        if len == 0 {
+            return Ok(());
+        }
+        let window = self.inner.buffer();
+        if len > window.len() {
+            return read_whole(self, buf);
+        }
+        buf.copy_from_slice(&window[..len]);
+        self.inner.consume(len);
+        Ok(())
     }
 
     fn failures(&self) -> u64 {
@@ -160,20 +117,31 @@ impl<S: io::Read> Read for Source<S> {
 }
 
 impl<S: io::Read> BufRead for Source<S> {
-    ghost use Rattle.capnp_io.specs.Adapters.{window_bytes};
-
-    ghost shown = { λ s. length (window_bytes s.window) };
+    ghost shown = { λ s. length (source_window s) };
 
     fn fill_buf(&mut self) -> Result<&[u8]> {
-        self.refill()?;
-        Ok(self.window.as_slice())
+        match refill(&mut self.inner) {
+            Ok(()) => Ok(self.inner.buffer()),
+            Err(e) => {
+                self.failures = self.failures.saturating_add(1);
+                Err(e)
+            }
+        }
     }
 
     fn consume(&mut self, amount: usize) {
-        self.window.consume(amount);
+        self.inner.consume(amount);
     }
 
     ghost device_alone = { λ _ e. e };
+}
+
+impl<S: io::Read> Windowed for Source<S> {
+    ghost window = { source_window };
+
+    fn window(&self) -> &[u8] {
+        self.inner.buffer()
+    }
 }
 
 /// A writer, which counts the failures of its device.
@@ -184,8 +152,6 @@ pub struct Sink<S> {
 }
 
 impl<S: io::Write> Sink<S> {
-    ghost use Rattle.capnp_io.specs.Adapters.{sink_inner, sink_failures};
-
     pub fn new(inner: S) -> Sink<S>
         ensures inner { sink_inner result ≡ inner }
         ensures failures { sink_failures result ≡ 0 }
@@ -200,9 +166,6 @@ impl<S: io::Write> Sink<S> {
 /// what it didn't take is still held, in order, and comes first at the next call. So a count of what was
 /// written speaks of what the sink was given, and only a `flush` that succeeds says that the writer has it all.
 impl<S: io::Write + Drop> Sink<BufWriter<S>> {
-    ghost use Rattle.std.specs.Io.Buffered.{writer_contents};
-    ghost use Rattle.capnp_io.specs.Adapters.{sink_inner, sink_failures};
-
     pub fn buffered(alloc: Global, inner: S) -> Result<Sink<BufWriter<S>>>
         ensures inner { IfOk result (λ s. writer_inner (sink_inner s) ≡ inner) }
         ensures empty { IfOk result (λ s. writer_buffer (sink_inner s) ≡ []) }

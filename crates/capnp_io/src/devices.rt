@@ -1,15 +1,15 @@
 //! Reads and writes of a device, tried again where a signal interrupts them.
-ghost use Rattle.std.specs.Prelude.{◌≡◌, ◌≤◌, [], length, drop, IfErr, OnOk, OnErr};
+ghost use Rattle.std.specs.Prelude.{◌≡◌, ◌≤◌, [], length, drop, IfSome, IfErr, OnOk, OnErr};
 ghost use Rattle.std.specs.Io.{ReadsAtMost, WritesAtMost};
 ghost use Rattle.std.specs.Io.KnownBytes.{Keeps, ReadConsumes, WriteAppends, Appends};
-ghost use Rattle.std.specs.Io.Buffered.{writer_buffer, writer_contents};
+ghost use Rattle.std.specs.Io.Buffered.{reader_buffer, reader_remaining, writer_buffer, writer_contents};
 ghost use Rattle.capnp_units.specs.declared.kinds.ErrorKind.{ErrorKind};
 ghost use Rattle.capnp_io.specs.Streams.{AppendsPart};
 
 use capnp_units::errors::{Error, Result};
 use capnp_units::kinds::ErrorKind;
 use std::io;
-use std::io::BufWriter;
+use std::io::{BufRead as _, BufReader, BufWriter};
 
 /// One read. A failed one is no end of input.
 pub(crate) fn read_retrying<S: io::Read>(from: &mut S, buf: &mut [u8]) -> Result<usize>
@@ -28,6 +28,43 @@ pub(crate) fn read_retrying<S: io::Read>(from: &mut S, buf: &mut [u8]) -> Result
         }
     }
     Err(Error::from(ErrorKind::Device))
+}
+
+/// Asks the reader for more. At the end of input nothing comes.
+#[inline(never)]
+fn refill_retrying<S: io::Read>(from: &mut BufReader<S>) -> Result<()>
+    ensures kept { Keeps (reader_remaining S.remaining from.old)
+        (reader_remaining S.remaining from.new) }
+    ensures end { OnOk result (IfSome (reader_remaining S.remaining from.old)
+        (λ xs. length (reader_buffer from.new) ≡ 0 → xs ≡ [])) }
+    ensures refusal { IfErr result (λ e. e.kind ≡ ErrorKind.Device) }
+{
+    for _ in 0..u64::MAX {
+        match from.fill_buf() {
+            Ok(_) => return Ok(()),
+            Err(e) => {
+                if e.kind() != io::ErrorKind::Interrupted {
+                    return Err(Error::from(ErrorKind::Device));
+                }
+            }
+        }
+    }
+    Err(Error::from(ErrorKind::Device))
+}
+
+/// Asks the reader for more where all that it gave is taken.
+#[inline(always)]
+pub(crate) fn refill<S: io::Read>(from: &mut BufReader<S>) -> Result<()>
+    ensures kept { Keeps (reader_remaining S.remaining from.old)
+        (reader_remaining S.remaining from.new) }
+    ensures end { OnOk result (IfSome (reader_remaining S.remaining from.old)
+        (λ xs. length (reader_buffer from.new) ≡ 0 → xs ≡ [])) }
+    ensures refusal { IfErr result (λ e. e.kind ≡ ErrorKind.Device) }
+{
+    if !from.buffer().is_empty() {
+        return Ok(());
+    }
+    refill_retrying(from)
 }
 
 /// One write.

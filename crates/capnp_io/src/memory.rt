@@ -6,13 +6,13 @@ ghost use Rattle.capnp_io.specs.Counting.{Counts};
 ghost use Rattle.capnp_io.specs.Streams.{AppendsPart, RoomFalls, IsWriteRefusal};
 
 use crate::slice_writer::SliceWriter;
-use crate::traits::{BufRead, Read, Write};
+use crate::traits::{BufRead, Read, Windowed, Write};
 use capnp_units::errors::{Error, Result};
 use capnp_units::kinds::ErrorKind;
 use std::alloc::Allocator;
 
 /// Copies as many bytes as both have, and answers how many.
-pub(crate) fn copy_beginning(from: &[u8], to: &mut [u8]) -> usize
+fn copy_beginning(from: &[u8], to: &mut [u8]) -> usize
     ensures count { result ≡ min (length from.now) (length to.old) }
     ensures copied { to.new ≡ take result from.now ++ drop result to.old }
 {
@@ -54,6 +54,14 @@ impl BufRead for &[u8] {
     }
 
     ghost device_alone = { λ _ e. e };
+}
+
+impl Windowed for &[u8] {
+    ghost window = { λ s. s.now };
+
+    fn window(&self) -> &[u8] {
+        *self
+    }
 }
 
 impl<R: Read> Read for &mut R {

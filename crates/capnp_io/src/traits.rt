@@ -81,6 +81,18 @@ pub trait BufRead: Read {
     ghost device_alone: { (k : ErrorKind) → Self.refuses k → k ≡ ErrorKind.Device };
 }
 
+/// A source that tells which bytes it shows without a wait.
+pub trait Windowed: BufRead {
+    /// The bytes that were shown and are not yet taken.
+    ghost window: { Self → List ℕ };
+
+    /// The bytes that were shown and are not yet taken, a beginning of those to come: a read of more than these may wait.
+    fn window(&self) -> &[u8]
+        ensures bytes { result.now ≡ window self.now }
+        ensures len { length result.now ≡ Self.shown self.now }
+        ensures front { IfSome (Self.remaining self.now) (λ xs. StartsWith xs result.now) };
+}
+
 /// A sink of bytes.
 pub trait Write {
     /// The bytes that the sink holds, where it tells them.

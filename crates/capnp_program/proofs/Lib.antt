@@ -5,5 +5,4 @@ mod Asking
 mod Telling
 mod Running
 mod Tables
-mod Showing
 mod Written

@@ -6,6 +6,5 @@ pub mod Versions
 pub mod Settings
 pub mod Lines
 pub mod Program
-pub mod Inputs
 pub mod Enough
 pub mod Ahead

@@ -3,7 +3,6 @@
 
 pub mod ahead;
 pub mod arguments;
-pub mod input;
 mod lines;
 pub mod program;
 mod run;

@@ -1,6 +1,5 @@
-//! Sources that may wait, and the flushes before they do.
-ghost use Rattle.std.specs.Prelude.{◌≡◌, ℕ, Option, List, [], length, OnOk, IfErr, IfSome, ⊤};
-ghost use Rattle.std.specs.Io.{StartsWith};
+//! The flushes before a source that may wait.
+ghost use Rattle.std.specs.Prelude.{◌≡◌, ℕ, Option, [], OnOk, IfErr, ⊤};
 ghost use Rattle.capnp_model.specs.Messages.{message_at};
 ghost use Rattle.capnp_stream.specs.Pieces.{EndsEarly};
 ghost use Rattle.capnp_loop.specs.Streams.{sink_of};
@@ -10,28 +9,9 @@ use crate::ahead::{BoundedForm, holds_next};
 use crate::sinks::Flush;
 use capnp_between::ends::Fault;
 use capnp_between::pauses::Pause;
-use capnp_stream::traits::{BufRead, Read, Write};
+pub use capnp_io::traits::Windowed;
+use capnp_io::traits::{Read, Write};
 use std::marker::PhantomData;
-
-/// A source that tells which bytes it shows without a wait.
-pub trait Windowed: BufRead {
-    /// The bytes that were shown and are not yet taken.
-    ghost window: { Self → List ℕ };
-
-    /// The bytes that were shown and are not yet taken, a beginning of those to come: a read of more than these may wait.
-    fn window(&self) -> &[u8]
-        ensures bytes { result.now ≡ window self.now }
-        ensures len { length result.now ≡ Self.shown self.now }
-        ensures front { IfSome (Self.remaining self.now) (λ xs. StartsWith xs result.now) };
-}
-
-impl Windowed for &[u8] {
-    ghost window = { λ s. s.now };
-
-    fn window(&self) -> &[u8] {
-        *self
-    }
-}
 
 /// Hands on what both sinks hold, the output's before the log's, unless the bytes that the source shows tell the next message, or
 /// what is wrong with it, so that it is read without a wait. `Out`, `Log`: the sink's device failed.

@@ -16,7 +16,6 @@ pub use capnp_files::calls_file::{CallsFile, calls_file};
 pub use capnp_files::fault::FileFault;
 pub use capnp_files::renames_file::renames_file;
 pub use capnp_files::schema_file::schema_file;
-pub use capnp_program::input::Input;
 pub use capnp_program::program::program;
 pub use capnp_relay_streams::ends::{Counts, Fault, RelayFault};
 pub use capnp_relay_streams::options::{Form, OptionsFault, ReaderOptions, RelayOptions};

@@ -3,9 +3,8 @@
 //! The arguments name a schema file, a calls file, the root's node and the form of the messages; `--help` says more. A fault is the last line on standard error, and makes the status 1.
 #![tactic(auto)]
 
-use capnp_program::input::Input;
 use capnp_program::program::program;
-use capnp_stream::adapters::Sink;
+use capnp_stream::adapters::{Sink, Source};
 use std::process::ExitCode;
 use std::{env, fs, io};
 
@@ -44,7 +43,7 @@ fn run(rt: &HostRuntime) -> io::Result<u8> {
     let calls = file(rt, &words, 1)?;
     let newer = file(rt, &words, 4)?;
     let renames = file(rt, &words, 5)?;
-    let source = Input::new(alloc, rt.stdin());
+    let source = Source::new(alloc, rt.stdin());
     let out = Sink::buffered(alloc, rt.stdout());
     let log = Sink::buffered(alloc, rt.stderr());
     let (Ok(mut source), Ok(mut out), Ok(mut log)) = (source, out, log) else {

@@ -6,8 +6,6 @@ mod devices;
 #[cfg(test)]
 mod files;
 #[cfg(test)]
-mod inputs;
-#[cfg(test)]
 mod large;
 #[cfg(test)]
 mod runs;

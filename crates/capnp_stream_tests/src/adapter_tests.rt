@@ -1,7 +1,7 @@
 //! Readers and writers of a program that are interrupted, end and fail.
 use crate::messages::{TWO, WRITTEN, expect_two};
 use capnp_io::adapters::{Sink, Source};
-use capnp_io::traits::{BufRead, Read, Write};
+use capnp_io::traits::{BufRead, Read, Windowed, Write};
 use capnp_stream::forms::Framed;
 use capnp_stream::frames::try_read_message_in;
 use capnp_units::errors::Error;
@@ -99,6 +99,7 @@ fn a_failed_read_is_no_end(rt: HostRuntime) -> std::result::Result<(), Fail> {
     let reader = Stumbling::new(&TWO, 0, io::ErrorKind::Other);
     let mut source = Source::new(alloc, reader)?;
     assert!(rt; source.fill_buf().is_err());
+    assert!(rt; source.window().is_empty());
     expect_two(&rt, alloc, &mut source)?;
     assert!(rt; source.failures() == 1);
     Ok(())
@@ -113,6 +114,23 @@ fn an_interrupted_read_is_tried_again(rt: HostRuntime) -> std::result::Result<()
         expect_two(&rt, alloc, &mut source)?;
         assert!(rt; source.failures() == 0, "at {n}");
     }
+    Ok(())
+}
+
+#[test]
+fn what_was_read_is_shown_until_it_is_taken(rt: HostRuntime) -> std::result::Result<(), Fail> {
+    let mut source = Source::new(rt.alloc(), [1u8, 2, 3].as_slice())?;
+    assert!(rt; source.window().is_empty());
+    assert!(rt; source.fill_buf()?.len() == 3);
+    assert!(rt; source.window() == [1, 2, 3].as_slice());
+    source.consume(1);
+    assert!(rt; source.window() == [2, 3].as_slice());
+    let mut two = [0; 2];
+    source.read_exact(&mut two)?;
+    assert!(rt; two == [2, 3]);
+    assert!(rt; source.window().is_empty());
+    assert!(rt; source.read(&mut two)? == 0);
+    assert!(rt; source.failures() == 0);
     Ok(())
 }
 

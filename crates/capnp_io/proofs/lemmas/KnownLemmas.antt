@@ -47,32 +47,11 @@ AppendsPart-next a b c bs cs first p = (bs ++ p.0, p.1, ap (λ l. bs ++ l) p.2 �
 pub AppendsPart-behind : (a b c : Option (List ℕ)) (n : ℕ) (bs : List ℕ) → Appends a b (take n bs) → AppendsPart b c (drop n bs) → AppendsPart a c bs
 AppendsPart-behind a b c n bs first p = subst (AppendsPart a c) (take-append-drop n bs) (AppendsPart-next a b c (take n bs) (drop n bs) first p)
 
--- the rest of a part of a list
-pub slice_range-drop : (xs : List ℕ) (a b n : ℕ) → n ≤ b - a → slice_range xs (a + n) b ≡ drop n (slice_range xs a b)
-slice_range-drop xs a b n fits =
-    let rest : b - a ≡ n + (b - (a + n)) = omega arith in
-    sym (ap (λ k. drop n (take k (drop a xs))) rest ∙ drop-take n (b - (a + n)) (drop a xs) ∙ ap (take (b - (a + n))) (drop-drop n a xs))
-
 -- two writes of a list, one after the other
 pub Appends-take : (a b c : Option (List ℕ)) (at n : ℕ) (bs : List ℕ) → Appends a b (take at bs) → Appends b c (take n (take (length bs - at) (drop at bs))) → Appends a c (take (at + n) bs)
 Appends-take a b c at n bs p q =
     let second : Appends b c (take n (drop at bs)) = subst (λ l. Appends b c (take n l)) (take_rest bs at) q in
     subst (Appends a c) (sym (take-add at n bs)) (Appends-trans a b c (take at bs) (take n (drop at bs)) p second)
-
--- what a read takes of the bytes that were read ahead
-pub Consumes-of_window : (a b : Option (List ℕ)) (window left buf rest old : List ℕ) (n : ℕ)
-    → Keeps a (prepend_known window b) → (length window ≡ 0 → IsAtEnd b) → n ≡ min (length window) (length old) → buf ≡ take n window ++ rest → length buf ≡ length old
-    → left ≡ drop n window → Consumes a (prepend_known left b) (take n buf) × (n ≡ 0 → 0 < length buf → IsAtEnd (prepend_known left b))
-Consumes-of_window a b window left buf rest old n kept end count copied same are =
-    let inside : n ≤ length window = omega arith in
-    let front : take n buf ≡ take n window = ap (take n) copied ∙ take_at (take n window) rest n (length-take-le n window inside) in
-    let whole : window ≡ take n window ++ left = sym (ap (λ l. take n window ++ l) are ∙ take-append-drop n window) in
-    let taken = prepend_known-read a b window left (take n window) ⊥ kept whole (λ no. absurd no) in
-    let ended : n ≡ 0 → 0 < length buf → IsAtEnd (prepend_known left b) = λ none some.
-    let empty : length window ≡ 0 = omega arith in
-    let nothing : left ≡ [] = nil_from_length left (omega (arith, ap length are, length-drop n window)) in
-    subst (λ l. IsAtEnd (prepend_known l b)) (sym nothing) (subst IsAtEnd (sym (prepend_known-nil b)) (end empty)) in
-    (subst (Consumes a (prepend_known left b)) (sym front) taken.0, ended)
 
 -- what holds of a front whatever follows it holds of the known bytes
 pub IfSome-of_front : (a b : Option (List ℕ)) (front : List ℕ) (P : List ℕ → Type 0) → Consumes a b front → ((more : List ℕ) → P (front ++ more)) → IfSome a P

@@ -1,7 +1,7 @@
 use Rattle.std.proofs.Common.{◌≡◌, ◌++◌, length, take, sym, ap, ◌∙◌, take-append-drop}
 use Rattle.std.specs.Io.Buffered.{reader_buffer, reader_capacity}
-use Rattle.capnp_program.proofs.Showing.{taken_shown}
-use Rattle.capnp_program.proofs.input.InputRead.read_exact.Goals as goal
+use Rattle.capnp_io.proofs.Showing.{taken_shown}
+use Rattle.capnp_io.proofs.adapters.SourceRead.read_exact.Goals as goal
 
 pub returns-clause-ok : goal.returns-clause-ok
 returns-clause-ok g c =

@@ -5,7 +5,7 @@ use Rattle.std.proofs.lemmas.Result.{err_from_is_err_and}
 use Rattle.capnp_units.specs.declared.errors.Error.{Error}
 use Rattle.capnp_units.specs.declared.kinds.ErrorKind.TheVariants.{Device}
 use Rattle.capnp_io.proofs.lemmas.Filling.{take-put_mid_more}
-use Rattle.capnp_program.proofs.input.read_whole.Goals as goal
+use Rattle.capnp_io.proofs.adapters.read_whole.Goals as goal
 
 pub loop-at-preserved : goal.loop-at-preserved
 loop-at-preserved g c = record {
