@@ -47,6 +47,26 @@ with_front-word w ws (Err k) = refl
 pub Spells-none : (n : ℕ) (run : model.Run) → Spells n run [] [] n run
 Spells-none n run = record { says = λ more. sym (with_front-nil (unpacked_from n run more)); needed = none-needed (unpacked_from n run) }
 
+-- nothing was unpacked
+pub unpacks-nothing : (run : Run) (shown buf : List ℕ) → Unpacks run shown buf (record { taken = 0; filled = 0; run = run })
+unpacks-nothing run shown buf =
+    let all : length buf / 8 ≡ (length buf - 0) / 8 = omega arith in
+    record {
+      within = omega arith;
+      fits = omega arith;
+      whole = omega arith;
+      spells = subst (λ n. Spells (length buf / 8) (run_view run) [] [] n (run_view run)) all (Spells-none (length buf / 8) (run_view run));
+    }
+
+-- what is at the front of a buffer is at that of another of the same length
+pub unpacks-in : (run : Run) (shown buf after : List ℕ) (step : Step) → length after ≡ length buf → take step.filled after ≡ take step.filled buf → Unpacks run shown buf step → Unpacks run shown after step
+unpacks-in run shown buf after step same front unpacked = record {
+  within = unpacked.within;
+  fits = omega (arith, same, unpacked.fits);
+  whole = unpacked.whole;
+  spells = rw (same, front) unpacked.spells;
+}
+
 Spells-trans : (n m l : ℕ) (r s t : model.Run) (p q xs ys : List ℕ) → Spells n r p xs m s → Spells m s q ys l t → Spells n r (p ++ q) (xs ++ ys) l t
 Spells-trans n m l r s t p q xs ys first then_more = record {
   says = λ more. ap (unpacked_from n r) (append_assoc p q more) ∙ first.says (q ++ more) ∙ ap (with_front xs) (then_more.says more) ∙ with_front-more xs ys (unpacked_from l t more);

@@ -1,15 +1,55 @@
-use Rattle.std.proofs.Common.{◌≡◌, ℕ, ◌+◌, ◌-◌, ◌<◌, ◌≤◌, List, ◌++◌, length, take, drop, get_or, Ok, sym, ap, subst, ◌∙◌, arith, rules, take_at, drop_at, length-take-le, length-drop, length-append}
+use Rattle.std.proofs.Common.{◌≡◌, refl, ℕ, ◌+◌, ◌-◌, ◌<◌, ◌≤◌, List, ◌++◌, length, take, drop, get_or, Ok, sym, ap, subst, ◌∙◌, arith, rules, take_at, drop_at, length-take-le, length-drop, length-append}
 use Rattle.std.proofs.lemmas.List.{take_all, get_or-drop, drop-take}
 use Rattle.std.proofs.lemmas.Slice.{take-put_mid_below}
 use borrow.Rule.Slice.PartMut.{put_mid}
 use Rattle.capnp_io.proofs.lemmas.Filling.{take-put_mid_more}
-use Rattle.capnp_packing.specs.Steps.{IsFirst, BeginsWith}
+use Rattle.capnp_packing.specs.Steps.{IsFirst, BeginsWith, Unpacks}
 use Rattle.capnp_packing.specs.Parts.{tagged}
+use Rattle.capnp_packing.specs.declared.runs.Run.{Run}
+use Rattle.capnp_packing.specs.declared.runs.Run.TheVariants.{Next}
 use Rattle.capnp_packing.specs.Tags.{marks}
 use Rattle.capnp_packing.proofs.HeadLemmas.{behind-front, next-shown}
 use Rattle.capnp_packing.proofs.TagLemmas.{not-full}
-use Rattle.capnp_packing.proofs.UnpackLemmas.{then_run, then-over, plain-unpacks, rest-of, first-at, left-within, left-rest, groups-more}
+use Rattle.capnp_packing.proofs.UnpackLemmas.{then_run, then-over, then-some, unpacks-nothing, unpacks-in, plain-unpacks, rest-of, first-at, left-within, left-rest, groups-more}
 use Rattle.capnp_packing.proofs.shown.Step.of_groups.Goals as goal
+use Rattle.capnp_packing.proofs.shown.Step.of_groups.Goals.{else-loop-filled-test, then-loop-filled-test+in_default, then-loop-filled-test+in-Some+else-tag-ne0+in_default-with_run}
+
+pub loop-filled-init : goal.loop-filled-init
+loop-filled-init c =
+    let shown = c.args.shown.now in
+    let buf = c.args.buf.now in
+    let none : 0 ≡ length shown - length shown = omega arith in
+    record {
+      same = refl;
+      within = omega arith;
+      rest = ap (λ (k : ℕ). drop k shown) none;
+      unpacked = subst (λ (k : ℕ). Unpacks c.args.run shown buf (record { taken = k; filled = 0; run = c.args.run })) none (unpacks-nothing c.args.run shown buf);
+      tag = c.first_byte-tag.ensures;
+    }
+
+pub returns-else-filled-eq0 : goal.returns-else-filled-eq0
+returns-else-filled-eq0 c =
+    let l = c.loop-filled in
+    let run = c.args.run in
+    let shown = c.args.shown.now in
+    let taken = length shown - length l.left.now in
+    let some : 0 < l.filled = omega (arith, c.if-filled-eq0.false) in
+    let before : Unpacks run shown l.buf (record { taken = taken; filled = l.filled; run = Next }) = subst (λ (r : Run). Unpacks run shown l.buf (record { taken = taken; filled = l.filled; run = r })) (then-some l.filled run some) l.invariant.unpacked in
+    elim c.loop-filled-test.branch [
+      | else-loop-filled-test w ↦ subst (λ (b : List ℕ). Unpacks run shown b (record { taken = taken; filled = l.filled; run = Next })) (sym w.buf-is) before
+      | then-loop-filled-test+in_default w ↦ subst (λ (b : List ℕ). Unpacks run shown b (record { taken = taken; filled = l.filled; run = Next })) (sym w.buf-is) before
+      | then-loop-filled-test+in-Some+else-tag-ne0+in_default-with_run w ↦ (
+          let word = w.copy_from_slice.new.self in
+          let mid = put_mid l.filled (l.filled + 8 - l.filled) l.buf word in
+          let tail = w.with_run.new.buf in
+          let after = put_mid l.filled (length mid - l.filled) mid tail in
+          let within : l.filled ≤ length l.buf = omega (arith, l.invariant.unpacked.fits) in
+          let steady : length mid ≡ length l.buf = search rules in
+          let kept : length after ≡ length l.buf = ap length (sym w.buf-is) ∙ c.loop-filled-test.auto.buf in
+          let front : take l.filled after ≡ take l.filled l.buf = take-put_mid_below l.filled _ mid tail l.filled (omega arith) (omega (arith, steady, within)) ∙ take-put_mid_below l.filled _ l.buf word l.filled (omega arith) within in
+          subst (λ (b : List ℕ). Unpacks run shown b (record { taken = taken; filled = l.filled; run = Next })) (sym w.buf-is) (unpacks-in run shown l.buf after (record { taken = taken; filled = l.filled; run = Next }) kept front before)
+          )
+    ]
 
 pub loop-filled-preserved-then-tag : goal.loop-filled-preserved-then-tag
 loop-filled-preserved-then-tag c =

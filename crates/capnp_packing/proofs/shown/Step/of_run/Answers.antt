@@ -1,13 +1,9 @@
-use Rattle.std.proofs.Common.{◌≡◌, ◌∙◌, ℕ, ◌-◌, ◌*◌, ◌/◌, ◌%◌, ◌<◌, ◌≤◌, List, length, refl, sym, ap, subst, arith}
+use Rattle.std.proofs.Common.{◌≡◌, ℕ, ◌*◌, ◌/◌, ◌%◌, ◌<◌, ◌≤◌, length, refl, subst, arith}
 use Prim.Native.Nat.{min}
-use Rattle.capnp_model.specs.Packing.{unpacked_from}
-use Rattle.capnp_stream.proofs.lemmas.EarlyLemmas.{none-needed}
-use Rattle.capnp_packing.specs.Runs.{run_view, NeedsBytes}
-use Rattle.capnp_packing.specs.Steps.{Unpacks}
+use Rattle.capnp_packing.specs.Runs.{NeedsBytes}
 use Rattle.capnp_packing.specs.declared.runs.Run.{Run}
 use Rattle.capnp_packing.specs.declared.runs.Run.TheVariants.{First, Next, Zeros, Verbatim}
-use Rattle.capnp_packing.proofs.PartLemmas.{with_front-nil}
-use Rattle.capnp_packing.proofs.UnpackLemmas.{unpacks-zeros, unpacks-verbatim}
+use Rattle.capnp_packing.proofs.UnpackLemmas.{unpacks-nothing, unpacks-zeros, unpacks-verbatim}
 use Rattle.capnp_packing.proofs.shown.Step.of_run.Goals as goal
 
 -- So many words are no more than there are, or than a buffer has bytes for.
@@ -16,20 +12,6 @@ fits-words len count w is = (omega (arith, is), omega (arith, is))
 
 fits-both : (len there count m w : ℕ) → m ≡ min (len / 8) (there / 8) → w ≡ min m count → (8 * w ≤ len) × (8 * w ≤ there) × (w ≤ count)
 fits-both len there count m w least is = (omega (arith, least, is), omega (arith, least, is), omega (arith, is))
-
--- Nothing was unpacked.
-unpacks-nothing : (run : Run) (shown buf : List ℕ) → Unpacks run shown buf (record { taken = 0; filled = 0; run = run })
-unpacks-nothing run shown buf =
-    let all : length buf / 8 ≡ (length buf - 0) / 8 = omega arith in
-    record {
-      within = omega arith;
-      fits = omega arith;
-      whole = omega arith;
-      spells = record {
-        says = λ more. ap (λ n. unpacked_from n (run_view run) more) all ∙ sym (with_front-nil (unpacked_from ((length buf - 0) / 8) (run_view run) more));
-        needed = none-needed (unpacked_from (length buf / 8) (run_view run));
-      };
-    }
 
 -- Of zero words that are left some fit a buffer that has a word.
 some-zeros : (run : Run) (count w len : ℕ) → run ≡ Zeros count → w ≡ min (len / 8) count → len % 8 ≡ 0 → (NeedsBytes run → ⊥) → 0 < len → 0 < 8 * w
