@@ -1,0 +1,94 @@
+//! Messages that a function builds, whose roots are of each sort.
+use capnp_layout::{ElementSize, Error, ErrorKind, ReaderSegments, Result, data, text};
+use capnp_message::message::{
+    Builder, DEFAULT_READER_OPTIONS, DataPlace, HeapAllocator, PointerPlace, TextPlace,
+    TypedBuilder, root_of, with_message,
+};
+use capnp_message::serialize::{
+    NoAllocBufferSegments, NoAllocSegmentTableInfo, NoAllocSliceSegments,
+};
+use std::alloc::Global;
+use std::test::Fail;
+
+/// The used bytes of the first segment.
+fn bytes_of<S: ReaderSegments>(alloc: Global, message: &S) -> Result<Vec<u8>> {
+    match message.get_segment(0) {
+        Some(bytes) => Ok(Vec::from_slice(alloc, bytes)?),
+        None => Ok(Vec::new(alloc)),
+    }
+}
+
+/// Three numbers of two bytes as the root, where the kind of list and their count stand in its pointer.
+fn numbers(alloc: Global, message: &mut Builder<HeapAllocator>) -> Result<Vec<u8>> {
+    let list = root_of(&mut message.memory)?.init_list(ElementSize::TwoBytes, 3)?;
+    if list.len() != 3 {
+        return Err(Error::from(ErrorKind::OutOfBounds));
+    }
+    bytes_of(alloc, message)
+}
+
+#[test]
+fn a_list_is_the_root(rt: HostRuntime) -> std::result::Result<(), Fail> {
+    let alloc = rt.alloc();
+    let bytes = with_message(alloc, |message| numbers(alloc, message))?;
+    let expected = [1u8, 0, 0, 0, 0x1b, 0, 0, 0, 0, 0, 0, 0, 0, 0, 0, 0];
+    assert!(rt; bytes.as_slice() == expected.as_slice());
+    Ok(())
+}
+
+/// A root that is made null, and is read where nothing was written to it.
+fn null_root(message: &mut Builder<HeapAllocator>) -> Result<(usize, usize)> {
+    message.allocate_root()?;
+    let mut limiter = DEFAULT_READER_OPTIONS.read_limiter();
+    let read: &[u8] = message.get_root_as_reader(&mut limiter)?;
+    let count = read.len();
+    message.init_root::<PointerPlace>()?;
+    Ok((count, message.size_in_words()))
+}
+
+#[test]
+fn a_root_without_a_value_is_null(rt: HostRuntime) -> std::result::Result<(), Fail> {
+    assert!(rt; with_message(rt.alloc(), null_root)? == (0, 1));
+    Ok(())
+}
+
+/// How many bytes a text and data have that are made as roots of a typed message.
+fn blobs(alloc: Global) -> (Result<TextPlace>, Result<DataPlace>) {
+    let mut built: TypedBuilder<text::Owned, HeapAllocator> = TypedBuilder::new_default(alloc);
+    let text = built.initn_root(2);
+    let mut bytes = built.into_inner().into_typed::<data::Owned>();
+    let data = bytes.initn_root(3);
+    let _heap = bytes.into_inner().into_allocator();
+    (text, data)
+}
+
+#[test]
+fn texts_and_data_are_roots(rt: HostRuntime) -> std::result::Result<(), Fail> {
+    let (text, data) = blobs(rt.alloc());
+    assert!(rt; text?.0.count == 2 && data?.0.count == 3);
+    Ok(())
+}
+
+/// A framed message: `a` is 7, and `t` is "hi".
+const MESSAGE: [u8; 40] = [
+    0, 0, 0, 0, 4, 0, 0, 0, 0, 0, 0, 0, 1, 0, 1, 0, 7, 0, 0, 0, 0, 0, 0, 0, 1, 0, 0, 0, 26, 0, 0,
+    0, 104, 105, 0, 0, 0, 0, 0, 0,
+];
+
+#[test]
+fn a_table_of_segments_is_taken(rt: HostRuntime) -> std::result::Result<(), Fail> {
+    let buffer = MESSAGE.as_slice();
+    let info = NoAllocSegmentTableInfo {
+        segments_count: 1,
+        segment_table_length_bytes: 8,
+        total_segments_length_bytes: 32,
+    };
+    if !info.describes(buffer) {
+        return Err(Fail::from("the table"));
+    }
+    let segments: NoAllocSliceSegments<'_> = NoAllocBufferSegments::from_segment_table_info(
+        buffer, info,
+    );
+    assert!(rt; segments.len() == 1 && segments.get_segment(0) == Some(&MESSAGE[8..]));
+    Ok(())
+}
