@@ -4,6 +4,7 @@ pub use capnp_queries::annotations::{Annotation, AnnotationList};
 pub use capnp_queries::enumerants::{Enumerant, EnumerantList};
 pub use capnp_queries::enums::EnumSchema;
 pub use capnp_queries::fields::{Field, FieldList};
+pub use capnp_queries::names::NameCount;
 pub use capnp_queries::slots::{FieldPlace, PlainType};
 pub use capnp_queries::structs::StructSchema;
 pub use capnp_queries::subsets::FieldSubset;
