@@ -6,4 +6,5 @@ pub mod Slots
 pub mod Fields
 pub mod Elements
 pub mod Builders
+pub mod Inits
 pub mod Kinds

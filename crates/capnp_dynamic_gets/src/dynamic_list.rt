@@ -1,9 +1,16 @@
 //! Gets of dynamic builders of lists.
-ghost use Rattle.std.specs.Prelude.{◌≡◌, ◌<◌, IfOk, IfSome};
+ghost use Rattle.std.specs.Prelude.{◌≡◌, ◌<◌, [], IfOk, IfSome};
+ghost use Rattle.capnp_model.specs.Accepted.{schema_of};
+ghost use Rattle.capnp_model.specs.Calls.{initn, element_content};
+ghost use Rattle.capnp_model.specs.Edits.{edit_element};
 ghost use Rattle.capnp_units.specs.Segments.{words_in};
-ghost use Rattle.capnp_dynamic_lists.specs.Builders.{IsReady, words_around};
-ghost use Rattle.capnp_dynamic_values.specs.Built.{memory_in, placed_of, IsPlaced, IsAtEnd, IsReady as IsValueReady};
+ghost use Rattle.capnp_copy.specs.Refusals.{IsSizeOrRefusal};
+ghost use Rattle.capnp_records.specs.Sets.{nodes_of};
+ghost use Rattle.capnp_queries.specs.Types.{ty_of};
+ghost use Rattle.capnp_dynamic_lists.specs.Builders.{IsReady, Puts, words_around};
+ghost use Rattle.capnp_dynamic_values.specs.Built.{memory_in, placed_of, IsPlaced, IsAtEnd, IsAtStart, IsReady as IsValueReady};
 ghost use Rattle.capnp_dynamic_gets.specs.Builders.{GetsAt, KeepsListReady};
+ghost use Rattle.capnp_dynamic_gets.specs.Inits.{BeginsAndGets};
 
 use crate::elements::get_element;
 use capnp_copy::arena::BuilderArena;
@@ -45,4 +52,46 @@ pub fn value<'a, A: BuilderArena>(
 {
     let Builder { memory, .. } = builder;
     dynamic_value::Builder::new(memory, placed)
+}
+
+/// Begins a text, data or a list of so many bytes or elements in the element at an index, as the builder's own `init`, and tells where it lies, as `get`; `begun` lends it.
+///
+/// It is refused as `init` is, and then the list is as it was, or as a `get` of what was begun.
+pub fn init<'b, A: BuilderArena>(
+    builder: &mut Builder<'b, A>,
+    index: u32,
+    size: u32,
+) -> Result<Placed<'b>>
+    requires ready { IsReady A.segments builder.old }
+    requires index { index < builder.old.place.count }
+    ensures same { builder.new.memory.ghost_name ≡ builder.old.memory.ghost_name }
+    ensures begins { let ty = ty_of builder.old.element_type in
+        let s = schema_of (nodes_of builder.old.set.now) in
+        BeginsAndGets (λ b r. Puts A.segments A.room A.books (IsSizeOrRefusal A.refuses) builder.old
+        b (edit_element s [] (initn size) ty) index (element_content s (initn size) ty) r)
+        (λ b r. GetsAt A.segments A.nesting b builder.new index r) builder.new result }
+    ensures there { IfOk result (IsPlaced (words_around A.segments builder.new)) }
+    ensures books { A.books builder.new.memory.now.arena ≡ A.books builder.old.memory.now.arena }
+{
+    match builder.init(index, size) {
+        Ok(()) => get(builder, index),
+        Err(error) => Err(error),
+    }
+}
+
+/// A value of the list's message that `init` told, to write, as long as it stays where it is: a text from its first byte on.
+pub fn begun<'a, A: BuilderArena>(
+    builder: Builder<'a, A>,
+    placed: Placed<'a>,
+) -> dynamic_value::Builder<'a, A>
+    requires there { IsPlaced (words_in (A.segments builder.memory.now.arena)) placed }
+    ensures same { IfSome (memory_in result)
+        (λ m. m.ghost_name ≡ builder.entry.memory.ghost_name) }
+    ensures now { IfSome (memory_in result) (λ m. m.now ≡ builder.entry.memory.now) }
+    ensures placed { placed_of result ≡ placed.entry }
+    ensures start { IsAtStart result }
+    ensures ready { IsValueReady A.segments result }
+{
+    let Builder { memory, .. } = builder;
+    dynamic_value::Builder::begun(memory, placed)
 }

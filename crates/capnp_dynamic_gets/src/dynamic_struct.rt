@@ -1,12 +1,18 @@
 //! Gets of dynamic builders of structs.
 ghost use Rattle.std.specs.Prelude.{◌≡◌, None, IfOk, IfSome};
+ghost use Rattle.capnp_model.specs.Calls.{initn as initn_verb};
 ghost use Rattle.capnp_units.specs.Segments.{words_in};
+ghost use Rattle.capnp_copy.specs.Refusals.{IsSizeOrRefusal};
 ghost use Rattle.capnp_queries.specs.Fields.{place_of_name};
-ghost use Rattle.capnp_queries.specs.Structs.{fields_of_struct};
+ghost use Rattle.capnp_queries.specs.Handles.{entry_of};
+ghost use Rattle.capnp_queries.specs.Structs.{fields_of_struct, schema_around};
 ghost use Rattle.capnp_values.specs.Shown.{AnswersNamed};
-ghost use Rattle.capnp_dynamic.specs.Builders.{IsReady, Stays, words_around};
-ghost use Rattle.capnp_dynamic_values.specs.Built.{memory_in, placed_of, IsPlaced, IsAtEnd, IsReady as IsValueReady};
+ghost use Rattle.capnp_dynamic.specs.Calls.{edit_of};
+ghost use Rattle.capnp_dynamic.specs.NewLists.{initn_field};
+ghost use Rattle.capnp_dynamic.specs.Builders.{IsReady, Puts, Stays, words_around};
+ghost use Rattle.capnp_dynamic_values.specs.Built.{memory_in, placed_of, IsPlaced, IsAtEnd, IsAtStart, IsReady as IsValueReady};
 ghost use Rattle.capnp_dynamic_gets.specs.Builders.{Gets, KeepsReady};
+ghost use Rattle.capnp_dynamic_gets.specs.Inits.{BeginsAndGets};
 
 use crate::fields::get_field;
 use capnp_copy::arena::BuilderArena;
@@ -71,4 +77,46 @@ pub fn value<'a, A: BuilderArena>(
 {
     let Builder { memory, .. } = builder;
     dynamic_value::Builder::new(memory, placed)
+}
+
+/// Begins a text, data or a list of so many bytes or elements in a field, as the builder's own `initn`, and tells where it lies, as `get`; `begun` lends it.
+///
+/// It is refused as the builder's `initn` is, and then the struct is as it was, or as a `get` of what was begun.
+pub fn initn<'b, A: BuilderArena>(
+    builder: &mut Builder<'_, A>,
+    field: Field<'b>,
+    count: u32,
+) -> Result<Placed<'b>>
+    requires ready { IsReady A.segments builder.old }
+    requires field { field.parent ≡ builder.old.schema }
+    ensures same { builder.new.memory.ghost_name ≡ builder.old.memory.ghost_name }
+    ensures begins { BeginsAndGets
+        (λ b r. Puts A.segments A.room A.books (IsSizeOrRefusal A.refuses) builder.old b
+        (edit_of field.entry (initn_verb count))
+        (initn_field (schema_around field.entry.parent) count (entry_of field.entry)) r)
+        (λ b r. Gets A.segments A.nesting b builder.new field.entry r) builder.new result }
+    ensures there { IfOk result (IsPlaced (words_around A.segments builder.new)) }
+    ensures books { A.books builder.new.memory.now.arena ≡ A.books builder.old.memory.now.arena }
+{
+    match builder.initn(field, count) {
+        Ok(()) => get(builder, field),
+        Err(error) => Err(error),
+    }
+}
+
+/// A value of the struct's message that `initn` told, to write, as long as it stays where it is: a text from its first byte on.
+pub fn begun<'a, A: BuilderArena>(
+    builder: Builder<'a, A>,
+    placed: Placed<'a>,
+) -> dynamic_value::Builder<'a, A>
+    requires there { IsPlaced (words_in (A.segments builder.memory.now.arena)) placed }
+    ensures same { IfSome (memory_in result)
+        (λ m. m.ghost_name ≡ builder.entry.memory.ghost_name) }
+    ensures now { IfSome (memory_in result) (λ m. m.now ≡ builder.entry.memory.now) }
+    ensures placed { placed_of result ≡ placed.entry }
+    ensures start { IsAtStart result }
+    ensures ready { IsValueReady A.segments result }
+{
+    let Builder { memory, .. } = builder;
+    dynamic_value::Builder::begun(memory, placed)
 }
