@@ -54,7 +54,7 @@ fn is_deeper<A: ReaderArena>(arena: &A, levels: u32) -> bool
 }
 
 /// What is wanted where calls in turn end early.
-fn want_after(fault: RunFault) -> Want
+pub(crate) fn want_after(fault: RunFault) -> Want
     ensures { result ≡ want_of fault }
 {
     match fault {

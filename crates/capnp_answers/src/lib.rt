@@ -6,6 +6,7 @@ pub mod bounds;
 mod built;
 mod found;
 mod near;
+pub mod plain;
 mod reading;
 pub mod root_calls;
 mod several;

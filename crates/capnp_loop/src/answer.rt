@@ -19,9 +19,20 @@ pub enum Reason {
 /// How many words at the front of a buffer are the one segment that is written, and the replies of the calls; or why there is none.
 #[derive(Debug, Drop)]
 pub enum MessageAnswer {
-    Written { count: usize, replies: Vec<Reply> },
+    Written {
+        count: usize,
+        replies: Vec<Reply>,
+    },
     /// The same where each call is done: how many they are, in place of their replies.
-    Done { count: usize, calls: usize },
+    Done {
+        count: usize,
+        calls: usize,
+    },
+    /// The bytes of each of several segments that are written, in place of words in the buffer.
+    Several {
+        segments: Vec<Vec<u8>>,
+        replies: Vec<Reply>,
+    },
     Refused(Reason),
 }
 

@@ -1,6 +1,6 @@
 //! The options of a relay.
 ghost use Rattle.std.specs.Prelude.{◌≡◌, ◌+◌, ◌*◌, IfOk, IfErr};
-ghost use Rattle.capnp_relay_streams.specs.Options.{IsOf, IsRefusalOf};
+ghost use Rattle.capnp_relay_streams.specs.Options.{IsOf, IsRefusalOf, as_plain};
 
 use capnp_answers::bounds::Bounds;
 pub use capnp_message::options::ReaderOptions;
@@ -34,6 +34,7 @@ pub struct RelayOptions {
     pub(crate) input: Form,
     pub(crate) output: Form,
     pub(crate) bounds: Bounds,
+    pub(crate) plain: bool,
 }
 
 impl RelayOptions {
@@ -62,7 +63,18 @@ impl RelayOptions {
                 words: words as u32,
                 nesting: options.nesting_limit as u32,
             },
+            plain: false,
         })
+    }
+
+    /// The same options in the plain form: messages go out as they are built, not trimmed, in 1 to 511 segments.
+    pub fn plain(self) -> RelayOptions
+        ensures { result ≡ as_plain self }
+    {
+        RelayOptions {
+            plain: true,
+            ..self
+        }
     }
 
     /// How many bytes the region of a relay has: 8 for each word of the word limit, and 8 more.

@@ -4,13 +4,17 @@ ghost use Rattle.capnp_calls.specs.Roots.{IsRoot};
 ghost use Rattle.capnp_loop.specs.declared.ends.Fault.{Fault};
 ghost use Rattle.capnp_loop.specs.Streams.{streams_of};
 ghost use Rattle.capnp_loop.specs.Run.{Relays};
+ghost use Rattle.capnp_loop.specs.Work.{work_by};
+ghost use Rattle.capnp_copy.specs.Memory.{AllZero};
+ghost use Rattle.capnp_relay_streams.specs.Options.{reader_of, writer_of};
 ghost use Rattle.capnp_loop.specs.Pauses.{RelaysPausing};
 ghost use Rattle.capnp_relay_streams.specs.Relaying.{relay_work};
 
-use crate::at_root::CallsAtRoot;
+use crate::at_root::{CallsAtRoot, PlainCallsAtRoot};
 use crate::options::{Form, RelayOptions};
 use capnp_answers::root_calls::RootCalls;
 use capnp_calls::Call;
+use capnp_loop::answers::Answers;
 use capnp_loop::ends::{Counts, Fault, RelayFault};
 use capnp_loop::pauses::{NoPause, Pause};
 use capnp_loop::run::answer_all;
@@ -59,6 +63,40 @@ fn wants_memory() -> RelayFault
     }
 }
 
+/// Answers each message of the source in turn, in the forms and within the limits of the options.
+fn answer_in_forms<R: BufRead, W: Write, L: Write, A: Answers, P: Pause<R, W, L>>(
+    alloc: Global,
+    source: &mut R,
+    out: &mut W,
+    log: &mut L,
+    answers: &A,
+    options: RelayOptions,
+    region: &mut [u8],
+) -> Result<Counts, RelayFault>
+    requires zeros { AllZero region.old }
+    ensures run { let seen = streams_of ⟦<R as Read>⟧ ⟦<W as Write>⟧ ⟦<L as Write>⟧ in
+        RelaysPausing P.may_fail (work_by ⟦<A as Answers>⟧ answers.now (reader_of options.input)
+        (writer_of options.output) options.bounds.words W.may_grow L.may_grow)
+        (seen source.old out.old log.old) (seen source.new out.new log.new) result }
+    ensures zeros { region.new ≡ region.old }
+{
+    let limit = options.bounds.words as usize;
+    match (options.input, options.output) {
+        (Form::Framed, Form::Framed) => answer_all::<Framed, Framed, R, W, L, A, P>(
+            alloc, source, out, log, answers, limit, region,
+        ),
+        (Form::Framed, Form::Packed) => answer_all::<Framed, Packed, R, W, L, A, P>(
+            alloc, source, out, log, answers, limit, region,
+        ),
+        (Form::Packed, Form::Framed) => answer_all::<Packed, Framed, R, W, L, A, P>(
+            alloc, source, out, log, answers, limit, region,
+        ),
+        (Form::Packed, Form::Packed) => answer_all::<Packed, Packed, R, W, L, A, P>(
+            alloc, source, out, log, answers, limit, region,
+        ),
+    }
+}
+
 /// As `relay`, with a pause before each message is read and a region of any length: a message that doesn't fit into it is edited in memory from `alloc`. A fault of a pause ends the run as `Out` or `Log`: the messages before it
 /// are answered whole.
 pub fn relay_pausing<R: BufRead, W: Write, L: Write, P: Pause<R, W, L>>(
@@ -78,35 +116,19 @@ pub fn relay_pausing<R: BufRead, W: Write, L: Write, P: Pause<R, W, L>>(
     ensures zeros { region.new ≡ replicate (length region.old) 0 }
 {
     region.fill(0);
-    let limit = options.bounds.words as usize;
     let calls = match RootCalls::new(alloc, root, calls) {
         Ok(calls) => calls,
         Err(_) => return Err(wants_memory()),
     };
-    let answers = CallsAtRoot {
-        calls,
-        bounds: options.bounds,
-    };
-    match (options.input, options.output) {
-        (Form::Framed, Form::Framed) => {
-            answer_all::<Framed, Framed, R, W, L, CallsAtRoot<'_>, P>(
-                alloc, source, out, log, &answers, limit, region,
-            )
-        }
-        (Form::Framed, Form::Packed) => {
-            answer_all::<Framed, Packed, R, W, L, CallsAtRoot<'_>, P>(
-                alloc, source, out, log, &answers, limit, region,
-            )
-        }
-        (Form::Packed, Form::Framed) => {
-            answer_all::<Packed, Framed, R, W, L, CallsAtRoot<'_>, P>(
-                alloc, source, out, log, &answers, limit, region,
-            )
-        }
-        (Form::Packed, Form::Packed) => {
-            answer_all::<Packed, Packed, R, W, L, CallsAtRoot<'_>, P>(
-                alloc, source, out, log, &answers, limit, region,
-            )
-        }
+    let bounds = options.bounds;
+    if options.plain {
+        let answers = PlainCallsAtRoot { calls, bounds };
+        return answer_in_forms::<R, W, L, PlainCallsAtRoot<'_>, P>(
+            alloc, source, out, log, &answers, options, region,
+        );
     }
+    let answers = CallsAtRoot { calls, bounds };
+    answer_in_forms::<R, W, L, CallsAtRoot<'_>, P>(
+        alloc, source, out, log, &answers, options, region,
+    )
 }
