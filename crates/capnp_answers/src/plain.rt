@@ -1,10 +1,11 @@
 //! The answer of calls to a message in the plain form: the segments that were built go out as they stand, not trimmed.
-ghost use Rattle.std.specs.Prelude.{◌≡◌, ◌≤◌, ◌<◌, ◌^◌, ◌%◌, ◌*◌, ◌/◌, ℕ, true, false, map, length, take, Err, IfOk, IfErr, [], All};
+ghost use Rattle.std.specs.Prelude.{◌≡◌, ◌≤◌, ◌<◌, ◌^◌, ◌*◌, ◌/◌, ℕ, true, false, map, length, take, Some, Err, IfOk, []};
+ghost use Rattle.std.specs.Bool.{OnTrue};
 ghost use Rattle.std.specs.Option.{is_some};
 ghost use Rattle.capnp_model.specs.Segments.{root, words_at};
 ghost use Rattle.capnp_model.specs.Trees.{Tree, depth};
 ghost use Rattle.capnp_model.specs.Traversal.{tree_at};
-ghost use Rattle.capnp_units.specs.Segments.{whole_words, words_in};
+ghost use Rattle.capnp_units.specs.Segments.{words_in};
 ghost use Rattle.capnp_calls.specs.CallViews.{call_view};
 ghost use Rattle.capnp_calls.specs.Roots.{IsRoot};
 ghost use Rattle.capnp_canonical.specs.Writes.{filled};
@@ -13,9 +14,10 @@ ghost use Rattle.capnp_copy.specs.Memory.{AllZero};
 ghost use Rattle.capnp_message.specs.Built.{loans_held};
 ghost use Rattle.capnp_queries.specs.Structs.{schema_around};
 ghost use Rattle.capnp_ways.specs.Ways.{AreWays};
-ghost use Rattle.capnp_stream.specs.Writing.{IsSegment};
+ghost use Rattle.capnp_calls.specs.Replies.{reply_view};
 ghost use Rattle.capnp_loop.specs.MessageAnswers.{segment_bytes};
 ghost use Rattle.capnp_loop.specs.declared.answer.Want.{Want};
+ghost use Rattle.capnp_answers.specs.Plain.{AtRoot, AtWords, AnswersPlainStruct, CopiesSegments, IsLongPlain, IsPlainAnswered, IsTooLargePlain, PutsOut};
 ghost use Rattle.capnp_answers.specs.RootCalls.{root_schema, root_calls};
 
 use crate::answer::{MessageAnswer, Reason, Want, read_root};
@@ -32,6 +34,7 @@ use capnp_copy::arena::BuilderArena;
 use capnp_copy::laws_of_arenas::arenas_are_deep;
 use capnp_footprints::laws::changes_of_values;
 use capnp_footprints::laws_of_canonical_words::canonical_words_in_place;
+use capnp_footprints::laws_of_depths::changes_with_fewer_levels;
 use capnp_message::builder::Builder;
 use capnp_model::laws::{values_as_a_relation, values_on_walks, values_that_are_read};
 use capnp_object::place::ROOT;
@@ -51,18 +54,34 @@ const MOST_SEGMENTS: usize = 511;
 const SEGMENT_BYTES: usize = 8 * 0x2000_0000;
 
 /// Whether the value at the root of a message is at most so many levels deep.
-fn keeps_levels<A: ReaderArena>(arena: &A, levels: u32) -> bool {
+fn keeps_levels<A: ReaderArena>(arena: &A, levels: u32) -> bool
+    ensures keeps { OnTrue result
+        ((t : Tree) × (tree_at levels (words_in (A.segments arena.now)) root ≡ Some t)) }
+    ensures deeper { (n : ℕ) (t : Tree) → result ≡ false
+        → tree_at n (words_in (A.segments arena.now)) root ≡ Some t → levels < depth t }
+{
+    values_that_are_read();
+    values_on_walks();
     let mut unlimited = ReadLimiter::new(None);
-    size_at(arena, &mut unlimited, ROOT, levels).is_ok()
+    match size_at(arena, &mut unlimited, ROOT, levels) {
+        Ok(_) => true,
+        Err(_) => false,
+    }
 }
 
 /// A copy of the whole words of a segment. `OutOfMemory`: memory for it was refused.
-fn whole_copy(alloc: Global, bytes: &[u8]) -> Result<Vec<u8>, AllocError> {
+fn whole_copy(alloc: Global, bytes: &[u8]) -> Result<Vec<u8>, AllocError>
+    ensures { IfOk result (λ copy. copy.items ≡ take (8 * (length bytes.now / 8)) bytes.now) }
+{
     bytes[..8 * (bytes.len() / 8)].to_vec(alloc)
 }
 
 /// Copies of the segments of a message. `Memory`: memory for them was refused. `Size`: they are more than 511.
-fn copy_segments<M: ReaderArena>(alloc: Global, message: &M) -> Result<Vec<Vec<u8>>, Want> {
+fn copy_segments<M: ReaderArena>(alloc: Global, message: &M) -> Result<Vec<Vec<u8>>, Want>
+    ensures copies { IfOk result
+        (λ copies. CopiesSegments (M.segments message.now) (segment_bytes copies)) }
+    ensures size { result ≡ Err Want.Size → 511 < length (M.segments message.now) }
+{
     let mut segments = Vec::new(alloc);
     let mut id = 0;
     while let Some(bytes) = message.get_segment(id) {
@@ -91,7 +110,12 @@ fn written_as_built<M: ReaderArena>(
     message: &M,
     replies: Vec<Reply>,
     words: &mut Vec<Word>,
-) -> Result<MessageAnswer, Want> {
+) -> Result<MessageAnswer, Want>
+    requires { 0 < length (M.segments message.now) }
+    ensures puts { IfOk result (PutsOut (words_in (M.segments message.now))
+        (map reply_view replies.items) words.new.items) }
+    ensures size { result ≡ Err Want.Size → 511 < length (M.segments message.now) }
+{
     let Some(bytes) = only_segment(message) else {
         let segments = copy_segments(alloc, message)?;
         return Ok(MessageAnswer::Several { segments, replies });
@@ -117,8 +141,16 @@ fn answer_plain_root<A: BuilderArena>(
     requires there { is_some (words_at (words_in (A.segments arena.old)) root 1) ≡ true }
     requires root { IsRoot schema }
     requires ways { AreWays (schema_around schema) (map call_view calls.now) ways.now }
+    ensures all { IfOk result (λ a. AtRoot schema.entry levels (words_in (A.segments arena.old))
+        (λ t. AnswersPlainStruct schema.entry (map call_view calls.now) levels words.new.items t a)) }
+    ensures size { result ≡ Err Want.Size → AtRoot schema.entry levels
+        (words_in (A.segments arena.old)) (IsLongPlain schema.entry (map call_view calls.now) levels) }
     ensures books { A.books arena.new ≡ A.books arena.old }
 {
+    changes_of_values();
+    changes_with_fewer_levels();
+    values_as_a_relation();
+    values_that_are_read();
     let replies = match run_root(alloc, arena, schema, calls, ways) {
         Ok(replies) => replies,
         Err(fault) => return Err(want_after(fault)),
@@ -144,6 +176,10 @@ fn answer_plain_built<A: Allocator>(
     requires count { (0 < count) × (count < 2 ^ 29) × (count ≤ length words.old.items) }
     requires root { IsRoot schema }
     requires ways { AreWays (schema_around schema) (map call_view calls.now) ways.now }
+    ensures all { IfOk result (λ a. AtWords schema.entry levels (filled count words.old.items)
+        (λ t. AnswersPlainStruct schema.entry (map call_view calls.now) levels words.new.items t a)) }
+    ensures size { result ≡ Err Want.Size → AtWords schema.entry levels
+        (filled count words.old.items) (IsLongPlain schema.entry (map call_view calls.now) levels) }
     ensures place { A.place builder.new.memory.arena.allocator
         ≡ A.place builder.old.memory.arena.allocator }
     ensures loans { loans_held builder.new.memory.arena
@@ -174,6 +210,10 @@ fn answer_plain_over<L: Allocator, M: ReaderArena>(
     words: &mut Vec<Word>,
 ) -> Result<MessageAnswer, Want>
     requires one { length (L.loans allocator.old) ≤ 1 }
+    ensures answer { IfOk result (IsPlainAnswered (root_schema calls.now) (root_calls calls.now)
+        bounds (words_in (M.segments message.now)) words.new.items) }
+    ensures size { result ≡ Err Want.Size → IsTooLargePlain (root_schema calls.now)
+        (root_calls calls.now) bounds (words_in (M.segments message.now)) }
     ensures loans { L.loans allocator.new ≡ L.loans allocator.old }
     ensures place { L.place allocator.new ≡ L.place allocator.old }
 {
@@ -209,6 +249,10 @@ pub fn answer_plain_in_place<M: ReaderArena>(
     words: &mut Vec<Word>,
 ) -> Result<MessageAnswer, Want>
     requires zeros { AllZero region.old }
+    ensures answer { IfOk result (IsPlainAnswered (root_schema calls.now) (root_calls calls.now)
+        bounds (words_in (M.segments message.now)) words.new.items) }
+    ensures size { result ≡ Err Want.Size → IsTooLargePlain (root_schema calls.now)
+        (root_calls calls.now) bounds (words_in (M.segments message.now)) }
     ensures zeros { region.new ≡ region.old }
 {
     let mut allocator = ScratchSpaceHeapAllocator::resume(alloc, region);

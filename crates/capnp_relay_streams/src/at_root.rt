@@ -7,7 +7,8 @@ use capnp_answers::plain::answer_plain_in_place;
 use capnp_answers::root_calls::RootCalls;
 use capnp_calls::laws::{calls_are_given, roots_are_no_groups};
 use capnp_loop::answers::Answers;
-use capnp_model::laws_of_edits::records_of_written_values;
+use capnp_model::laws::records_of_trimmed_values;
+use capnp_model::laws_of_edits::{records_after_calls, records_of_written_values};
 use capnp_stream::buffers::NoAllocSliceSegments;
 use capnp_units::sizes::Word;
 use std::alloc::Global;
@@ -68,6 +69,11 @@ impl<'a> Answers for PlainCallsAtRoot<'a> {
         region: &mut [u8],
         words: &mut Vec<Word>,
     ) -> Result<MessageAnswer, Want> {
+        records_of_written_values();
+        records_after_calls();
+        records_of_trimmed_values();
+        calls_are_given();
+        roots_are_no_groups();
         let arena = Message { segments: message };
         answer_plain_in_place(alloc, &arena, self.bounds, &self.calls, region, words)
     }
