@@ -174,7 +174,20 @@ fn written_count(answer: &MessageAnswer) -> Option<usize>
     }
 }
 
-/// Writes the text of a message of several segments, and counts it.
+/// Writes the text of a message.
+fn put_bytes<W: Write>(out: &mut W, text: &[u8]) -> Result<(), Fault>
+    ensures ok { let sink = sink_of ⟦<W as Write>⟧ in
+        OnOk result (SinkTakes (sink out.old) (sink out.new) text.now) }
+    ensures err { let sink = sink_of ⟦<W as Write>⟧ in IfErr result
+        (λ f. SinkRefused Fault.Out W.may_grow f (sink out.old) (sink out.new) text.now) }
+{
+    if let Err(e) = out.write_all(text) {
+        return Err(sink_fault(e, Fault::Out));
+    }
+    Ok(())
+}
+
+/// Writes the text of a message of several segments, if it is one, and counts it.
 #[inline(never)]
 fn put_text<O: MessageForm, W: Write>(
     out: &mut W,
@@ -196,10 +209,12 @@ fn put_text<O: MessageForm, W: Write>(
         × SinkRefused Fault.Out W.may_grow f (sink out.old) (sink out.new)
         (spelled O.writer segments) × (counts.new ≡ counts.old)) }
 {
-    if let MessageAnswer::Several { .. } = answer {
-        if let Err(e) = out.write_all(text) {
-            return Err(sink_fault(e, Fault::Out));
-        }
+    if let MessageAnswer::Several {
+        segments: _,
+        replies: _,
+    } = answer
+    {
+        put_bytes(out, text)?;
         counts.written += 1;
     }
     Ok(())
