@@ -1,5 +1,5 @@
 -- What calls make of a value that is owned alone, and how its segments go out.
-use Rattle.std.proofs.Common.{◌≡◌, ℕ, zero, suc, pos, ◌+◌, ◌<◌, ◌≤◌, ◌^◌, true, false, Some, List, [], ◌∷◌, ◌++◌, length, map, refl, ap, sym, ◌∙◌, subst, inl, inr, append-nil, arith}
+use Rattle.std.proofs.Common.{◌≡◌, ℕ, zero, suc, pos, ◌+◌, ◌<◌, ◌≤◌, ◌^◌, true, false, Some, Ok, Err, Result, List, [], ◌∷◌, ◌++◌, length, map, refl, ap, sym, ◌∙◌, subst, inl, inr, append-nil, arith}
 use Rattle.std.specs.Prelude.{nat_le, slice_get, ◌⊎◌}
 use Rattle.std.proofs.lemmas.Bool.Decides.{nat_tests}
 use Rattle.std.proofs.lemmas.Option.{slice_get_within}
@@ -20,6 +20,11 @@ use Rattle.capnp_footprints.specs.Footprints.{footprint, Owns}
 use Rattle.capnp_footprints.specs.Changes.{Replaces, ZeroBeside}
 use Rattle.capnp_footprints.proofs.lemmas.Spans.{held, held_is, held_in}
 use Rattle.capnp_run.specs.Runs.{RunsRoot, EndsLongRoot}
+use Rattle.capnp_run.specs.declared.fault.RunFault.{RunFault}
+use Rattle.capnp_run.specs.declared.fault.RunFault.TheVariants as faults
+use Rattle.capnp_loop.specs.declared.answer.Want.{Want}
+use Rattle.capnp_loop.specs.declared.answer.Want.TheVariants as wants
+use Rattle.capnp_answers.specs.Answers.{want_of}
 use Rattle.capnp_loop.specs.MessageAnswers.{answer_view}
 use Rattle.capnp_loop.specs.declared.answer.MessageAnswer.{MessageAnswer}
 use Rattle.capnp_loop.specs.declared.answer.MessageAnswer.TheVariants as answers
@@ -125,3 +130,13 @@ module _ (schema : StructSchema) (Holds : Tree → Type 0) where
   pub at_plain_words : OwnsWords → TakesWords → (levels : ℕ) (s : Segments) (words : List ℕ) → s ≡ words ∷ [] → length words < 2 ^ 29 → AtRoot schema levels s Holds → AtWords schema levels words Holds
   at_plain_words owned takes levels s words is few all t fits deep same =
       all (2 ^ 29 + levels) t (omega arith) deep (owned_alone owned levels s words t is few fits deep same) (words_alone takes levels s words t is few fits deep same)
+
+-- ---- what is wanted
+
+want_size : (f : RunFault) → want_of f ≡ wants.Size → Err f ≡ Err faults.Size
+want_size faults.Size e = refl
+want_size (faults.Refused e) h = absurd (cc h)
+
+-- a run that is told as too large was too large
+pub size_wanted : (f : RunFault) (want : Want) → want ≡ want_of f → Err want ≡ Err wants.Size → Err f ≡ Err faults.Size
+size_wanted f want is told = let same : want ≡ wants.Size = cc in want_size f (sym is ∙ same)
