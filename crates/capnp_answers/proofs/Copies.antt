@@ -1,6 +1,7 @@
 -- Copies of segments, one after the other.
 use Rattle.std.proofs.Common.{◌≡◌, ℕ, zero, suc, ◌+◌, ◌*◌, ◌/◌, ◌%◌, ◌^◌, ◌<◌, ◌≤◌, List, [], ◌∷◌, ◌++◌, Some, length, map, take, refl, ap, sym, ◌∙◌, subst, arith}
-use Rattle.std.specs.Prelude.{slice_get, All}
+use Rattle.std.specs.Prelude.{slice_get, All, Vec}
+use Rattle.std.specs.declared.alloc.Global.{Global}
 use Rattle.std.proofs.lemmas.List.{length-map, length-append, map-append, length-take-le}
 use Rattle.std.proofs.lemmas.List.Elements.{All-push, All-map, All-weaker}
 use Rattle.capnp_model.specs.Bytes.{words_in_bytes}
@@ -12,6 +13,7 @@ use Rattle.capnp_units.specs.Segments.{whole_words, words_in}
 use Rattle.capnp_stream.specs.Writing.{IsSegment, AreWritable}
 use Rattle.capnp_stream.proofs.lemmas.WordLemmas.{words_in_bytes-take, whole_words-of_length}
 use Rattle.capnp_object.proofs.lemmas.Words.{whole_words-length}
+use Rattle.capnp_loop.specs.MessageAnswers.{segment_bytes}
 use Rattle.capnp_answers.specs.Plain.{IsSmallSegment, CopiesSegments}
 
 -- one more segment
@@ -46,6 +48,9 @@ copies_more segments copies id bytes copy made here few short is =
       small = All-push IsSmallSegment copies copy made.small (omega (arith, size), omega (arith, size, short));
     }
 
+pub one_small : (bytes : List ℕ) → length bytes < 8 * 2 ^ 29 → All (λ (words : List ℕ). length words < 2 ^ 29) (whole_words bytes ∷ [])
+one_small bytes short = All-push (λ (words : List ℕ). length words < 2 ^ 29) [] (whole_words bytes) (λ i d inside. absurd (omega (arith, inside))) (let size = whole_words-length bytes in omega (arith, short, size))
+
 pub copies_all : (segments copies : List (List ℕ)) (id : ℕ) → CopiesSegments (take id segments) copies → length segments ≤ id → CopiesSegments segments copies
 copies_all segments copies id made past = subst (λ s. CopiesSegments s copies) (take-all segments id past) made
 
@@ -70,3 +75,6 @@ copies_small segments copies made =
     subst (All (λ words. length words < 2 ^ 29)) made.words
     (All-map (λ words. length words < 2 ^ 29) whole_words copies
     (All-weaker IsSmallSegment (λ x. length (whole_words x) < 2 ^ 29) (λ x fits. let short = fits.1 in let size = whole_words-length x in omega (arith, short, size)) copies made.small))
+
+pub counted : (v : Vec (Vec ℕ Global) Global) (n : ℕ) → length v.items ≡ n → length (segment_bytes v) ≡ n
+counted v n is = length-map v.items (λ bytes. bytes.items) ∙ is

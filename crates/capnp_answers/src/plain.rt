@@ -1,5 +1,5 @@
 //! The answer of calls to a message in the plain form: the segments that were built go out as they stand, not trimmed.
-ghost use Rattle.std.specs.Prelude.{◌≡◌, ◌≤◌, ◌<◌, ◌^◌, ◌*◌, ◌/◌, ℕ, true, false, map, length, take, Some, Err, IfOk, []};
+ghost use Rattle.std.specs.Prelude.{◌≡◌, ◌≤◌, ◌<◌, ◌^◌, ◌*◌, ◌/◌, ℕ, true, false, map, length, take, Some, Err, IfOk, OnOk, [], ◌∷◌, ◌++◌};
 ghost use Rattle.std.specs.Bool.{OnTrue};
 ghost use Rattle.std.specs.Option.{is_some};
 ghost use Rattle.capnp_model.specs.Segments.{root, words_at};
@@ -41,11 +41,12 @@ use capnp_object::place::ROOT;
 use capnp_object::size::size_at;
 use capnp_queries::structs::StructSchema;
 use capnp_run::root::run_root;
+use capnp_units::errors::Error;
 use capnp_units::limiter::ReadLimiter;
 use capnp_units::sizes::Word;
 use capnp_ways::ways::Ways;
 use capnp_wire::arena::ReaderArena;
-use std::alloc::{AllocError, Global};
+use std::alloc::Global;
 
 /// The most segments of a message.
 const MOST_SEGMENTS: usize = 511;
@@ -69,11 +70,14 @@ fn keeps_levels<A: ReaderArena>(arena: &A, levels: u32) -> bool
     }
 }
 
-/// A copy of the whole words of a segment. `OutOfMemory`: memory for it was refused.
-fn whole_copy(alloc: Global, bytes: &[u8]) -> Result<Vec<u8>, AllocError>
-    ensures { IfOk result (λ copy. copy.items ≡ take (8 * (length bytes.now / 8)) bytes.now) }
+/// Adds a copy of the whole words of a segment behind the others. `OutOfMemory`: memory for it was refused.
+fn push_copy(alloc: Global, segments: &mut Vec<Vec<u8>>, bytes: &[u8]) -> Result<(), Error>
+    ensures { OnOk result (segment_bytes segments.new
+        ≡ segment_bytes segments.old ++ take (8 * (length bytes.now / 8)) bytes.now ∷ []) }
 {
-    bytes[..8 * (bytes.len() / 8)].to_vec(alloc)
+    let copy = bytes[..8 * (bytes.len() / 8)].to_vec(alloc)?;
+    segments.push(copy)?;
+    Ok(())
 }
 
 /// Copies of the segments of a message. `Memory`: memory for them was refused. `Size`: they are more than 511.
@@ -91,12 +95,7 @@ fn copy_segments<M: ReaderArena>(alloc: Global, message: &M) -> Result<Vec<Vec<u
         if bytes.len() >= SEGMENT_BYTES {
             return Err(Want::Memory);
         }
-        let Ok(copy) = whole_copy(alloc, bytes) else {
-            return Err(Want::Memory);
-        };
-        if segments.push(copy).is_err() {
-            return Err(Want::Memory);
-        }
+        push_copy(alloc, &mut segments, bytes)?;
         id += 1;
     }
     Ok(segments)

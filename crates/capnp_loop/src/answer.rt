@@ -41,7 +41,7 @@ pub enum MessageAnswer {
 pub enum Want {
     /// A growth was refused: by the system, or since the words of one message, those that calls abandon among them, would pass 2^29 - 1.
     Memory,
-    /// A call puts a text or data of 2^29 bytes or more with its last zero, or a list of structs of 2^29 words or more.
+    /// A call puts a text or data of 2^29 bytes or more with its last zero, or a list of structs of 2^29 words or more; or a message that goes out as it is built has more than 511 segments.
     Size,
 }
 

@@ -28,7 +28,7 @@ pub enum OptionsFault {
     NegativeNesting,
 }
 
-/// The forms of a relay's input and output, and how far it follows messages.
+/// The forms of a relay's input and output, how far it follows messages, and whether they go out in the plain form or, as `new` gives it, in the canonical one.
 #[derive(Clone, Copy)]
 pub struct RelayOptions {
     pub(crate) input: Form,
@@ -38,7 +38,7 @@ pub struct RelayOptions {
 }
 
 impl RelayOptions {
-    /// The options of these forms and limits.
+    /// The options of these forms and limits, in the canonical form.
     pub fn new(
         input: Form,
         output: Form,
@@ -67,7 +67,7 @@ impl RelayOptions {
         })
     }
 
-    /// The same options in the plain form: messages go out as they are built, not trimmed, in 1 to 511 segments.
+    /// The same options in the plain form: each message goes out as one frame of its 1 to 511 segments as they are built, not trimmed.
     pub fn plain(self) -> RelayOptions
         ensures { result ≡ as_plain self }
     {
