@@ -1,5 +1,5 @@
 -- Copies of segments, one after the other.
-use Rattle.std.proofs.Common.{◌≡◌, ℕ, zero, suc, ◌+◌, ◌*◌, ◌/◌, ◌%◌, ◌^◌, ◌<◌, ◌≤◌, List, [], ◌∷◌, ◌++◌, Some, length, map, take, refl, ap, sym, ◌∙◌, subst, arith}
+use Rattle.std.proofs.Common.{◌≡◌, ℕ, zero, suc, ◌+◌, ◌*◌, ◌/◌, ◌%◌, ◌^◌, ◌<◌, ◌≤◌, List, [], ◌∷◌, ◌++◌, None, Some, length, map, take, refl, ap, sym, ◌∙◌, subst, arith}
 use Rattle.std.specs.Prelude.{slice_get, All, Vec}
 use Rattle.std.specs.declared.alloc.Global.{Global}
 use Rattle.std.proofs.lemmas.List.{length-map, length-append, map-append, length-take-le}
@@ -78,3 +78,8 @@ copies_small segments copies made =
 
 pub counted : (v : Vec (Vec ℕ Global) Global) (n : ℕ) → length v.items ≡ n → length (segment_bytes v) ≡ n
 counted v n is = length-map v.items (λ bytes. bytes.items) ∙ is
+
+pub segment_gone : (s : List (List ℕ)) (id : ℕ) → slice_get s id ≡ None → length s ≤ id
+segment_gone [] id gone = omega arith
+segment_gone (x ∷ s) zero gone = absurd cc
+segment_gone (x ∷ s) (suc id) gone = let rest = segment_gone s id gone in omega arith

@@ -1,5 +1,5 @@
 -- What calls make of a value that is owned alone, and how its segments go out.
-use Rattle.std.proofs.Common.{◌≡◌, ℕ, zero, suc, pos, ◌+◌, ◌<◌, ◌≤◌, ◌^◌, true, false, Some, Ok, Err, Result, List, [], ◌∷◌, ◌++◌, length, map, refl, ap, sym, ◌∙◌, subst, inl, inr, append-nil, arith}
+use Rattle.std.proofs.Common.{◌≡◌, ℕ, zero, suc, pos, ◌+◌, ◌<◌, ◌≤◌, ◌^◌, true, false, Some, List, [], ◌∷◌, ◌++◌, length, map, refl, ap, sym, ◌∙◌, subst, inl, inr, append-nil, arith}
 use Rattle.std.specs.Prelude.{nat_le, slice_get, ◌⊎◌}
 use Rattle.std.proofs.lemmas.Bool.Decides.{nat_tests}
 use Rattle.std.proofs.lemmas.Option.{slice_get_within}
@@ -133,10 +133,10 @@ module _ (schema : StructSchema) (Holds : Tree → Type 0) where
 
 -- ---- what is wanted
 
-want_size : (f : RunFault) → want_of f ≡ wants.Size → Err f ≡ Err faults.Size
+want_size : (f : RunFault) → want_of f ≡ wants.Size → f ≡ faults.Size
 want_size faults.Size e = refl
 want_size (faults.Refused e) h = absurd (cc h)
 
 -- a run that is told as too large was too large
-pub size_wanted : (f : RunFault) (want : Want) → want ≡ want_of f → Err want ≡ Err wants.Size → Err f ≡ Err faults.Size
-size_wanted f want is told = let same : want ≡ wants.Size = cc in want_size f (sym is ∙ same)
+pub size_wanted : (f : RunFault) (want : Want) → want ≡ want_of f → want ≡ wants.Size → f ≡ faults.Size
+size_wanted f want is told = want_size f (sym is ∙ told)

@@ -2,11 +2,11 @@
 #![tactic(auto)]
 
 pub mod answer;
+pub mod as_built;
 pub mod bounds;
 mod built;
 mod found;
 mod near;
-pub mod plain;
 mod reading;
 pub mod root_calls;
 mod several;

@@ -98,6 +98,33 @@ module _ (laws : AgainLaws) (schema : StructSchema) (calls : List Call) (bounds 
 
   -- ---- all messages
 
+  -- one message more; rest is said of those behind it
+  cons_again : (m : Segments) (x y : Answer) (xs ys zs : List Answer) → ((zs : List Answer) → AnswerEach (IsAnswerBy schema [] again) (written_messages xs) zs → AllByRecursion IsWritten zs → written_messages zs ≡ written_messages ys)
+      → x ≡ with_segments (written_segments x) y → IsPlainAnswerBy schema calls bounds m x → IsAnswerBy schema calls bounds m y → AnswerEach (IsAnswerBy schema [] again) (written_messages (x ∷ xs)) zs → AllByRecursion IsWritten zs
+      → written_messages zs ≡ written_messages (y ∷ ys)
+  cons_again m (written s rs) (written canonical told) xs ys [] rest e p q c k = absurd c
+  cons_again m (written s rs) (written canonical told) xs ys (refused_value ∷ zs) rest e p q c k = absurd k.0
+  cons_again m (written s rs) (written canonical told) xs ys (refused_root ∷ zs) rest e p q c k = absurd k.0
+  cons_again m (written s rs) (written canonical told) xs ys (refused_depth ∷ zs) rest e p q c k = absurd k.0
+  cons_again m (written s rs) (written canonical told) xs ys (written out said ∷ zs) rest e p q c k =
+      let first : out ≡ canonical = one_again m s canonical out rs p.answers (has-written schema calls bounds m canonical told q.same) (has-written schema [] again s out said c.0.same) in
+      ap (λ x. x ∷ written_messages zs) first ∙ ap (λ l. canonical ∷ l) (rest zs c.1 k.1)
+  cons_again m (written s rs) refused_value xs ys zs rest e p q c k = absurd (cc e)
+  cons_again m (written s rs) refused_root xs ys zs rest e p q c k = absurd (cc e)
+  cons_again m (written s rs) refused_depth xs ys zs rest e p q c k = absurd (cc e)
+  cons_again m refused_value (written canonical told) xs ys zs rest e p q c k = absurd (cc e)
+  cons_again m refused_root (written canonical told) xs ys zs rest e p q c k = absurd (cc e)
+  cons_again m refused_depth (written canonical told) xs ys zs rest e p q c k = absurd (cc e)
+  cons_again m refused_value refused_value xs ys zs rest e p q c k = rest zs c k
+  cons_again m refused_value refused_root xs ys zs rest e p q c k = rest zs c k
+  cons_again m refused_value refused_depth xs ys zs rest e p q c k = rest zs c k
+  cons_again m refused_root refused_value xs ys zs rest e p q c k = rest zs c k
+  cons_again m refused_root refused_root xs ys zs rest e p q c k = rest zs c k
+  cons_again m refused_root refused_depth xs ys zs rest e p q c k = rest zs c k
+  cons_again m refused_depth refused_value xs ys zs rest e p q c k = rest zs c k
+  cons_again m refused_depth refused_root xs ys zs rest e p q c k = rest zs c k
+  cons_again m refused_depth refused_depth xs ys zs rest e p q c k = rest zs c k
+
   all_again : (ms : List Segments) (xs ys zs : List Answer) → AnswerEach (IsPlainAnswerBy schema calls bounds) ms xs → AnswerEach (IsAnswerBy schema calls bounds) ms ys → AnswerEach (IsAnswerBy schema [] again) (written_messages xs) zs → AllByRecursion IsWritten zs
       → written_messages zs ≡ written_messages ys
   all_again [] [] [] [] a b c k = refl
@@ -106,35 +133,8 @@ module _ (laws : AgainLaws) (schema : StructSchema) (calls : List Call) (bounds 
   all_again [] (x ∷ xs) ys zs a b c k = absurd a
   all_again (m ∷ ms) [] ys zs a b c k = absurd a
   all_again (m ∷ ms) (x ∷ xs) [] zs a b c k = absurd b
-  all_again (m ∷ ms) (x ∷ xs) (y ∷ ys) zs a b c k = pair x y (a.0.answers.same ∙ ap (with_segments (written_segments x)) (sym b.0.same)) a.0 b.0 c
-    where
-      pair : (x y : Answer) → x ≡ with_segments (written_segments x) y → IsPlainAnswerBy schema calls bounds m x → IsAnswerBy schema calls bounds m y → AnswerEach (IsAnswerBy schema [] again) (written_messages (x ∷ xs)) zs → written_messages zs ≡ written_messages (y ∷ ys)
-      pair (written s rs) (written canonical told) e p q c = next zs c k
-        where
-          next : (zs : List Answer) → AnswerEach (IsAnswerBy schema [] again) (s ∷ written_messages xs) zs → AllByRecursion IsWritten zs → written_messages zs ≡ canonical ∷ written_messages ys
-          next [] c k = absurd c
-          next (refused_value ∷ zs) c k = absurd k.0
-          next (refused_root ∷ zs) c k = absurd k.0
-          next (refused_depth ∷ zs) c k = absurd k.0
-          next (written out rs' ∷ zs) c k =
-              let first : out ≡ canonical = one_again m s canonical out rs p.answers (has-written schema calls bounds m canonical told q.same) (has-written schema [] again s out rs' c.0.same) in
-              let rest = all_again ms xs ys zs a.1 b.1 c.1 k.1 in
-              ap (λ x. x ∷ written_messages zs) first ∙ ap (λ l. canonical ∷ l) rest
-      pair (written s rs) refused_value e p q c = absurd (cc e)
-      pair (written s rs) refused_root e p q c = absurd (cc e)
-      pair (written s rs) refused_depth e p q c = absurd (cc e)
-      pair refused_value (written canonical told) e p q c = absurd (cc e)
-      pair refused_root (written canonical told) e p q c = absurd (cc e)
-      pair refused_depth (written canonical told) e p q c = absurd (cc e)
-      pair refused_value refused_value e p q c = all_again ms xs ys zs a.1 b.1 c k
-      pair refused_value refused_root e p q c = all_again ms xs ys zs a.1 b.1 c k
-      pair refused_value refused_depth e p q c = all_again ms xs ys zs a.1 b.1 c k
-      pair refused_root refused_value e p q c = all_again ms xs ys zs a.1 b.1 c k
-      pair refused_root refused_root e p q c = all_again ms xs ys zs a.1 b.1 c k
-      pair refused_root refused_depth e p q c = all_again ms xs ys zs a.1 b.1 c k
-      pair refused_depth refused_value e p q c = all_again ms xs ys zs a.1 b.1 c k
-      pair refused_depth refused_root e p q c = all_again ms xs ys zs a.1 b.1 c k
-      pair refused_depth refused_depth e p q c = all_again ms xs ys zs a.1 b.1 c k
+  all_again (m ∷ ms) (x ∷ xs) (y ∷ ys) zs a b c k =
+      cons_again m x y xs ys zs (λ us d l. all_again ms xs ys us a.1 b.1 d l) (a.0.answers.same ∙ ap (with_segments (written_segments x)) (sym b.0.same)) a.0 b.0 c k
 
   -- ---- whole runs
 

@@ -5,7 +5,7 @@ use Rattle.capnp_canonical.specs.Writes.{filled, words_view}
 use Rattle.capnp_answers.specs.Plain.{AnswersPlainStruct, IsLongPlain}
 use Rattle.capnp_answers.proofs.Whole.{view_front, length_filled}
 use Rattle.capnp_answers.proofs.PlainEdited.{at_plain_words}
-use Rattle.capnp_answers.proofs.plain.answer_plain_built.Goals as goal
+use Rattle.capnp_answers.proofs.as_built.answer_plain_built.Goals as goal
 
 pub returns-clause-all : goal.returns-clause-all
 returns-clause-all g c =

@@ -5,7 +5,7 @@ use Rattle.capnp_units.specs.Segments.{words_in}
 use Rattle.capnp_calls.specs.Replies.{reply_view}
 use Rattle.capnp_loop.specs.MessageAnswers.{segment_bytes}
 use Rattle.capnp_answers.proofs.Copies.{copies_writable, copies_few, copies_small, one_small}
-use Rattle.capnp_answers.proofs.plain.written_as_built.Goals as goal
+use Rattle.capnp_answers.proofs.as_built.written_as_built.Goals as goal
 
 pub returns-in_default-clause-puts : goal.returns-in_default-clause-puts
 returns-in_default-clause-puts g c =

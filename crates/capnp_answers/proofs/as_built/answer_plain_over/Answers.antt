@@ -4,7 +4,7 @@ use Rattle.capnp_units.specs.Segments.{words_in}
 use Rattle.capnp_answers.specs.Answers.{ReadsRoot}
 use Rattle.capnp_answers.specs.RootCalls.{root_schema, root_calls}
 use Rattle.capnp_answers.proofs.PlainWhole.{skipped, at_plain_value, too_large_plain}
-use Rattle.capnp_answers.proofs.plain.answer_plain_over.Goals as goal
+use Rattle.capnp_answers.proofs.as_built.answer_plain_over.Goals as goal
 
 pub returns-in-Err-clause-answer : goal.returns-in-Err-clause-answer
 returns-in-Err-clause-answer g c =

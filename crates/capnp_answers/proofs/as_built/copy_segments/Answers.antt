@@ -1,11 +1,10 @@
-use Rattle.std.proofs.Common.{arith, ◌≡◌, ◌+◌, ◌++◌, [], ◌∷◌, List, ℕ, length, take, refl, sym, ap, ◌∙◌, subst}
+use Rattle.std.proofs.Common.{arith, ◌≡◌, ◌+◌, ◌*◌, ◌/◌, ◌++◌, [], ◌∷◌, List, ℕ, length, take, refl, sym, ap, ◌∙◌, subst}
 use Rattle.std.proofs.lemmas.List.{length-map, length-append}
 use Rattle.std.proofs.lemmas.Option.{slice_get_within}
-use Rattle.capnp_writing.proofs.lemmas.WriteLemmas.{segment-gone}
 use Rattle.capnp_loop.specs.MessageAnswers.{segment_bytes}
 use Rattle.capnp_answers.specs.Plain.{CopiesSegments}
-use Rattle.capnp_answers.proofs.Copies.{copies_none, copies_more, copies_all, counted}
-use Rattle.capnp_answers.proofs.plain.copy_segments.Goals as goal
+use Rattle.capnp_answers.proofs.Copies.{copies_none, copies_more, copies_all, counted, segment_gone}
+use Rattle.capnp_answers.proofs.as_built.copy_segments.Goals as goal
 
 pub loop-bytes-preserved : goal.loop-bytes-preserved
 loop-bytes-preserved g c =
@@ -26,6 +25,6 @@ pub returns : goal.returns
 returns g c =
     let segments = g.M.ReaderArena.segments c.args.message.now in
     record {
-      copies = copies_all segments (segment_bytes c.loop-bytes.segments) c.loop-bytes.id c.loop-bytes.invariant.copies (segment-gone segments c.loop-bytes.id (sym c.in_default.ensures));
+      copies = copies_all segments (segment_bytes c.loop-bytes.segments) c.loop-bytes.id c.loop-bytes.invariant.copies (segment_gone segments c.loop-bytes.id (sym c.in_default.ensures));
       size = λ e. absurd (cc e);
     }

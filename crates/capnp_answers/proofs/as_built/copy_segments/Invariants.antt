@@ -1,7 +1,7 @@
 use Rattle.std.proofs.Common.{◌≡◌, ◌-◌, length, take}
 use Rattle.capnp_loop.specs.MessageAnswers.{segment_bytes}
 use Rattle.capnp_answers.specs.Plain.{CopiesSegments}
-use Rattle.capnp_answers.proofs.plain.copy_segments.Given as goal
+use Rattle.capnp_answers.proofs.as_built.copy_segments.Given as goal
 
 abbrev pub invariant-loop-bytes : goal.invariant-loop-bytes
 invariant-loop-bytes g l = record {

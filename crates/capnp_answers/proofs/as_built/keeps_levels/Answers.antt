@@ -2,7 +2,7 @@ use Rattle.std.proofs.Common.{ap}
 use Rattle.std.specs.Result.{is_err}
 use Rattle.capnp_units.specs.Segments.{words_in}
 use Rattle.capnp_answers.proofs.Walks.{deeper}
-use Rattle.capnp_answers.proofs.plain.keeps_levels.Goals as goal
+use Rattle.capnp_answers.proofs.as_built.keeps_levels.Goals as goal
 
 pub returns-in-Ok-clause-keeps : goal.returns-in-Ok-clause-keeps
 returns-in-Ok-clause-keeps g c = (c.in-Ok.ensures.0, c.in-Ok.ensures.1)

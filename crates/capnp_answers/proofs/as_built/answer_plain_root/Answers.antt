@@ -4,13 +4,15 @@ use Rattle.std.proofs.lemmas.List.{length-map}
 use Rattle.capnp_units.specs.Segments.{words_in, whole_words}
 use Rattle.capnp_calls.specs.CallViews.{call_view}
 use Rattle.capnp_calls.specs.Replies.{reply_view}
+use Rattle.capnp_loop.specs.declared.answer.Want.TheVariants as wants
 use Rattle.capnp_answers.proofs.PlainEdited.{PlainLaws, has_segment, plain_root, plain_deep, plain_many, plain_long, size_wanted}
-use Rattle.capnp_answers.proofs.plain.answer_plain_root.Goals as goal
+use Rattle.capnp_answers.proofs.as_built.answer_plain_root.Goals as goal
 
 pub returns-in-Err-clause-size : goal.returns-in-Err-clause-size
 returns-in-Err-clause-size g c err =
+    let told : c.want_after.result ≡ wants.Size = cc in
     plain_long (words_in (g.A.ReaderArena.segments c.args.arena.now)) c.args.schema (map call_view c.args.calls.now) c.args.levels
-    (c.in-Err.ensures.size (size_wanted c.in-Err.fault c.want_after.result c.want_after.ensures err))
+    (c.in-Err.ensures.size (ap Err (size_wanted c.in-Err.fault c.want_after.result c.want_after.ensures told)))
 
 pub returns-then-not-keeps_levels-clause-all : goal.returns-then-not-keeps_levels-clause-all
 returns-then-not-keeps_levels-clause-all g c =
