@@ -5,7 +5,6 @@ ghost use Rattle.capnp_loop.specs.declared.ends.Fault.{Fault};
 ghost use Rattle.capnp_loop.specs.Streams.{streams_of};
 ghost use Rattle.capnp_loop.specs.Run.{Relays};
 ghost use Rattle.capnp_loop.specs.Work.{work_by};
-ghost use Rattle.capnp_copy.specs.Memory.{AllZero};
 ghost use Rattle.capnp_relay_streams.specs.Options.{reader_of, writer_of};
 ghost use Rattle.capnp_loop.specs.Pauses.{RelaysPausing};
 ghost use Rattle.capnp_relay_streams.specs.Relaying.{relay_work};
@@ -75,7 +74,7 @@ fn answer_in_forms<R: BufRead, W: Write, L: Write, A: Answers, P: Pause<R, W, L>
     options: RelayOptions,
     region: &mut [u8],
 ) -> Result<Counts, RelayFault>
-    requires zeros { AllZero region.old }
+    requires zeros { region.old ≡ replicate (length region.old) 0 }
     ensures run { let seen = streams_of ⟦<R as Read>⟧ ⟦<W as Write>⟧ ⟦<L as Write>⟧ in
         RelaysPausing P.may_fail (work_by ⟦<A as Answers>⟧ answers.now (reader_of options.input)
         (writer_of options.output) options.bounds.words W.may_grow L.may_grow)

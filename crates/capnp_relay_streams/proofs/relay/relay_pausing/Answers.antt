@@ -10,8 +10,8 @@ returns-in-Err g c =
     let wanted = c.wants_memory.ensures in
     record { run = wants_first (relay_work c.args.root c.args.calls.now c.args.options g.W.Write.may_grow g.L.Write.may_grow) g.P.Pause.may_fail here c.wants_memory.result wanted.fault wanted.counts.0 wanted.counts.1; zeros = c.fill.ensures.after (λ y e. e) }
 
-pub returns-then-plain : goal.returns-then-plain
-returns-then-plain g c = record { run = rw c.if-plain.true (rw (c.in-Ok.ensures.schema, c.in-Ok.ensures.calls) at c.answer_in_forms.ensures.run); zeros = c.answer_in_forms.ensures.zeros ∙ c.fill.ensures.after (λ y e. e) }
+pub returns-then-options : goal.returns-then-options
+returns-then-options g c = record { run = rw c.if-options.true (rw (c.in-Ok.ensures.schema, c.in-Ok.ensures.calls) at c.answer_in_forms.ensures.run); zeros = c.answer_in_forms.ensures.zeros ∙ c.fill.ensures.after (λ y e. e) }
 
 pub returns : goal.returns
-returns g c = record { run = rw c.if-plain.false (rw (c.in-Ok.ensures.schema, c.in-Ok.ensures.calls) at c.answer_in_forms-2.ensures.run); zeros = c.answer_in_forms-2.ensures.zeros ∙ c.fill.ensures.after (λ y e. e) }
+returns g c = record { run = rw c.if-options.false (rw (c.in-Ok.ensures.schema, c.in-Ok.ensures.calls) at c.answer_in_forms-2.ensures.run); zeros = c.answer_in_forms-2.ensures.zeros ∙ c.fill.ensures.after (λ y e. e) }
