@@ -9,5 +9,5 @@ returns-in-Framed-Packed g c = record { run = rw (c.in-Framed-Packed.is-0, c.in-
 pub returns-in-Packed-Framed : goal.returns-in-Packed-Framed
 returns-in-Packed-Framed g c = record { run = rw (c.in-Packed-Framed.is-0, c.in-Packed-Framed.is-1) c.answer_all-in-Packed-Framed.ensures.run; zeros = c.answer_all-in-Packed-Framed.ensures.zeros }
 
-pub returns : goal.returns
-returns g c = record { run = rw (c.in-Packed-Packed.is-0, c.in-Packed-Packed.is-1) c.answer_all-in-Packed-Packed.ensures.run; zeros = c.answer_all-in-Packed-Packed.ensures.zeros }
+pub returns-in-Packed-Packed : goal.returns-in-Packed-Packed
+returns-in-Packed-Packed g c = record { run = rw (c.in-Packed-Packed.is-0, c.in-Packed-Packed.is-1) c.answer_all-in-Packed-Packed.ensures.run; zeros = c.answer_all-in-Packed-Packed.ensures.zeros }
