@@ -2,8 +2,8 @@
 
 use crate::message::Message;
 use capnp_answers::answer::{MessageAnswer, Want, answer_in_place};
-use capnp_answers::bounds::Bounds;
 use capnp_answers::as_built::answer_plain_in_place;
+use capnp_answers::bounds::Bounds;
 use capnp_answers::root_calls::RootCalls;
 use capnp_calls::laws::{calls_are_given, roots_are_no_groups};
 use capnp_loop::answers::Answers;
