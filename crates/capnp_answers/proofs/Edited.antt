@@ -44,7 +44,7 @@ pub answers_written : (schema : StructSchema) (calls : List Call) (levels : ℕ)
     → written (canonical_words (trim e) ∷ []) told ≡ answer_struct (schema_around schema) as_it_is (id_of schema) calls (pos levels) t
 answers_written schema calls levels t e told is same low = rw (sym is, low, same) refl
 
-answers_deep : (schema : StructSchema) (calls : List Call) (levels : ℕ) (t e : Tree) → e ≡ edits (schema_around schema) (id_of schema) calls t → nat_le (depth e) levels ≡ false
+pub answers_deep : (schema : StructSchema) (calls : List Call) (levels : ℕ) (t e : Tree) → e ≡ edits (schema_around schema) (id_of schema) calls t → nat_le (depth e) levels ≡ false
     → refused_depth ≡ answer_struct (schema_around schema) as_it_is (id_of schema) calls (pos levels) t
 answers_deep schema calls levels t e is far = rw (sym is, far) refl
 

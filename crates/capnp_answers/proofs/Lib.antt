@@ -6,3 +6,6 @@ mod Whole
 mod Alone
 mod Plain
 mod Fronts
+mod Copies
+mod PlainEdited
+mod PlainWhole

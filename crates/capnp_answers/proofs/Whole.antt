@@ -26,7 +26,7 @@ use Rattle.capnp_loop.specs.declared.answer.MessageAnswer.{MessageAnswer}
 use Rattle.capnp_loop.specs.declared.answer.MessageAnswer.TheVariants as answers
 use Rattle.capnp_loop.specs.declared.answer.Reason.TheVariants as reasons
 
-one_value : (t u : Tree) → Some t ≡ Some u → t ≡ u
+pub one_value : (t u : Tree) → Some t ≡ Some u → t ≡ u
 one_value t u e = cc
 
 -- ---- from a value's canonical words
@@ -44,7 +44,7 @@ abbrev pub OwnsWords : Type 0
 OwnsWords = (t : Tree) (n : ℕ) (s : Segments) (more : List ℕ) → Fits t → depth t ≤ n → length (canonical_words t) ≤ 2 ^ 29 → slice_get s 0 ≡ Some (canonical_words t ++ more) → Owns n s root t
 
 -- a value whose canonical words are the one segment
-owned_alone : OwnsWords → (levels : ℕ) (s : Segments) (words : List ℕ) (t : Tree) → s ≡ words ∷ [] → length words < 2 ^ 29 → Fits t → depth t ≤ levels → words ≡ canonical_words t → Owns (suc (2 ^ 29 + levels)) s root t
+pub owned_alone : OwnsWords → (levels : ℕ) (s : Segments) (words : List ℕ) (t : Tree) → s ≡ words ∷ [] → length words < 2 ^ 29 → Fits t → depth t ≤ levels → words ≡ canonical_words t → Owns (suc (2 ^ 29 + levels)) s root t
 owned_alone owned levels s words t is few fits deep same =
     let first : slice_get s 0 ≡ Some (canonical_words t ++ []) = ap (λ x. slice_get x 0) (is ∙ ap (λ ws. ws ∷ []) same) ∙ ap (λ ws. Some ws) (sym (append-nil (canonical_words t))) in
     owned t (suc (2 ^ 29 + levels)) s [] fits (omega (arith, deep)) (omega (arith, few, ap length same)) first
@@ -58,17 +58,17 @@ module _ (schema : StructSchema) (calls : List Call) where
 
   -- ---- from a value within the bounds
 
-  opened_is : (t : Tree) → opened_root (schema_around schema) (id_of schema) t ≡ widened_root (shape_of_struct schema) (trim t)
+  pub opened_is : (t : Tree) → opened_root (schema_around schema) (id_of schema) t ≡ widened_root (shape_of_struct schema) (trim t)
   unfolding opened_root
   opened_is t = refl
 
-  abbrev answer_to : ℕ → Option Tree → Answer
+  abbrev pub answer_to : ℕ → Option Tree → Answer
   answer_to nesting t = answer_value (schema_around schema) as_it_is (id_of schema) calls (pos nesting) t
 
   abbrev answer_at : ℕ → Tree → Answer
   answer_at nesting t = answer_struct (schema_around schema) as_it_is (id_of schema) calls (pos nesting) (opened_root (schema_around schema) (id_of schema) t)
 
-  at_opened : (nesting : ℕ) (t : Tree) → can_be_opened (trim t) ≡ true → answer_to nesting (Some t) ≡ answer_at nesting t
+  pub at_opened : (nesting : ℕ) (t : Tree) → can_be_opened (trim t) ≡ true → answer_to nesting (Some t) ≡ answer_at nesting t
   unfolding trim
   at_opened nesting null e = refl
   at_opened nesting (structure words section kids) e = refl
@@ -86,7 +86,7 @@ module _ (schema : StructSchema) (calls : List Call) where
   at_list nesting (pointer_list ts) e = refl
   at_list nesting (struct_list d k es) e = refl
 
-  long_opened : (t : Tree) → can_be_opened (trim t) ≡ true → LongInTurn schema calls (opened_root (schema_around schema) (id_of schema) t) → LongFrom schema calls (Some t)
+  pub long_opened : (t : Tree) → can_be_opened (trim t) ≡ true → LongInTurn schema calls (opened_root (schema_around schema) (id_of schema) t) → LongFrom schema calls (Some t)
   unfolding trim
   long_opened null e long = long
   long_opened (structure words section kids) e long = long
@@ -96,7 +96,7 @@ module _ (schema : StructSchema) (calls : List Call) where
   long_opened (struct_list d k es) e long = absurd cc
 
   module _ (bounds : Bounds) (s : Segments) where
-    answer_is : answer (schema_around schema) as_it_is (id_of schema) calls (limits_view bounds) s ≡ answer_to bounds.nesting (value_within (limits_view bounds) s)
+    pub answer_is : answer (schema_around schema) as_it_is (id_of schema) calls (limits_view bounds) s ≡ answer_to bounds.nesting (value_within (limits_view bounds) s)
     unfolding answer
     answer_is = refl
 

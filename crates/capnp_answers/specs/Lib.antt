@@ -3,3 +3,4 @@ pub mod Reading
 pub mod Bounds
 pub mod Found
 pub mod RootCalls
+pub mod Plain

@@ -21,7 +21,7 @@ use std::alloc::Global;
 
 /// How many words at the front of a buffer are those of a message's value, trimmed, which is a struct or null; or why the message is skipped.
 #[inline(always)]
-fn read_root<M: ReaderArena>(
+pub(crate) fn read_root<M: ReaderArena>(
     message: &M,
     bounds: Bounds,
     words: &mut Vec<Word>,

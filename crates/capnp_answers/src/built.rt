@@ -41,7 +41,7 @@ use capnp_wire::arena::ReaderArena;
 use std::alloc::Global;
 
 /// What is wanted where calls in turn end early.
-fn want_after(fault: RunFault) -> Want
+pub(crate) fn want_after(fault: RunFault) -> Want
     ensures { result ≡ want_of fault }
 {
     match fault {

@@ -2,6 +2,7 @@
 #![tactic(auto)]
 
 pub mod answer;
+pub mod as_built;
 pub mod bounds;
 mod built;
 mod found;

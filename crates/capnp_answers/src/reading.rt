@@ -130,7 +130,7 @@ fn lay_front(into: &mut [Word], row: &[Word])
 
 /// Copies the words of a segment to the front of a buffer, which grows where they don't fit, and answers how many they are.
 #[inline(always)]
-fn copy_segment(bytes: &[u8], words: &mut Vec<Word>) -> Result<usize>
+pub(crate) fn copy_segment(bytes: &[u8], words: &mut Vec<Word>) -> Result<usize>
     ensures words { IfOk result (λ count. filled count words.new.items ≡ whole_words bytes.now) }
     ensures count { IfOk result
         (λ count. (count ≡ length bytes.now / 8) × (count ≤ length words.new.items)) }

@@ -1,4 +1,5 @@
 mod OpenedRoots
 mod NewerRecords
+mod PlainRecords
 mod Answering
 mod RunsBetween

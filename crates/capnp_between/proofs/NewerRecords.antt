@@ -65,11 +65,11 @@ module _ (r : Renaming) (rs : List Renaming) (s : Schema) (id : ℕ) where
   each_same (c ∷ cs) (x ∷ xs) [] h = absurd h
   each_same (c ∷ cs) (x ∷ xs) (y ∷ ys) h = (h.0, each_same cs xs ys h.1)
 
-given_renamed : (rs : List Renaming) (s : Schema) (id : ℕ) (calls : List ModelCall) → AreGiven calls → AreGiven (renamed_calls rs s id calls)
+pub given_renamed : (rs : List Renaming) (s : Schema) (id : ℕ) (calls : List ModelCall) → AreGiven calls → AreGiven (renamed_calls rs s id calls)
 given_renamed [] s id calls h = h
 given_renamed (r ∷ rs) s id calls h = each_given r rs s id calls h
 
-same_renamed : (rs : List Renaming) (s : Schema) (id : ℕ) (calls : List ModelCall) (xs ys : List Reply) → SameReplies calls xs ys → SameReplies (renamed_calls rs s id calls) xs ys
+pub same_renamed : (rs : List Renaming) (s : Schema) (id : ℕ) (calls : List ModelCall) (xs ys : List Reply) → SameReplies calls xs ys → SameReplies (renamed_calls rs s id calls) xs ys
 same_renamed [] s id calls xs ys h = h
 same_renamed (r ∷ rs) s id calls xs ys h = each_same r rs s id calls xs ys h
 
@@ -103,25 +103,25 @@ admitted_calls rs root newer_root (c ∷ cs) h = (and_left _ _ h, admitted_calls
 -- ---- one answer
 
 module _ (rs : List Renaming) (root newer_root : StructSchema) (calls : List Call) (bounds : Bounds) where
-  abbrev T : List ModelCall
+  abbrev pub T : List ModelCall
   T = map call_view calls
 
   -- the calls in the newer's words
-  abbrev U : List ModelCall
+  abbrev pub U : List ModelCall
   U = renamed_calls rs (schema_around root) (id_of root) T
 
-  abbrev versions : TwoVersions
+  abbrev pub versions : TwoVersions
   versions = record { older_nodes = nodes_around root; newer_nodes = nodes_around newer_root; older_root = id_of root; newer_root = id_of newer_root }
 
-  abbrev answer_to : Option Tree → Answer
+  abbrev pub answer_to : Option Tree → Answer
   answer_to value = answer_value (schema_around root) as_it_is (id_of root) T (pos bounds.nesting) value
 
   -- a value that is answered by a message is a struct or null, and the replies are those at the opened root
-  record HasReplied (t : Tree) (said : List Reply) : Type 0 where
+  pub record HasReplied (t : Tree) (said : List Reply) : Type 0 where
     pub opens : IsOpen t
     pub are : said ≡ replies (schema_around root) as_it_is (id_of root) T (opened_root (schema_around root) (id_of root) t)
 
-  replies_of : (a b : Segments) (x y : List Reply) → written a x ≡ written b y → x ≡ y
+  pub replies_of : (a b : Segments) (x y : List Reply) → written a x ≡ written b y → x ≡ y
   replies_of a b x y e = cc
 
   struct_replied : (t : Tree) (segments : Segments) (said : List Reply) → IsOpen t → (e : Tree) → (b : Bool)
@@ -139,7 +139,7 @@ module _ (rs : List Renaming) (root newer_root : StructSchema) (calls : List Cal
 
   module _ (records : Records) (same_replies : Replies) (accepted : IsAccepted (nodes_around root)) (newer_accepted : IsAccepted (nodes_around newer_root))
       (no_group : (schema_around root).is_group (id_of root) ≡ false) (given : AreGiven T) (may : MayRun rs root newer_root calls) where
-    can_run : (t : Tree) → IsWhole t → IsStart (nodes_around newer_root) (id_of newer_root) U t → CanRunWith rs versions T (opened_root (schema_around root) (id_of root) t)
+    pub can_run : (t : Tree) → IsWhole t → IsStart (nodes_around newer_root) (id_of newer_root) U t → CanRunWith rs versions T (opened_root (schema_around root) (id_of root) t)
     can_run t whole start = record {
       versions = record { older_accepted = accepted; newer_accepted = newer_accepted; compatible = may.compatible };
       admitted = admitted_calls rs root newer_root (map call_view calls) may.admitted;

@@ -1,5 +1,5 @@
 -- A run of the relay, as one between two versions.
-use Rattle.std.proofs.Common.{◌≡◌, false, List, map, Result, Ok, Err}
+use Rattle.std.proofs.Common.{◌≡◌, Bool, true, false, List, map, Result, Ok, Err}
 use Rattle.capnp_model.specs.Segments.{Segments}
 use Rattle.capnp_model.specs.Answers.{Answer}
 use Rattle.capnp_model.specs.Partners.{Renaming}
@@ -11,7 +11,7 @@ use Rattle.capnp_calls.specs.CallViews.{call_view}
 use Rattle.capnp_loop.specs.declared.ends.Counts.{Counts}
 use Rattle.capnp_loop.specs.declared.ends.RelayFault.{RelayFault}
 use Rattle.capnp_relay_streams.specs.declared.options.RelayOptions.{RelayOptions}
-use Rattle.capnp_relay_streams.specs.Messages.{IsAnswerBy}
+use Rattle.capnp_relay_streams.specs.Messages.{IsAnswerIn}
 use Rattle.capnp_relay_streams.specs.Relaying.{relay_work}
 use Rattle.capnp_loop.specs.Run.{Relays}
 use Rattle.capnp_loop.specs.Streams.{Streams}
@@ -21,20 +21,25 @@ use Rattle.capnp_between.specs.declared.between.BetweenFault.{BetweenFault}
 use Rattle.capnp_between.specs.declared.between.BetweenFault.TheVariants as fault
 use Rattle.capnp_loop.specs.Pauses.{RelaysPausing}
 use Rattle.capnp_loop.proofs.lemmas.PauseLemmas.{never_pausing}
-use Rattle.capnp_between.proofs.NewerRecords.{Records, Replies, ReadsAsRenamed-of}
+use Rattle.capnp_between.proofs.NewerRecords.{ReadsAsRenamed-of}
+use Rattle.capnp_between.proofs.PlainRecords.{NewerLaws, plain_reads_as_renamed}
 use Rattle.capnp_between.proofs.Answering.{relays_pausing}
 
-module _ (rs : List Renaming) (root newer : StructSchema) (calls : List Call) (options : RelayOptions) (records : Records) (same_replies : Replies)
+module _ (rs : List Renaming) (root newer : StructSchema) (calls : List Call) (options : RelayOptions) (laws : NewerLaws)
     (no_group : (schema_around root).is_group (id_of root) ≡ false) (given : AreGiven (map call_view calls)) (may : MayRun rs root newer calls) where
-  answers : (s : Segments) (a : Answer) → IsAnswerBy root (map call_view calls) options.bounds s a → IsAnswerBetween rs root newer (map call_view calls) options.bounds s a
-  answers s a h = record {
+  answers : (plain : Bool) (s : Segments) (a : Answer) → IsAnswerIn plain root (map call_view calls) options.bounds s a → IsAnswerBetween plain rs root newer (map call_view calls) options.bounds s a
+  answers false s a h = record {
     same = h;
-    reads_newer = ReadsAsRenamed-of rs root newer calls options.bounds records same_replies root.set.now.accepted newer.set.now.accepted no_group given may s a h;
+    reads_newer = ReadsAsRenamed-of rs root newer calls options.bounds laws.records laws.same_replies root.set.now.accepted newer.set.now.accepted no_group given may s a h;
+  }
+  answers true s a h = record {
+    same = h;
+    reads_newer = plain_reads_as_renamed rs root newer calls options.bounds laws root.set.now.accepted newer.set.now.accepted no_group given may s a h;
   }
 
   pub relays-between : (may_fail out_grows log_grows : Type 0) (old new : Streams) (result : Result Counts RelayFault) → RelaysPausing may_fail (relay_work root calls options out_grows log_grows) old new result → RelaysPausing may_fail (between_work rs root newer calls options out_grows log_grows) old new result
   relays-between may_fail out_grows log_grows old new result h =
-      relays_pausing (relay_work root calls options out_grows log_grows) (IsAnswerBetween rs root newer (map call_view calls) options.bounds) answers may_fail old new result h
+      relays_pausing (relay_work root calls options out_grows log_grows) (IsAnswerBetween options.plain rs root newer (map call_view calls) options.bounds) (answers options.plain) may_fail old new result h
 
 -- no pause fails
 module _ (rs : List Renaming) (root newer : StructSchema) (calls : List Call) (options : RelayOptions) (out_grows log_grows : Type 0) (old new : Streams) where

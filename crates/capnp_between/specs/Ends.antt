@@ -1,5 +1,5 @@
 -- How a relay between two versions ends.
-use Rattle.std.specs.Prelude.{⊤, Some, List, [], map, Result, Ok, Err}
+use Rattle.std.specs.Prelude.{⊤, Bool, Some, List, [], map, Result, Ok, Err}
 use Rattle.capnp_model.specs.Segments.{Segments}
 use Rattle.capnp_model.specs.Calls.{Call as ModelCall}
 use Rattle.capnp_model.specs.Partners.{Renaming}
@@ -7,13 +7,12 @@ use Rattle.capnp_model.specs.Answers.{Answer}
 use Rattle.capnp_queries.specs.declared.structs.StructSchema.{StructSchema}
 use Rattle.capnp_calls.specs.declared.call.Call.{Call}
 use Rattle.capnp_calls.specs.CallViews.{call_view}
-use Rattle.capnp_relay_streams.specs.Answers.{IsTooLarge}
 use Rattle.capnp_relay_streams.specs.Answers.{Bounds}
 use Rattle.capnp_compatible.specs.Ways.{IsFirstRefused}
 use Rattle.capnp_loop.specs.declared.ends.Counts.{Counts}
 use Rattle.capnp_loop.specs.declared.ends.RelayFault.{RelayFault}
 use Rattle.capnp_relay_streams.specs.declared.options.RelayOptions.{RelayOptions}
-use Rattle.capnp_relay_streams.specs.Messages.{IsAnswerBy}
+use Rattle.capnp_relay_streams.specs.Messages.{IsAnswerIn, IsTooLargeIn}
 use Rattle.capnp_relay_streams.specs.Options.{reader_of, writer_of}
 use Rattle.capnp_loop.specs.Work.{Work, work}
 use Rattle.capnp_loop.specs.Streams.{Streams}
@@ -21,15 +20,15 @@ use Rattle.capnp_between.specs.declared.between.BetweenFault.{BetweenFault}
 use Rattle.capnp_between.specs.declared.between.BetweenFault.TheVariants as fault
 use Rattle.capnp_between.specs.Newer.{AreCompatible, is_admitted_between, MayRun, ReadsAsRenamed}
 
--- The answer of the relay to a message, which also reads under the newer schema.
-pub record IsAnswerBetween (rs : List Renaming) (root newer : StructSchema) (calls : List ModelCall) (bounds : Bounds) (s : Segments) (a : Answer) : Type 0 where
-  pub same : IsAnswerBy root calls bounds s a
+-- The answer of the relay to a message, in the plain or the canonical form, which also reads under the newer schema.
+pub record IsAnswerBetween (plain : Bool) (rs : List Renaming) (root newer : StructSchema) (calls : List ModelCall) (bounds : Bounds) (s : Segments) (a : Answer) : Type 0 where
+  pub same : IsAnswerIn plain root calls bounds s a
   pub reads_newer : ReadsAsRenamed rs root newer calls bounds s a
 
 -- The work of the relay, with such answers.
 abbrev pub between_work : List Renaming → StructSchema → StructSchema → List Call → RelayOptions → Type 0 → Type 0 → Work
 between_work rs root newer calls options out_grows log_grows =
-    work (reader_of options.input) (writer_of options.output) (Some options.bounds.words) (IsAnswerBetween rs root newer (map call_view calls) options.bounds) (IsTooLarge root (map call_view calls) options.bounds) out_grows log_grows
+    work (reader_of options.input) (writer_of options.output) (Some options.bounds.words) (IsAnswerBetween options.plain rs root newer (map call_view calls) options.bounds) (IsTooLargeIn options.plain root (map call_view calls) options.bounds) out_grows log_grows
 
 -- Why nothing is relayed: the schemas are not compatible, or they are and this call is the first that is not admitted.
 abbrev pub IsHeld : List Renaming → StructSchema → StructSchema → List Call → BetweenFault → Type 0

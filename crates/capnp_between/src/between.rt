@@ -14,6 +14,8 @@ use capnp_compatible::admitted::{Admission, admitted_with};
 use capnp_compatible::compatible::compatible_with;
 use capnp_compatible::renamings::Renamings;
 use capnp_compatible::root::Root;
+use capnp_model::laws::records_of_trimmed_values;
+use capnp_model::laws_of_edits::{records_after_calls, records_of_written_values};
 use capnp_queries::structs::StructSchema;
 use capnp_relay_streams::ends::{Counts, RelayFault};
 use capnp_relay_streams::options::RelayOptions;
@@ -160,6 +162,9 @@ pub fn relay_between_pausing<R: BufRead, W: Write, L: Write, P: Pause<R, W, L>>(
         × (log.new ≡ log.old) × (region.new ≡ region.old)) }
 {
     calls_across_renamed_versions();
+    records_of_written_values();
+    records_after_calls();
+    records_of_trimmed_values();
     calls_are_given();
     roots_are_no_groups();
     check(alloc, root, newer, renamings, calls)?;

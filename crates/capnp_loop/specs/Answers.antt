@@ -1,5 +1,5 @@
 -- What is counted of an answer.
-use Rattle.std.specs.Prelude.{◌≡◌, ℕ, ◌+◌, ◌^◌, ◌<◌, ◌≤◌, List, [], ◌∷◌, Option, Some, None, length}
+use Rattle.std.specs.Prelude.{◌≡◌, ℕ, ◌+◌, ◌^◌, ◌<◌, ◌≤◌, List, [], ◌∷◌, Option, Some, None, length, ⊤}
 use Rattle.capnp_model.specs.Answers.{Answer, Reply, written}
 use Rattle.capnp_canonical.specs.Writes.{filled}
 use Rattle.capnp_loop.specs.declared.ends.Counts.{Counts}
@@ -19,7 +19,7 @@ pub record CountsOne (old new : Counts) (answer : Answer) : Type 0 where
   pub written : new.written ≡ old.written + written_one answer
   pub refused : new.refused ≡ old.refused + refused_one answer
 
--- So many words at the front of a buffer, where they are, are the one segment of an answer; none of one that is skipped.
+-- So many words at the front of a buffer, where they are, are the one segment of an answer.
 abbrev pub WritesFront : List (List ℕ) → Answer → Option ℕ → Type 0
 WritesFront words a (Some count) = (replies : List Reply) × (a ≡ written (filled count words ∷ []) replies) × (count ≤ length words) × (count < 2 ^ 29)
-WritesFront words a None = refused_one a ≡ 1
+WritesFront words a None = ⊤

@@ -19,9 +19,20 @@ pub enum Reason {
 /// How many words at the front of a buffer are the one segment that is written, and the replies of the calls; or why there is none.
 #[derive(Debug, Drop)]
 pub enum MessageAnswer {
-    Written { count: usize, replies: Vec<Reply> },
+    Written {
+        count: usize,
+        replies: Vec<Reply>,
+    },
     /// The same where each call is done: how many they are, in place of their replies.
-    Done { count: usize, calls: usize },
+    Done {
+        count: usize,
+        calls: usize,
+    },
+    /// The bytes of each of several segments that are written, in place of words in the buffer.
+    Several {
+        segments: Vec<Vec<u8>>,
+        replies: Vec<Reply>,
+    },
     Refused(Reason),
 }
 
@@ -30,7 +41,7 @@ pub enum MessageAnswer {
 pub enum Want {
     /// A growth was refused: by the system, or since the words of one message, those that calls abandon among them, would pass 2^29 - 1.
     Memory,
-    /// A call puts a text or data of 2^29 bytes or more with its last zero, or a list of structs of 2^29 words or more.
+    /// A call puts a text or data of 2^29 bytes or more with its last zero, or a list of structs of 2^29 words or more; or a message that goes out as it is built has more than 511 segments.
     Size,
 }
 

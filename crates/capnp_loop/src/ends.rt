@@ -27,7 +27,7 @@ pub enum Fault {
     /// A growth was refused, by the system or since the words of one message in memory, those that calls abandon among them, would pass 2^29 - 1.
     #[error("memory")]
     Memory,
-    /// A call puts a text, data or list that is too long for a message, or the number of a message would pass its bound.
+    /// A call puts a text, data or list that is too long for a message, a message in the plain form has more than 511 segments, or the number of a message would pass its bound.
     #[error("size")]
     Size,
 }

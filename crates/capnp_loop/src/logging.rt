@@ -76,6 +76,13 @@ fn push_answer(line: &mut Vec<u8>, answer: &MessageAnswer) -> Result<(), AllocEr
             line.extend_from_slice(b"written")?;
             push_done(line, *calls)
         }
+        MessageAnswer::Several {
+            segments: _,
+            replies,
+        } => {
+            line.extend_from_slice(b"written")?;
+            push_replies(line, replies)
+        }
         MessageAnswer::Refused(reason) => line.extend_from_slice(refusal_words(*reason)),
     }
 }

@@ -1,5 +1,5 @@
 //! One message of a run.
-ghost use Rattle.std.specs.Prelude.{◌≡◌, ◌≢◌, ℕ, List, ◌+◌, ◌-◌, ◌^◌, ◌<◌, ◌≤◌, ◌⊎◌, IfOk, IfErr, OnOk, IsErrAnd, Err, length};
+ghost use Rattle.std.specs.Prelude.{◌≡◌, ◌≢◌, ℕ, List, ◌+◌, ◌-◌, ◌^◌, ◌<◌, ◌≤◌, ◌⊎◌, IfOk, IfErr, IfNone, OnOk, IsErrAnd, Err, length};
 ghost use Rattle.capnp_units.specs.declared.kinds.ErrorKind.{ErrorKind};
 ghost use Rattle.capnp_model.specs.Segments.{Segments};
 ghost use Rattle.capnp_model.specs.Messages.{spelled};
@@ -9,8 +9,8 @@ ghost use Rattle.capnp_copy.specs.Memory.{AllZero};
 ghost use Rattle.capnp_canonical.specs.Writes.{filled};
 ghost use Rattle.capnp_stream.specs.Buffers.{found_segments};
 ghost use Rattle.capnp_stream.specs.Segments.{whole_words, words_in};
-ghost use Rattle.capnp_stream.specs.Writing.{IsSegment};
-ghost use Rattle.capnp_loop.specs.MessageAnswers.{answer_view, StandsIn};
+ghost use Rattle.capnp_stream.specs.Writing.{IsSegment, AreWritable};
+ghost use Rattle.capnp_loop.specs.MessageAnswers.{answer_view, segment_bytes, StandsIn, StandsApart, HasText};
 ghost use Rattle.capnp_loop.specs.Answers.{written_one, refused_one, WritesFront};
 ghost use Rattle.capnp_loop.specs.Lines.{IsLine, KeepsLine};
 ghost use Rattle.capnp_loop.specs.Streams.{SinkTakes, sink_of, streams_of};
@@ -29,7 +29,7 @@ use capnp_stream::traits::{BufRead, Read, Write};
 use capnp_units::errors::Error;
 use capnp_units::kinds::ErrorKind;
 use capnp_units::sizes::{Word, words_as_bytes};
-use capnp_writing::messages::write_segment_in;
+use capnp_writing::messages::{write_message_segments_in, write_segment_in};
 use std::alloc::Global;
 
 /// Buffers that are kept from message to message: they grow only where a message wants more of them than those before.
@@ -39,6 +39,8 @@ pub(crate) struct Buffers {
     message: MessageBuffer,
     /// What is written of an answer stands at the front.
     words: Vec<Word>,
+    /// The text of a message of several segments.
+    text: Vec<u8>,
     /// The line of the log.
     line: Line,
 }
@@ -51,20 +53,41 @@ impl Buffers {
         Buffers {
             message: MessageBuffer::new(alloc),
             words: Vec::new(alloc),
+            text: Vec::new(alloc),
             line: Line::new(alloc),
         }
     }
 }
 
-/// The answer to a message, of which `answered` came before. Its words stand at the front of the buffer, and its line is put in place of the bytes.
+/// Puts the text of the message of these segments in place of the bytes; they grow where they have no room for it.
+#[inline(never)]
+fn spell<O: MessageForm>(
+    alloc: Global,
+    segments: &Vec<Vec<u8>>,
+    text: &mut Vec<u8>,
+) -> Result<(), Fault>
+    requires { AreWritable (segment_bytes segments.now) }
+    ensures text { OnOk result
+        (text.new.items ≡ spelled O.writer (words_in (segment_bytes segments.now))) }
+    ensures err { IfErr result (λ f. f ≡ Fault.Memory) }
+{
+    text.clear();
+    match write_message_segments_in::<O, Vec<u8>, Vec<Vec<u8>>>(alloc, text, segments) {
+        Ok(()) => Ok(()),
+        Err(_) => Err(Fault::Memory),
+    }
+}
+
+/// The answer to a message, of which `answered` came before. Its words stand at the front of the buffer, its text, where it has several segments, and its line are put in place of the bytes.
 #[inline(always)]
-fn prepare<A: Answers>(
+fn prepare<O: MessageForm, A: Answers>(
     alloc: Global,
     answers: &A,
     answered: u64,
     message: &NoAllocSliceSegments<'_>,
     region: &mut [u8],
     words: &mut Vec<Word>,
+    text: &mut Vec<u8>,
     line: &mut Line,
 ) -> Result<MessageAnswer, Fault>
     requires zeros { AllZero region.old }
@@ -73,6 +96,7 @@ fn prepare<A: Answers>(
     ensures answer { IfOk result (λ a. A.is_answer answers.now
         (words_in (found_segments message.now)) (answer_view words.new.items a)) }
     ensures stands { IfOk result (StandsIn words.new.items) }
+    ensures text { IfOk result (λ a. HasText O.writer a text.new.items) }
     ensures line { IfOk result
         (λ a. IsLine (answered + 1) (answer_view words.new.items a) line.new) }
     ensures err { IfErr result (λ f. (f ≡ Fault.Memory) ⊎ (f ≡ Fault.Size)) }
@@ -88,6 +112,13 @@ fn prepare<A: Answers>(
         Err(Want::Memory) => return Err(Fault::Memory),
         Err(Want::Size) => return Err(Fault::Size),
     };
+    if let MessageAnswer::Several {
+        segments,
+        replies: _,
+    } = &answer
+    {
+        spell::<O>(alloc, segments, text)?;
+    }
     match line.set(answered + 1, &answer) {
         Ok(()) => Ok(answer),
         Err(_) => Err(Fault::Memory),
@@ -129,28 +160,77 @@ fn segment_of(words: &[Word], count: usize) -> &[u8]
     words_as_bytes(front)
 }
 
-/// How many words at the front of a buffer are written for an answer; none where the message is skipped.
+/// How many words at the front of a buffer are written for an answer; none where it has no words there.
 #[inline]
 fn written_count(answer: &MessageAnswer) -> Option<usize>
-    ensures { (words : List (List ℕ)) → StandsIn words answer.now
+    ensures front { (words : List (List ℕ)) → StandsIn words answer.now
         → WritesFront words (answer_view words answer.now) result }
+    ensures apart { IfNone result (StandsApart answer.now) }
 {
     match answer {
         MessageAnswer::Written { count, replies: _ } => Some(*count),
         MessageAnswer::Done { count, calls: _ } => Some(*count),
-        MessageAnswer::Refused(_) => None,
+        _ => None,
     }
 }
 
-/// Writes a written answer, whose words stand at the front of these, as one message, and counts it.
+/// Writes the text of a message.
+fn put_bytes<W: Write>(out: &mut W, text: &[u8]) -> Result<(), Fault>
+    ensures ok { let sink = sink_of ⟦<W as Write>⟧ in
+        OnOk result (SinkTakes (sink out.old) (sink out.new) text.now) }
+    ensures err { let sink = sink_of ⟦<W as Write>⟧ in IfErr result
+        (λ f. SinkRefused Fault.Out W.may_grow f (sink out.old) (sink out.new) text.now) }
+{
+    if let Err(e) = out.write_all(text) {
+        return Err(sink_fault(e, Fault::Out));
+    }
+    Ok(())
+}
+
+/// Writes the text of a message of several segments, if it is one, and counts it.
+#[inline(never)]
+fn put_text<O: MessageForm, W: Write>(
+    out: &mut W,
+    answer: &MessageAnswer,
+    text: &[u8],
+    counts: &mut Counts,
+) -> Result<(), Fault>
+    requires apart { StandsApart answer.now }
+    requires text { HasText O.writer answer.now text.now }
+    requires room { counts.old.written < 2 ^ 64 - 1 }
+    ensures ok { (words : List (List ℕ)) → let sink = sink_of ⟦<W as Write>⟧ in
+        let a = answer_view words answer.now in
+        OnOk result (SinkTakes (sink out.old) (sink out.new) (output_of O.writer a)
+        × (counts.new.written ≡ counts.old.written + written_one a)) }
+    ensures refused { counts.new.refused ≡ counts.old.refused }
+    ensures err { (words : List (List ℕ)) → let sink = sink_of ⟦<W as Write>⟧ in
+        IfErr result (λ f. (segments : Segments) × (replies : List ModelReply)
+        × (answer_view words answer.now ≡ written segments replies)
+        × SinkRefused Fault.Out W.may_grow f (sink out.old) (sink out.new)
+        (spelled O.writer segments) × (counts.new ≡ counts.old)) }
+{
+    if let MessageAnswer::Several {
+        segments: _,
+        replies: _,
+    } = answer
+    {
+        put_bytes(out, text)?;
+        counts.written += 1;
+    }
+    Ok(())
+}
+
+/// Writes a written answer, whose words stand at the front of these, or whose text this is, as one message, and counts it.
 #[inline(always)]
 fn put_out<O: MessageForm, W: Write>(
     out: &mut W,
     answer: &MessageAnswer,
     words: &[Word],
+    text: &[u8],
     counts: &mut Counts,
 ) -> Result<(), Fault>
     requires stands { StandsIn words.now answer.now }
+    requires text { HasText O.writer answer.now text.now }
     requires room { counts.old.written < 2 ^ 64 - 1 }
     ensures ok { let sink = sink_of ⟦<W as Write>⟧ in let a = answer_view words.now answer.now in
         OnOk result (SinkTakes (sink out.old) (sink out.new) (output_of O.writer a)
@@ -162,13 +242,14 @@ fn put_out<O: MessageForm, W: Write>(
         × SinkRefused Fault.Out W.may_grow f (sink out.old) (sink out.new)
         (spelled O.writer segments) × (counts.new ≡ counts.old)) }
 {
-    if let Some(count) = written_count(answer) {
-        let segment = segment_of(words, count);
-        if let Err(e) = write_segment_in::<O, W>(out, segment) {
-            return Err(sink_fault(e, Fault::Out));
-        }
-        counts.written += 1;
+    let Some(count) = written_count(answer) else {
+        return put_text::<O, W>(out, answer, text, counts);
+    };
+    let segment = segment_of(words, count);
+    if let Err(e) = write_segment_in::<O, W>(out, segment) {
+        return Err(sink_fault(e, Fault::Out));
     }
+    counts.written += 1;
     Ok(())
 }
 
@@ -230,16 +311,17 @@ pub(crate) fn step<I: MessageForm, O: MessageForm, R: BufRead, W: Write, L: Writ
         Ok(None) => return Ok(false),
         Err(e) => return end_at_read(e),
     };
-    let answer = prepare(
+    let answer = prepare::<O, A>(
         alloc,
         answers,
         answered,
         &message,
         region,
         &mut buffers.words,
+        &mut buffers.text,
         &mut buffers.line,
     )?;
-    put_out::<O, W>(out, &answer, &buffers.words, counts)?;
+    put_out::<O, W>(out, &answer, &buffers.words, &buffers.text, counts)?;
     put_log(log, &answer, &buffers.line.bytes, counts)?;
     Ok(true)
 }

@@ -1,2 +1,4 @@
 mod Whole
 mod Reading
+mod Structs
+mod Again

@@ -2,3 +2,4 @@
 pub use Rattle.capnp_answers.specs.Bounds.{limits_view}
 pub use Rattle.capnp_answers.specs.declared.bounds.Bounds.{Bounds}
 pub use Rattle.capnp_answers.specs.Answers.{IsTooLarge}
+pub use Rattle.capnp_answers.specs.Plain.{with_segments}

@@ -2,3 +2,4 @@ pub mod Messages
 pub mod Options
 pub mod Relaying
 pub mod Answers
+pub mod Again

@@ -1,5 +1,5 @@
 -- What a clause reads of the options of a relay.
-use Rattle.std.specs.Prelude.{◌≡◌, ℕ, pos, ◌-◌, ◌^◌, ◌<◌, ◌≤◌, ◌<ℤ◌, Some, None}
+use Rattle.std.specs.Prelude.{◌≡◌, ℕ, pos, ◌-◌, ◌^◌, ◌<◌, ◌≤◌, ◌<ℤ◌, Some, None, true, false}
 use Rattle.capnp_model.specs.Bytes.{bytes_of_words}
 use Rattle.capnp_model.specs.Packing.{packed, unpacked}
 use Rattle.capnp_model.specs.Messages.{Reader, Writer, plain_words}
@@ -17,6 +17,11 @@ pub record IsOf (from to : Form) (options : ReaderOptions) (o : RelayOptions) : 
   pub words : options.traversal_limit_in_words ≡ Some o.bounds.words
   pub small : o.bounds.words < 2 ^ 29 - 1
   pub nesting : options.nesting_limit ≡ pos o.bounds.nesting
+  pub canonical : o.plain ≡ false
+
+-- The same options, in the plain form.
+abbrev pub as_plain : RelayOptions → RelayOptions
+as_plain o = record { input = o.input; output = o.output; bounds = o.bounds; plain = true }
 
 -- Why limits are refused: the first of these that holds.
 abbrev pub IsRefusalOf : ReaderOptions → OptionsFault → Type 0

@@ -2,11 +2,13 @@
 
 use crate::message::Message;
 use capnp_answers::answer::{MessageAnswer, Want, answer_in_place};
+use capnp_answers::as_built::answer_plain_in_place;
 use capnp_answers::bounds::Bounds;
 use capnp_answers::root_calls::RootCalls;
 use capnp_calls::laws::{calls_are_given, roots_are_no_groups};
 use capnp_loop::answers::Answers;
-use capnp_model::laws_of_edits::records_of_written_values;
+use capnp_model::laws::records_of_trimmed_values;
+use capnp_model::laws_of_edits::{records_after_calls, records_of_written_values};
 use capnp_stream::buffers::NoAllocSliceSegments;
 use capnp_units::sizes::Word;
 use std::alloc::Global;
@@ -40,5 +42,39 @@ impl<'a> Answers for CallsAtRoot<'a> {
         roots_are_no_groups();
         let arena = Message { segments: message };
         answer_in_place(alloc, &arena, self.bounds, &self.calls, region, words)
+    }
+}
+
+/// The same in the plain form: messages go out as they are built.
+#[derive(Drop)]
+pub(crate) struct PlainCallsAtRoot<'a> {
+    pub(crate) calls: RootCalls<'a>,
+    pub(crate) bounds: Bounds,
+}
+
+impl<'a> Answers for PlainCallsAtRoot<'a> {
+    ghost use Rattle.capnp_answers.specs.Plain.{IsTooLargePlain};
+    ghost use Rattle.capnp_answers.specs.RootCalls.{root_schema, root_calls};
+    ghost use Rattle.capnp_relay_streams.specs.Messages.{IsPlainAnswerBy};
+
+    ghost is_answer = { λ c. IsPlainAnswerBy (root_schema c.calls) (root_calls c.calls) c.bounds };
+
+    ghost is_too_large = { λ c. IsTooLargePlain (root_schema c.calls) (root_calls c.calls) c.bounds };
+
+    #[inline(always)]
+    fn answer(
+        &self,
+        alloc: Global,
+        message: &NoAllocSliceSegments<'_>,
+        region: &mut [u8],
+        words: &mut Vec<Word>,
+    ) -> Result<MessageAnswer, Want> {
+        records_of_written_values();
+        records_after_calls();
+        records_of_trimmed_values();
+        calls_are_given();
+        roots_are_no_groups();
+        let arena = Message { segments: message };
+        answer_plain_in_place(alloc, &arena, self.bounds, &self.calls, region, words)
     }
 }

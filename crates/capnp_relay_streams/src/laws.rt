@@ -1,18 +1,23 @@
 //! Laws of runs, each the contract of a function that does nothing.
-ghost use Rattle.std.specs.Prelude.{List, IfSome};
+ghost use Rattle.std.specs.Prelude.{◌≡◌, ℕ, List, [], Some, IfSome};
+ghost use Rattle.std.specs.List.{AllByRecursion};
 ghost use Rattle.capnp_units.specs.declared.kinds.ErrorKind.{ErrorKind};
 ghost use Rattle.capnp_units.specs.Errors.{kind_of};
 ghost use Rattle.capnp_queries.specs.declared.structs.StructSchema.{StructSchema};
 ghost use Rattle.capnp_calls.specs.declared.call.Call.{Call};
-ghost use Rattle.capnp_model.specs.Runs.{finished, broken};
+ghost use Rattle.capnp_model.specs.Runs.{End, finished, broken};
+ghost use Rattle.capnp_model.specs.Spelling.{CanSpell};
 ghost use Rattle.capnp_stream.specs.Pieces.{ReadsFronts};
 ghost use Rattle.capnp_loop.specs.declared.ends.Counts.{Counts};
 ghost use Rattle.capnp_loop.specs.declared.ends.Fault.{Fault};
 ghost use Rattle.capnp_relay_streams.specs.declared.options.RelayOptions.{RelayOptions};
 ghost use Rattle.capnp_loop.specs.Streams.{Streams};
 ghost use Rattle.capnp_loop.specs.Run.{RunsOut, RunStops, GoesTo};
+ghost use Rattle.capnp_relay_streams.specs.Again.{written_messages, IsWritten, RunsOver, ReadsOutput};
+ghost use Rattle.capnp_relay_streams.specs.Options.{as_plain};
 ghost use Rattle.capnp_relay_streams.specs.Relaying.{relay_work};
 
+use capnp_model::laws::{trimmed_values, values_as_a_relation, values_that_are_read};
 use capnp_packing::form::Packed;
 use capnp_stream::forms::{Framed, MessageForm};
 use capnp_stream::traits::Write;
@@ -39,4 +44,20 @@ pub fn runs_over_known_bytes<W: Write, L: Write>()
 {
     reads_fronts::<Framed>();
     reads_fronts::<Packed>();
+}
+
+/// The plain output of a run, relayed again in the canonical form without calls under the same schema, gives the canonical output of that run, where each plain message is within the second run's word limit and the second run writes every message.
+pub fn plain_output_again()
+    ensures { (root : StructSchema) (calls : List Call) (first again : RelayOptions)
+        (bytes plain canonical others log lines said : List ℕ) (end last : End)
+        → ReadsOutput first again
+        → (x : RunsOver (relay_work root calls (as_plain first) ⊥ ⊥) bytes plain log end)
+        → RunsOver (relay_work root calls first ⊥ ⊥) bytes canonical lines last
+        → AllByRecursion (CanSpell (Some again.bounds.words)) (written_messages x.answers)
+        → (z : RunsOver (relay_work root [] again ⊥ ⊥) plain others said finished)
+        → AllByRecursion IsWritten z.answers → others ≡ canonical }
+{
+    values_as_a_relation();
+    values_that_are_read();
+    trimmed_values();
 }

@@ -1,6 +1,6 @@
 //! The options of a relay.
 ghost use Rattle.std.specs.Prelude.{◌≡◌, ◌+◌, ◌*◌, IfOk, IfErr};
-ghost use Rattle.capnp_relay_streams.specs.Options.{IsOf, IsRefusalOf};
+ghost use Rattle.capnp_relay_streams.specs.Options.{IsOf, IsRefusalOf, as_plain};
 
 use capnp_answers::bounds::Bounds;
 pub use capnp_message::options::ReaderOptions;
@@ -28,16 +28,17 @@ pub enum OptionsFault {
     NegativeNesting,
 }
 
-/// The forms of a relay's input and output, and how far it follows messages.
+/// The forms of a relay's input and output, how far it follows messages, and whether they go out in the plain form or, as `new` gives it, in the canonical one.
 #[derive(Clone, Copy)]
 pub struct RelayOptions {
     pub(crate) input: Form,
     pub(crate) output: Form,
     pub(crate) bounds: Bounds,
+    pub(crate) plain: bool,
 }
 
 impl RelayOptions {
-    /// The options of these forms and limits.
+    /// The options of these forms and limits, in the canonical form.
     pub fn new(
         input: Form,
         output: Form,
@@ -62,7 +63,18 @@ impl RelayOptions {
                 words: words as u32,
                 nesting: options.nesting_limit as u32,
             },
+            plain: false,
         })
+    }
+
+    /// The same options in the plain form: each message goes out as one frame of its 1 to 511 segments as they are built, not trimmed.
+    pub fn plain(self) -> RelayOptions
+        ensures { result ≡ as_plain self }
+    {
+        RelayOptions {
+            plain: true,
+            ..self
+        }
     }
 
     /// How many bytes the region of a relay has: 8 for each word of the word limit, and 8 more.

@@ -4,13 +4,16 @@ ghost use Rattle.capnp_calls.specs.Roots.{IsRoot};
 ghost use Rattle.capnp_loop.specs.declared.ends.Fault.{Fault};
 ghost use Rattle.capnp_loop.specs.Streams.{streams_of};
 ghost use Rattle.capnp_loop.specs.Run.{Relays};
+ghost use Rattle.capnp_loop.specs.Work.{work_by};
+ghost use Rattle.capnp_relay_streams.specs.Options.{reader_of, writer_of};
 ghost use Rattle.capnp_loop.specs.Pauses.{RelaysPausing};
 ghost use Rattle.capnp_relay_streams.specs.Relaying.{relay_work};
 
-use crate::at_root::CallsAtRoot;
+use crate::at_root::{CallsAtRoot, PlainCallsAtRoot};
 use crate::options::{Form, RelayOptions};
 use capnp_answers::root_calls::RootCalls;
 use capnp_calls::Call;
+use capnp_loop::answers::Answers;
 use capnp_loop::ends::{Counts, Fault, RelayFault};
 use capnp_loop::pauses::{NoPause, Pause};
 use capnp_loop::run::answer_all;
@@ -24,7 +27,9 @@ use std::alloc::Global;
 ///
 /// A message is read within the options' limits. Its trimmed value is copied into the region, the calls run there at its root, a null root as the empty struct, and what they make of it is written as one canonical message, in the output form. Where each call sets a plain field of the root, and no word is put or trimmed by that, the value isn't copied, but edited where it is written from. A message without a value within the limits, or with a capability, is skipped as `value`, one whose root is a list as `root`, one that the calls nest too deep as `depth`. Either way the log gets one line. Where the lists of a message are in kind, what is written reads as the record that the calls make of the message's record.
 ///
-/// The region has 8 bytes for each word of the word limit and 8 more; what doesn't fit into it comes from `alloc`. Whatever is in it before, it is all zeros at every exit. `Framing`: what is left of the source begins with no message. `Source`, `Out`, `Log`: the device failed, or a slice was too short. `Memory`: a growth was refused, by the system or since the words of one message in memory, those that calls abandon among them, would pass 2^29 - 1. `Size`: a call puts a text or data of 2^29 bytes or more with its last zero, or a list of structs of 2^29 words or more, or it is message number 2^64. What was written before stands.
+/// In the plain form the message that the calls make goes out as it is built, not trimmed, in 1 to 511 segments of which only the used words are written. It means what the calls make of the message, and every word but the root word that no object or pad reached from the root covers is zero: nothing of an overwritten value goes out.
+///
+/// The region has 8 bytes for each word of the word limit and 8 more; what doesn't fit into it comes from `alloc`. Whatever is in it before, it is all zeros at every exit. `Framing`: what is left of the source begins with no message. `Source`, `Out`, `Log`: the device failed, or a slice was too short. `Memory`: a growth was refused, by the system or since the words of one message in memory, those that calls abandon among them, would pass 2^29 - 1. `Size`: a call puts a text or data of 2^29 bytes or more with its last zero, or a list of structs of 2^29 words or more, a message in the plain form has more than 511 segments, or it is message number 2^64. What was written before stands.
 pub fn relay<R: BufRead, W: Write, L: Write>(
     alloc: Global,
     source: &mut R,
@@ -59,6 +64,40 @@ fn wants_memory() -> RelayFault
     }
 }
 
+/// Answers each message of the source in turn, in the forms and within the limits of the options.
+fn answer_in_forms<R: BufRead, W: Write, L: Write, A: Answers, P: Pause<R, W, L>>(
+    alloc: Global,
+    source: &mut R,
+    out: &mut W,
+    log: &mut L,
+    answers: &A,
+    options: RelayOptions,
+    region: &mut [u8],
+) -> Result<Counts, RelayFault>
+    requires zeros { region.old ≡ replicate (length region.old) 0 }
+    ensures run { let seen = streams_of ⟦<R as Read>⟧ ⟦<W as Write>⟧ ⟦<L as Write>⟧ in
+        RelaysPausing P.may_fail (work_by ⟦<A as Answers>⟧ answers.now (reader_of options.input)
+        (writer_of options.output) options.bounds.words W.may_grow L.may_grow)
+        (seen source.old out.old log.old) (seen source.new out.new log.new) result }
+    ensures zeros { region.new ≡ region.old }
+{
+    let limit = options.bounds.words as usize;
+    match (options.input, options.output) {
+        (Form::Framed, Form::Framed) => answer_all::<Framed, Framed, R, W, L, A, P>(
+            alloc, source, out, log, answers, limit, region,
+        ),
+        (Form::Framed, Form::Packed) => answer_all::<Framed, Packed, R, W, L, A, P>(
+            alloc, source, out, log, answers, limit, region,
+        ),
+        (Form::Packed, Form::Framed) => answer_all::<Packed, Framed, R, W, L, A, P>(
+            alloc, source, out, log, answers, limit, region,
+        ),
+        (Form::Packed, Form::Packed) => answer_all::<Packed, Packed, R, W, L, A, P>(
+            alloc, source, out, log, answers, limit, region,
+        ),
+    }
+}
+
 /// As `relay`, with a pause before each message is read and a region of any length: a message that doesn't fit into it is edited in memory from `alloc`. A fault of a pause ends the run as `Out` or `Log`: the messages before it
 /// are answered whole.
 pub fn relay_pausing<R: BufRead, W: Write, L: Write, P: Pause<R, W, L>>(
@@ -78,35 +117,19 @@ pub fn relay_pausing<R: BufRead, W: Write, L: Write, P: Pause<R, W, L>>(
     ensures zeros { region.new ≡ replicate (length region.old) 0 }
 {
     region.fill(0);
-    let limit = options.bounds.words as usize;
     let calls = match RootCalls::new(alloc, root, calls) {
         Ok(calls) => calls,
         Err(_) => return Err(wants_memory()),
     };
-    let answers = CallsAtRoot {
-        calls,
-        bounds: options.bounds,
-    };
-    match (options.input, options.output) {
-        (Form::Framed, Form::Framed) => {
-            answer_all::<Framed, Framed, R, W, L, CallsAtRoot<'_>, P>(
-                alloc, source, out, log, &answers, limit, region,
-            )
-        }
-        (Form::Framed, Form::Packed) => {
-            answer_all::<Framed, Packed, R, W, L, CallsAtRoot<'_>, P>(
-                alloc, source, out, log, &answers, limit, region,
-            )
-        }
-        (Form::Packed, Form::Framed) => {
-            answer_all::<Packed, Framed, R, W, L, CallsAtRoot<'_>, P>(
-                alloc, source, out, log, &answers, limit, region,
-            )
-        }
-        (Form::Packed, Form::Packed) => {
-            answer_all::<Packed, Packed, R, W, L, CallsAtRoot<'_>, P>(
-                alloc, source, out, log, &answers, limit, region,
-            )
-        }
+    let bounds = options.bounds;
+    if options.plain {
+        let answers = PlainCallsAtRoot { calls, bounds };
+        return answer_in_forms::<R, W, L, PlainCallsAtRoot<'_>, P>(
+            alloc, source, out, log, &answers, options, region,
+        );
     }
+    let answers = CallsAtRoot { calls, bounds };
+    answer_in_forms::<R, W, L, CallsAtRoot<'_>, P>(
+        alloc, source, out, log, &answers, options, region,
+    )
 }

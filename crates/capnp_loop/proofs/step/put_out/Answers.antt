@@ -11,16 +11,16 @@ use Rattle.capnp_loop.proofs.StepLemmas.{SinkRefused-of_write}
 use Rattle.capnp_loop.proofs.step.put_out.Goals as goal
 
 pub segment_of-segment-requires-clause-there : goal.segment_of-segment-requires-clause-there
-segment_of-segment-requires-clause-there g c = (c.in-Some.ensures c.args.words.now c.requires.stands).2
+segment_of-segment-requires-clause-there g c = (c.in-Some.ensures.front c.args.words.now c.requires.stands).2
 
 pub segment_of-segment-requires-clause-few : goal.segment_of-segment-requires-clause-few
-segment_of-segment-requires-clause-few g c = (c.in-Some.ensures c.args.words.now c.requires.stands).3
+segment_of-segment-requires-clause-few g c = (c.in-Some.ensures.front c.args.words.now c.requires.stands).3
 
 pub returns-in-Err-clause-err : goal.returns-in-Err-clause-err
 returns-in-Err-clause-err g c =
     let segments = whole_words c.segment_of-segment.result.now ∷ [] in
     let text = spelled g.O.MessageForm.writer segments in
-    let front = c.in-Some.ensures c.args.words.now c.requires.stands in
+    let front = c.in-Some.ensures.front c.args.words.now c.requires.stands in
     let failed = c.in-Err.ensures in (
       segments,
       front.0,
@@ -30,10 +30,10 @@ returns-in-Err-clause-err g c =
       refl,
     )
 
-pub returns-in_default-write_segment_in-clause-ok : goal.returns-in_default-write_segment_in-clause-ok
-returns-in_default-write_segment_in-clause-ok g c =
+pub returns-clause-ok : goal.returns-clause-ok
+returns-clause-ok g c =
     let done = c.in_default-write_segment_in.ensures in
-    let front = c.in-Some.ensures c.args.words.now c.requires.stands in
+    let front = c.in-Some.ensures.front c.args.words.now c.requires.stands in
     let old = sink_seen g.W.Write.contents g.W.Write.failures g.W.Write.room c.args.out.now in
     let new = sink_seen g.W.Write.contents g.W.Write.failures g.W.Write.room c.write_segment_in.new.out in
     let P : Segments → Type 0 = λ s. SinkTakes old new (spelled g.O.MessageForm.writer s) in

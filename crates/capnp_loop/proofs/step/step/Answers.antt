@@ -60,7 +60,7 @@ returns-in_err-put_log g c =
     rw (p.1, p.2) (record {
       run = Stops-of_log (work g.I.MessageForm.reader g.O.MessageForm.writer (Some c.args.limit) (g.A.Answers.is_answer c.args.answers.now) (g.A.Answers.is_too_large c.args.answers.now) g.W.Write.may_grow g.L.Write.may_grow) g.met.I.MessageForm.fronts (c.args.answered + 1) old new c.args.counts.now c.put_log.new.counts
           (words_in (found_segments c.in-Ok-Some.message)) taken c.in-Ok-Some.ensures.message.count _ a c.in_ok-answer.ensures.answer
-          put.0 (subst P (c.deref-2.ensures.value ∙ c.in_ok-answer.ensures.line.0) stops.0)
+          put.0 (subst P (c.deref-3.ensures.value ∙ c.in_ok-answer.ensures.line.0) stops.0)
           (c.in_err-put_log.ensures.written ∙ put.1) (stops.1 ∙ c.in_ok-put_out.ensures.refused);
       line = tt;
       zeros = c.in_ok-answer.ensures.zeros;
@@ -101,7 +101,7 @@ returns g c =
           taken,
           c.in_ok-answer.ensures.answer,
           put.0,
-          subst P (c.deref-2.ensures.value ∙ line.0) logged.0,
+          subst P (c.deref-3.ensures.value ∙ line.0) logged.0,
           record { written = c.in_ok-put_log.ensures.written ∙ put.1; refused = logged.1 ∙ ap (λ k. k + refused_one a) c.in_ok-put_out.ensures.refused },
           c.in-Ok-Some.ensures.message.count,
         ),

@@ -5,12 +5,12 @@ use Rattle.capnp_calls.specs.Replies.{reply_view}
 use Rattle.capnp_loop.specs.MessageAnswers.{answer_view, StandsIn}
 use Rattle.capnp_loop.proofs.step.written_count.Goals as goal
 
-pub returns-in-Written : goal.returns-in-Written
-returns-in-Written c words stands =
+pub returns-in-Written-clause-front : goal.returns-in-Written-clause-front
+returns-in-Written-clause-front c words stands =
     let there = subst (StandsIn words) c.in-Written.is stands in
     (map reply_view c.in-Written.replies.items, ap (answer_view words) c.in-Written.is, there.0, there.1)
 
-pub returns-in-Done : goal.returns-in-Done
-returns-in-Done c words stands =
+pub returns-in-Done-clause-front : goal.returns-in-Done-clause-front
+returns-in-Done-clause-front c words stands =
     let there = subst (StandsIn words) c.in-Done.is stands in
     (replicate c.in-Done.calls reply_done, ap (answer_view words) c.in-Done.is, there.0, there.1)

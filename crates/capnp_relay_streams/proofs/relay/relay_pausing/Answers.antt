@@ -10,14 +10,8 @@ returns-in-Err g c =
     let wanted = c.wants_memory.ensures in
     record { run = wants_first (relay_work c.args.root c.args.calls.now c.args.options g.W.Write.may_grow g.L.Write.may_grow) g.P.Pause.may_fail here c.wants_memory.result wanted.fault wanted.counts.0 wanted.counts.1; zeros = c.fill.ensures.after (λ y e. e) }
 
-pub returns-in-Framed-Framed : goal.returns-in-Framed-Framed
-returns-in-Framed-Framed g c = record { run = rw (c.in-Framed-Framed.is-0, c.in-Framed-Framed.is-1) (rw (c.in-Ok.ensures.schema, c.in-Ok.ensures.calls) at c.answer_all.ensures.run); zeros = c.answer_all.ensures.zeros ∙ c.fill.ensures.after (λ y e. e) }
-
-pub returns-in-Framed-Packed : goal.returns-in-Framed-Packed
-returns-in-Framed-Packed g c = record { run = rw (c.in-Framed-Packed.is-0, c.in-Framed-Packed.is-1) (rw (c.in-Ok.ensures.schema, c.in-Ok.ensures.calls) at c.answer_all-in-Framed-Packed.ensures.run); zeros = c.answer_all-in-Framed-Packed.ensures.zeros ∙ c.fill.ensures.after (λ y e. e) }
-
-pub returns-in-Packed-Framed : goal.returns-in-Packed-Framed
-returns-in-Packed-Framed g c = record { run = rw (c.in-Packed-Framed.is-0, c.in-Packed-Framed.is-1) (rw (c.in-Ok.ensures.schema, c.in-Ok.ensures.calls) at c.answer_all-in-Packed-Framed.ensures.run); zeros = c.answer_all-in-Packed-Framed.ensures.zeros ∙ c.fill.ensures.after (λ y e. e) }
+pub returns-then-options : goal.returns-then-options
+returns-then-options g c = record { run = rw c.if-options.true (rw (c.in-Ok.ensures.schema, c.in-Ok.ensures.calls) at c.answer_in_forms.ensures.run); zeros = c.answer_in_forms.ensures.zeros ∙ c.fill.ensures.after (λ y e. e) }
 
 pub returns : goal.returns
-returns g c = record { run = rw (c.in-Packed-Packed.is-0, c.in-Packed-Packed.is-1) (rw (c.in-Ok.ensures.schema, c.in-Ok.ensures.calls) at c.answer_all-in-Packed-Packed.ensures.run); zeros = c.answer_all-in-Packed-Packed.ensures.zeros ∙ c.fill.ensures.after (λ y e. e) }
+returns g c = record { run = rw c.if-options.false (rw (c.in-Ok.ensures.schema, c.in-Ok.ensures.calls) at c.answer_in_forms-2.ensures.run); zeros = c.answer_in_forms-2.ensures.zeros ∙ c.fill.ensures.after (λ y e. e) }
