@@ -7,3 +7,5 @@ mod handles;
 mod names;
 #[cfg(test)]
 mod roots;
+#[cfg(test)]
+mod texts;
