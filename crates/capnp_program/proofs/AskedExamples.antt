@@ -98,11 +98,11 @@ large_list : calls_from 1 (many_elements 536870912 ∷ []) ≡ Err (stop.Call 1)
 unfolding many_elements
 large_list = refl
 
-most_words : limits_in (record { calls = []; words = 536870910; nesting = pos 0 }) ≡ Ok (record { words = 536870910; nesting = 0 })
+most_words : limits_in 536870910 (pos 0) ≡ Ok (record { words = 536870910; nesting = 0 })
 most_words = refl
 
-too_many_words : limits_in (record { calls = []; words = 536870911; nesting = pos 64 }) ≡ Err stop.Options
+too_many_words : limits_in 536870911 (pos 64) ≡ Err stop.Options
 too_many_words = refl
 
-negative_nesting : limits_in (record { calls = []; words = 1000; nesting = negsuc 0 }) ≡ Err stop.Options
+negative_nesting : limits_in 1000 (negsuc 0) ≡ Err stop.Options
 negative_nesting = refl
