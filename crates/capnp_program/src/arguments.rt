@@ -36,7 +36,7 @@ fn decimal(word: &str) -> Option<u64>
 }
 
 /// The forms that a word names.
-fn forms(word: &str) -> Option<Forms>
+fn forms_named(word: &str) -> Option<Forms>
     ensures { result ≡ forms_named word.now }
 {
     let (input, output, plain) = match word {
@@ -62,7 +62,7 @@ fn arguments_of(root: &str, form: &str, newer: bool, renames: bool) -> Option<Ar
     ensures { result ≡ arguments_of root.now form.now newer renames }
 {
     let root = decimal(root)?;
-    let forms = forms(form)?;
+    let forms = forms_named(form)?;
     Some(Arguments {
         root,
         forms,
