@@ -48,7 +48,11 @@ pub fn text_of(alloc: Global, given: &Given, message: &[u8]) -> Result<String, F
 
 /// The same of the case's message.
 pub fn shown(alloc: Global, case: &Case) -> Result<String, Fault> {
-    text_of(alloc, &Given::new(alloc, case)?, &case.bytes(alloc, "stdin")?)
+    text_of(
+        alloc,
+        &Given::new(alloc, case)?,
+        &case.bytes(alloc, "stdin")?,
+    )
 }
 
 /// Whether the newer schema is compatible with the older.
