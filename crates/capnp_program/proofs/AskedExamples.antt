@@ -7,7 +7,8 @@ use Rattle.capnp_call_messages.specs.Frames.{value_in}
 use Rattle.capnp_calls.specs.declared.call.Verb.TheVariants as verb
 use Rattle.capnp_files.specs.CallsFiles.{CallParts, given_number, given_message}
 use Rattle.capnp_program.specs.declared.stop.Stop.TheVariants as stop
-use Rattle.capnp_program.specs.Arguments.{digits_number}
+use Rattle.capnp_between.specs.Relay.{Framed, Packed}
+use Rattle.capnp_program.specs.Arguments.{digits_number, forms, forms_named}
 use Rattle.capnp_program.specs.Calls.{calls_from}
 use Rattle.capnp_program.specs.Asked.{root_in, apart_in, renamings_in, limits_in, request, asked}
 
@@ -32,6 +33,13 @@ no_files = refl
 -- Seven words are too many.
 many_words : asked (request (codes "p.json" ∷ codes "c.json" ∷ codes "1" ∷ codes "framed" ∷ codes "n.json" ∷ codes "r.json" ∷ codes "x" ∷ []) None None None None) ≡ Err stop.Arguments
 many_words = refl
+
+-- Output in the plain form, and `+plain` that isn't behind all of the word.
+plain_output : forms_named (codes "framed-packed+plain") ≡ Some (forms Framed Packed true)
+plain_output = refl
+
+plain_within : forms_named (codes "framed+plain-packed") ≡ None
+plain_within = refl
 
 -- A renames file that isn't there, and no renames file, since no word names it.
 no_renames : renamings_in true None ≡ Err stop.RenamesFile

@@ -1,7 +1,6 @@
 -- What a request asks for, step by step.
-use Rattle.std.proofs.Common.{rules, arith, ◌≡◌, refl, sym, ap, ◌∙◌, inl, inr, ℕ, ℤ, pos, negsuc, ◌-◌, ◌^◌, nat_lt, if◌then◌else◌, Bool, true, false, Option, Some, None, option_map, Result, Ok, Err, List, map}
+use Rattle.std.proofs.Common.{◌≡◌, refl, sym, ap, ◌∙◌, inl, inr, ℕ, ◌-◌, Option, Some, None, option_map, Ok, List, map}
 use Rattle.std.specs.Prelude.{IsSome, ⊤}
-use Rattle.std.proofs.lemmas.Bool.{lt-ltb}
 use Rattle.capnp_model.specs.Schemas.{Node}
 use Rattle.capnp_model.specs.Partners.{Renaming}
 use Rattle.capnp_model.specs.Calls.{Call as ModelCall}
@@ -11,14 +10,12 @@ use Rattle.capnp_calls.specs.declared.call.Call.{Call}
 use Rattle.capnp_calls.specs.CallViews.{call_view}
 use Rattle.capnp_compatible.specs.Renamed.{renamings_of}
 use Rattle.capnp_files.specs.CallsFiles.{CallsText}
-use Rattle.capnp_between.specs.Relay.{Form}
 use Rattle.capnp_between.specs.Relay.{RelayOptions}
-use Rattle.capnp_between.specs.Relay.{IsOf}
 use Rattle.capnp_program.specs.declared.arguments.Arguments.{Arguments}
 use Rattle.capnp_program.specs.declared.arguments.Forms.{Forms}
 use Rattle.capnp_program.specs.declared.version.Version.{Version}
 use Rattle.capnp_program.specs.declared.settings.Settings.{Settings}
-use Rattle.capnp_program.specs.Faults.{◌and_then◌, IsRefusalOf}
+use Rattle.capnp_program.specs.Faults.{IsRefusalOf}
 use Rattle.capnp_program.specs.declared.stop.Stop.{Stop}
 use Rattle.capnp_program.specs.declared.stop.Stop.TheVariants as stop
 use Rattle.capnp_program.specs.Arguments.{arguments_in}
@@ -33,15 +30,6 @@ pub asked_whole : (r : Request) (arguments : Arguments) (nodes : List Node) (new
     → calls_from 1 text.calls ≡ Ok calls → limits_in text.words text.nesting ≡ Ok limits
     → asked r ≡ Ok (record { nodes = nodes; newer = newer; renamings = rs; root = arguments.root; forms = arguments.forms; calls = calls; limits = limits })
 asked_whole r arguments nodes newer rs text calls limits a n w s t m l = rw a (rw n (rw w (rw s (rw t (rw m (rw l refl))))))
-
--- The limits that a relay's options have.
-pub limits_taken : (from to : Form) (words : ℕ) (nesting : ℤ) (o : RelayOptions) → IsOf from to (record { traversal_limit_in_words = Some words; nesting_limit = nesting }) o
-    → limits_in words nesting ≡ Ok (limits_of o)
-limits_taken from to words nesting o h =
-    let same : words ≡ o.bounds.words = cc h.words in
-    let levels : nesting ≡ pos o.bounds.nesting = h.nesting in
-    let small : nat_lt o.bounds.words (2 ^ 29 - 1) ≡ true = lt-ltb o.bounds.words (2 ^ 29 - 1) h.small in
-    rw levels (rw same (rw small refl))
 
 -- What is asked of a relay by schemas, renamings, an id, calls and options.
 abbrev pub asked_from : List Node → Option (List Node) → List Renaming → ℕ → List Call → RelayOptions → Asked
