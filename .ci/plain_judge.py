@@ -134,7 +134,7 @@ class Value:
         count, data, pointers = bits(tag, 2, 30), bits(tag, 32, 16), bits(tag, 48, 16)
         width = data + pointers
         if bits(tag, 0, 2) != STRUCT or count * width > claimed:
-            raise Unreadable("a list of structs that has no tag, or less words than they have")
+            raise Unreadable("a list of structs that has no tag, or fewer words than they have")
         starts = range(start + 1, start + 1 + count * width, width or 1)
         return STRUCTS, data, pointers, count, [self.sections(segment, it, data, pointers, levels) for it in starts]
 
