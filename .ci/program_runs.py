@@ -5,8 +5,9 @@ usage: program_runs.py PROGRAM EXAMPLES CASES..
 
 EXAMPLES is the folder of README's examples. CASES are files of cases, one a line, as the README of capnp_relay_cases
 tells; those without a "call" are runs of the program: the arguments, the files, the input, and the status, output and
-log that are wanted. The program's status, output and log must be those, byte by byte. Ends with status 1 where one
-differs, where a file has no run, and where nothing else was to be run.
+log that are wanted. The program's status, output and log must be those, byte by byte; where a run has "messages", its
+output is judged by plain_judge.py. Ends with status 1 where one differs, where a file has no run, and where nothing
+else was to be run.
 """
 import concurrent.futures
 import json
@@ -17,6 +18,8 @@ import sys
 import tempfile
 import time
 
+import plain_judge
+
 # Seconds that one run, or one answer, may take.
 LIMIT = 60
 
@@ -26,23 +29,34 @@ def file_bytes(file):
     return bytes.fromhex(file) if isinstance(file, str) else json.dumps(file, ensure_ascii=False).encode()
 
 
-def wanted_of(run):
-    """The status, the output and the log that a run should have."""
-    log = run["log"].encode() if "log" in run else bytes.fromhex(run["stderr"])
-    return {"status": run["status"], "stdout": bytes.fromhex(run["stdout"]), "stderr": log}
-
-
-def difference(program, run):
-    """What differs between a run of the program and the stored one, or nothing."""
-    wanted = wanted_of(run)
+def ran(program, run):
+    """The status, the output and the log of a run of the program."""
     with tempfile.TemporaryDirectory() as room:
         for name, file in run["files"].items():
             with open(os.path.join(room, name), "wb") as it:
                 it.write(file_bytes(file))
         given = bytes.fromhex(run["stdin"])
-        ran = subprocess.run([program, *run["args"]], input=given, capture_output=True, cwd=room, timeout=LIMIT)
-    seen = {"status": ran.returncode, "stdout": ran.stdout, "stderr": ran.stderr}
-    return next((f"{it}: {seen[it]}, and not {wanted[it]}" for it in wanted if seen[it] != wanted[it]), None)
+        done = subprocess.run([program, *run["args"]], input=given, capture_output=True, cwd=room, timeout=LIMIT)
+    return done.returncode, done.stdout, done.stderr
+
+
+def difference_of_messages(run, out):
+    """What is wrong with the output of a run in the plain form, or nothing."""
+    form = "".join(run["args"][3:4]).removesuffix("+plain").split("-")[-1]
+    return plain_judge.difference(form, out, [bytes.fromhex(it) for it in run["messages"]])
+
+
+def difference(program, run):
+    """What differs between a run of the program and the stored one, or nothing."""
+    log = run["log"].encode() if "log" in run else bytes.fromhex(run["stderr"])
+    seen = dict(zip(("status", "stdout", "stderr"), ran(program, run)))
+    wanted = {"status": run["status"], "stderr": log}
+    if "messages" not in run:
+        wanted["stdout"] = bytes.fromhex(run["stdout"])
+    told = next((f"{it}: {seen[it]}, and not {wanted[it]}" for it in wanted if seen[it] != wanted[it]), None)
+    if told or "messages" not in run:
+        return told
+    return difference_of_messages(run, seen["stdout"])
 
 
 def runs_in(name):
@@ -151,6 +165,8 @@ def refuses_words_that_are_no_text(program, folder):
 def main(program, folder, *files):
     """Prints how many runs passed, and returns the status."""
     program, passed = os.path.abspath(program), 0
+    if plain_judge.main():
+        return 1
     if not answers_the_examples(program, folder) or not refuses_words_that_are_no_text(program, folder):
         return 1
     for name in files:

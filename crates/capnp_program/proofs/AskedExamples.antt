@@ -7,7 +7,8 @@ use Rattle.capnp_call_messages.specs.Frames.{value_in}
 use Rattle.capnp_calls.specs.declared.call.Verb.TheVariants as verb
 use Rattle.capnp_files.specs.CallsFiles.{CallParts, given_number, given_message}
 use Rattle.capnp_program.specs.declared.stop.Stop.TheVariants as stop
-use Rattle.capnp_program.specs.Arguments.{digits_number}
+use Rattle.capnp_between.specs.Relay.{Framed, Packed}
+use Rattle.capnp_program.specs.Arguments.{digits_number, forms, forms_named}
 use Rattle.capnp_program.specs.Calls.{calls_from}
 use Rattle.capnp_program.specs.Asked.{root_in, apart_in, renamings_in, limits_in, request, asked}
 
@@ -32,6 +33,13 @@ no_files = refl
 -- Seven words are too many.
 many_words : asked (request (codes "p.json" ∷ codes "c.json" ∷ codes "1" ∷ codes "framed" ∷ codes "n.json" ∷ codes "r.json" ∷ codes "x" ∷ []) None None None None) ≡ Err stop.Arguments
 many_words = refl
+
+-- Output in the plain form, and `+plain` that isn't behind all of the word.
+plain_output : forms_named (codes "framed-packed+plain") ≡ Some (forms Framed Packed true)
+plain_output = refl
+
+plain_within : forms_named (codes "framed+plain-packed") ≡ None
+plain_within = refl
 
 -- A renames file that isn't there, and no renames file, since no word names it.
 no_renames : renamings_in true None ≡ Err stop.RenamesFile
@@ -98,11 +106,11 @@ large_list : calls_from 1 (many_elements 536870912 ∷ []) ≡ Err (stop.Call 1)
 unfolding many_elements
 large_list = refl
 
-most_words : limits_in (record { calls = []; words = 536870910; nesting = pos 0 }) ≡ Ok (record { words = 536870910; nesting = 0 })
+most_words : limits_in 536870910 (pos 0) ≡ Ok (record { words = 536870910; nesting = 0 })
 most_words = refl
 
-too_many_words : limits_in (record { calls = []; words = 536870911; nesting = pos 64 }) ≡ Err stop.Options
+too_many_words : limits_in 536870911 (pos 64) ≡ Err stop.Options
 too_many_words = refl
 
-negative_nesting : limits_in (record { calls = []; words = 1000; nesting = negsuc 0 }) ≡ Err stop.Options
+negative_nesting : limits_in 1000 (negsuc 0) ≡ Err stop.Options
 negative_nesting = refl

@@ -1,7 +1,6 @@
 -- What a request asks for, step by step.
-use Rattle.std.proofs.Common.{rules, arith, ◌≡◌, refl, sym, ap, ◌∙◌, inl, inr, ℕ, pos, negsuc, ◌-◌, ◌^◌, nat_lt, if◌then◌else◌, Bool, true, false, Option, Some, None, option_map, Result, Ok, Err, List, map}
+use Rattle.std.proofs.Common.{◌≡◌, refl, sym, ap, ◌∙◌, inl, inr, ℕ, ◌-◌, Option, Some, None, option_map, Ok, List, map}
 use Rattle.std.specs.Prelude.{IsSome, ⊤}
-use Rattle.std.proofs.lemmas.Bool.{lt-ltb}
 use Rattle.capnp_model.specs.Schemas.{Node}
 use Rattle.capnp_model.specs.Partners.{Renaming}
 use Rattle.capnp_model.specs.Calls.{Call as ModelCall}
@@ -11,36 +10,26 @@ use Rattle.capnp_calls.specs.declared.call.Call.{Call}
 use Rattle.capnp_calls.specs.CallViews.{call_view}
 use Rattle.capnp_compatible.specs.Renamed.{renamings_of}
 use Rattle.capnp_files.specs.CallsFiles.{CallsText}
-use Rattle.capnp_between.specs.Relay.{Form}
 use Rattle.capnp_between.specs.Relay.{RelayOptions}
-use Rattle.capnp_between.specs.Relay.{IsOf}
 use Rattle.capnp_program.specs.declared.arguments.Arguments.{Arguments}
+use Rattle.capnp_program.specs.declared.arguments.Forms.{Forms}
 use Rattle.capnp_program.specs.declared.version.Version.{Version}
 use Rattle.capnp_program.specs.declared.settings.Settings.{Settings}
-use Rattle.capnp_program.specs.Faults.{◌and_then◌, IsRefusalOf}
+use Rattle.capnp_program.specs.Faults.{IsRefusalOf}
 use Rattle.capnp_program.specs.declared.stop.Stop.{Stop}
 use Rattle.capnp_program.specs.declared.stop.Stop.TheVariants as stop
 use Rattle.capnp_program.specs.Arguments.{arguments_in}
 use Rattle.capnp_program.specs.Calls.{calls_from}
-use Rattle.capnp_program.specs.Asked.{Request, Asked, Limits, version_in, newer_in, renamings_in, text_in, limits_in, asked, IsRefused, asked_by}
+use Rattle.capnp_program.specs.Asked.{Request, Asked, Limits, forms_of, limits_of, version_in, newer_in, renamings_in, text_in, limits_in, asked, IsRefused, asked_by}
 use Rattle.capnp_program.specs.Settings.{asked_of}
 use Rattle.capnp_program.specs.Versions.{nodes_at}
 
 -- All that is asked, where no step is refused.
 pub asked_whole : (r : Request) (arguments : Arguments) (nodes : List Node) (newer : Option (List Node)) (rs : List Renaming) (text : CallsText) (calls : List ModelCall) (limits : Limits)
     → arguments_in r.words ≡ Some arguments → version_in r.schema arguments.root ≡ Ok nodes → newer_in arguments.newer r.newer arguments.root ≡ Ok newer → renamings_in arguments.renames r.renames ≡ Ok rs → text_in r.calls ≡ Ok text
-    → calls_from 1 text.calls ≡ Ok calls → limits_in text ≡ Ok limits
-    → asked r ≡ Ok (record { nodes = nodes; newer = newer; renamings = rs; root = arguments.root; input = arguments.input; output = arguments.output; calls = calls; limits = limits })
+    → calls_from 1 text.calls ≡ Ok calls → limits_in text.words text.nesting ≡ Ok limits
+    → asked r ≡ Ok (record { nodes = nodes; newer = newer; renamings = rs; root = arguments.root; forms = arguments.forms; calls = calls; limits = limits })
 asked_whole r arguments nodes newer rs text calls limits a n w s t m l = rw a (rw n (rw w (rw s (rw t (rw m (rw l refl))))))
-
--- The limits that a relay's options have.
-pub limits_taken : (from to : Form) (text : CallsText) (o : RelayOptions) → IsOf from to (record { traversal_limit_in_words = Some text.words; nesting_limit = text.nesting }) o
-    → limits_in text ≡ Ok (record { words = o.bounds.words; nesting = o.bounds.nesting })
-limits_taken from to text o h =
-    let words : text.words ≡ o.bounds.words = cc h.words in
-    let nesting : text.nesting ≡ pos o.bounds.nesting = h.nesting in
-    let small : nat_lt o.bounds.words (2 ^ 29 - 1) ≡ true = lt-ltb o.bounds.words (2 ^ 29 - 1) h.small in
-    rw nesting (rw words (rw small refl))
 
 -- What is asked of a relay by schemas, renamings, an id, calls and options.
 abbrev pub asked_from : List Node → Option (List Node) → List Renaming → ℕ → List Call → RelayOptions → Asked
@@ -49,26 +38,23 @@ asked_from nodes newer rs id calls options = record {
   newer = newer;
   renamings = rs;
   root = id;
-  input = options.input;
-  output = options.output;
+  forms = forms_of options;
   calls = map call_view calls;
-  limits = record { words = options.bounds.words; nesting = options.bounds.nesting };
+  limits = limits_of options;
 }
 
 -- What schemas, renamings, a root, calls and options ask for is what was asked.
 pub parts_ask : (r : Request) (nodes : List Node) (newer : Option Version) (rs : List Renaming) (root : ℕ) (calls : List Call) (options : RelayOptions) (arguments : Arguments) (text : CallsText)
     → arguments_in r.words ≡ Some arguments → version_in r.schema arguments.root ≡ Ok nodes → root ≡ arguments.root → newer_in arguments.newer r.newer arguments.root ≡ Ok (option_map nodes_at newer) → renamings_in arguments.renames r.renames ≡ Ok rs → text_in r.calls ≡ Ok text
     → calls_from 1 text.calls ≡ Ok (map call_view calls)
-    → IsOf arguments.input arguments.output (record { traversal_limit_in_words = Some text.words; nesting_limit = text.nesting }) options
+    → forms_of options ≡ arguments.forms → limits_in text.words text.nesting ≡ Ok (limits_of options)
     → asked r ≡ Ok (asked_from nodes (option_map nodes_at newer) rs root calls options)
-parts_ask r nodes newer rs root calls options arguments text a n f w s t m o =
-    let limits : Limits = record { words = options.bounds.words; nesting = options.bounds.nesting } in
+parts_ask r nodes newer rs root calls options arguments text a n f w s t m o l =
     let newer_nodes : Option (List Node) = option_map nodes_at newer in
-    let rest : ℕ → Form → Form → Asked = λ id input output. record { nodes = nodes; newer = newer_nodes; renamings = rs; root = id; input = input; output = output; calls = map call_view calls; limits = limits } in
-    asked_whole r arguments nodes newer_nodes rs text (map call_view calls) limits a n w s t m (limits_taken arguments.input arguments.output text options o)
-    ∙ ap (λ (x : ℕ). Ok (rest x arguments.input arguments.output)) (sym f)
-    ∙ ap (λ (x : Form). Ok (rest root x arguments.output)) (sym o.input)
-    ∙ ap (λ (x : Form). Ok (rest root options.input x)) (sym o.output)
+    let rest : ℕ → Forms → Asked = λ id forms. record { nodes = nodes; newer = newer_nodes; renamings = rs; root = id; forms = forms; calls = map call_view calls; limits = limits_of options } in
+    asked_whole r arguments nodes newer_nodes rs text (map call_view calls) (limits_of options) a n w s t m l
+    ∙ ap (λ (x : ℕ). Ok (rest x arguments.forms)) (sym f)
+    ∙ ap (λ (x : Forms). Ok (rest root x)) (sym o)
 
 -- A relay is asked what the settings ask for.
 module _ (root : StructSchema) (calls : List Call) (s : Settings) (n : nodes_around root ≡ nodes_at s.version) (i : id_of root ≡ s.version.root.id) (k : calls ≡ s.calls.items) where

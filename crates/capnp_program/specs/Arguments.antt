@@ -1,11 +1,12 @@
 -- What the words of a run say.
-use Rattle.std.specs.Prelude.{ℕ, ◌+◌, ◌-◌, ◌*◌, ◌^◌, Bool, true, false, not, ◌&&◌, nat_lt, Option, Some, None, List, [], ◌∷◌, length, codes}
+use Rattle.std.specs.Prelude.{ℕ, ◌+◌, ◌-◌, ◌*◌, ◌^◌, Bool, true, false, not, ◌&&◌, nat_lt, Option, Some, None, List, [], ◌∷◌, ◌++◌, map, length, codes}
 use Rattle.std.specs.Str.{bytes_eq, all_ascii_digits}
 use Rattle.capnp_model.specs.Chains.{◌>>=◌, ◌provided◌}
 use Rattle.capnp_files.specs.Json.{find_named}
 use Rattle.capnp_between.specs.Relay.{Form}
 use Rattle.capnp_between.specs.Relay.{Framed, Packed}
 use Rattle.capnp_program.specs.declared.arguments.Arguments.{Arguments}
+use Rattle.capnp_program.specs.declared.arguments.Forms.{Forms}
 
 -- The number that decimal digits spell, by the weight of each.
 unfoldable pub digits_number : List ℕ → ℕ
@@ -21,17 +22,25 @@ is_empty (b ∷ bs) = false
 abbrev pub decimal_in : List ℕ → Option ℕ
 decimal_in word = digits_number word provided (all_ascii_digits word && (not (is_empty word) && nat_lt (digits_number word) (2 ^ 64)))
 
--- The words for the forms of the input and the output.
-abbrev pub named_forms : List (List ℕ × (Form × Form))
-named_forms = (codes "framed", (Framed, Framed)) ∷ (codes "packed", (Packed, Packed)) ∷ (codes "framed-packed", (Framed, Packed)) ∷ (codes "packed-framed", (Packed, Framed)) ∷ []
+-- The form of the input, that of the output, and whether messages are written as they were built.
+abbrev pub forms : Form → Form → Bool → Forms
+forms input output plain = record { input = input; output = output; plain = plain }
+
+-- The words for the forms, where messages are written canonically.
+abbrev pub named_forms : List (List ℕ × Forms)
+named_forms = (codes "framed", forms Framed Framed false) ∷ (codes "packed", forms Packed Packed false) ∷ (codes "framed-packed", forms Framed Packed false) ∷ (codes "packed-framed", forms Packed Framed false) ∷ []
+
+-- Such a word with `+plain` behind it, and its forms, where messages are written as they were built.
+abbrev pub named_plain : List ℕ × Forms → List ℕ × Forms
+named_plain x = (x.0 ++ codes "+plain", forms x.1.input x.1.output true)
 
 -- The forms of a word.
-abbrev pub forms_named : List ℕ → Option (Form × Form)
-forms_named word = find_named word named_forms
+abbrev pub forms_named : List ℕ → Option Forms
+forms_named word = find_named word (named_forms ++ map named_plain named_forms)
 
 -- A root and forms, and whether there are a newer schema file and a renames file.
 abbrev pub arguments_of : List ℕ → List ℕ → Bool → Bool → Option Arguments
-arguments_of root form newer renames = decimal_in root >>= λ id. forms_named form >>= λ fs. Some (record { root = id; input = fs.0; output = fs.1; newer = newer; renames = renames })
+arguments_of root form newer renames = decimal_in root >>= λ id. forms_named form >>= λ fs. Some (record { root = id; forms = fs; newer = newer; renames = renames })
 
 -- Four words, a schema file, a calls file, the root and the forms; or five, with a newer schema file; or six, with a renames file.
 abbrev pub arguments_in : List (List ℕ) → Option Arguments

@@ -15,11 +15,12 @@ use Rattle.capnp_compatible.specs.Ways.{IsFirstRefused}
 use Rattle.capnp_files.specs.SchemaFiles.{schema_in}
 use Rattle.capnp_files.specs.CallsFiles.{CallsText, calls_in}
 use Rattle.capnp_files.specs.RenamesFiles.{renames_in}
-use Rattle.capnp_between.specs.Relay.{Form, RelayOptions}
+use Rattle.capnp_between.specs.Relay.{RelayOptions}
 use Rattle.capnp_loop.specs.declared.ends.Fault.TheVariants.{Memory}
 use Rattle.capnp_program.specs.declared.stop.Stop.{Stop}
 use Rattle.capnp_program.specs.declared.stop.Stop.TheVariants as stop
-use Rattle.capnp_program.specs.Arguments.{arguments_in}
+use Rattle.capnp_program.specs.declared.arguments.Forms.{Forms}
+use Rattle.capnp_program.specs.Arguments.{forms, arguments_in}
 use Rattle.capnp_program.specs.Calls.{calls_from}
 use Rattle.capnp_program.specs.Faults.{◌and_then◌, IsRefusalOf}
 
@@ -72,8 +73,8 @@ levels_of (pos n) = Some n
 levels_of (negsuc n) = None
 
 -- The limits that a relay takes: fewer than 2^29 - 1 words.
-abbrev pub limits_in : CallsText → Result Limits Stop
-limits_in text = ok_or (levels_of text.nesting >>= λ n. (record { words = text.words; nesting = n }) provided nat_lt text.words (2 ^ 29 - 1)) stop.Options
+abbrev pub limits_in : ℕ → ℤ → Result Limits Stop
+limits_in words nesting = ok_or (levels_of nesting >>= λ n. (record { words = words; nesting = n }) provided nat_lt words (2 ^ 29 - 1)) stop.Options
 
 -- ---- all of it
 
@@ -96,8 +97,7 @@ pub record Asked : Type 0 where
   pub newer : Option (List Node)
   pub renamings : List Renaming
   pub root : ℕ
-  pub input : Form
-  pub output : Form
+  pub forms : Forms
   pub calls : List Call
   pub limits : Limits
 
@@ -110,14 +110,13 @@ asked r =
     renamings_in arguments.renames r.renames and_then λ renamings.
     text_in r.calls and_then λ text.
     calls_from 1 text.calls and_then λ calls.
-    limits_in text and_then λ limits.
+    limits_in text.words text.nesting and_then λ limits.
     Ok (record {
       nodes = nodes;
       newer = newer;
       renamings = renamings;
       root = arguments.root;
-      input = arguments.input;
-      output = arguments.output;
+      forms = arguments.forms;
       calls = calls;
       limits = limits;
     })
@@ -147,6 +146,14 @@ IsHeldBack a (stop.NotAdmitted n) = IfNewer a.newer (λ nodes. AreCompatible a n
 IsHeldBack a (stop.Relay fault) = fault ≡ Memory
 IsHeldBack a _ = ⊥
 
+-- The forms of a relay's options.
+abbrev pub forms_of : RelayOptions → Forms
+forms_of options = forms options.input options.output options.plain
+
+-- The limits of a relay's options.
+abbrev pub limits_of : RelayOptions → Limits
+limits_of options = record { words = options.bounds.words; nesting = options.bounds.nesting }
+
 -- What a relay is asked by its arguments.
 abbrev pub asked_by : StructSchema → Option StructSchema → List Renaming → List RustCall → RelayOptions → Asked
 asked_by root newer rs calls options = record {
@@ -154,8 +161,7 @@ asked_by root newer rs calls options = record {
   newer = option_map nodes_around newer;
   renamings = rs;
   root = id_of root;
-  input = options.input;
-  output = options.output;
+  forms = forms_of options;
   calls = map call_view calls;
-  limits = record { words = options.bounds.words; nesting = options.bounds.nesting };
+  limits = limits_of options;
 }

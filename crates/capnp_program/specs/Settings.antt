@@ -3,7 +3,7 @@ use Rattle.std.specs.Prelude.{map, option_map}
 use Rattle.capnp_calls.specs.CallViews.{call_view}
 use Rattle.capnp_compatible.specs.Renamed.{renamings_of}
 use Rattle.capnp_program.specs.declared.settings.Settings.{Settings}
-use Rattle.capnp_program.specs.Asked.{Asked}
+use Rattle.capnp_program.specs.Asked.{Asked, forms_of, limits_of}
 use Rattle.capnp_program.specs.Versions.{nodes_at}
 
 -- What the settings ask for.
@@ -13,8 +13,7 @@ asked_of s = record {
   newer = option_map nodes_at s.newer;
   renamings = renamings_of s.renamings;
   root = s.version.root.id;
-  input = s.options.input;
-  output = s.options.output;
+  forms = forms_of s.options;
   calls = map call_view s.calls.items;
-  limits = record { words = s.options.bounds.words; nesting = s.options.bounds.nesting };
+  limits = limits_of s.options;
 }

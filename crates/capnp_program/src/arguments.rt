@@ -4,13 +4,21 @@ ghost use Rattle.capnp_program.specs.Arguments.{decimal_in, forms_named, argumen
 
 use capnp_between::options::Form;
 
+/// The forms of the input and of the output.
+#[derive(Clone, Copy, Debug, PartialEq, Eq)]
+pub struct Forms {
+    pub input: Form,
+    pub output: Form,
+    /// Whether messages are written as they were built, and not canonically.
+    pub plain: bool,
+}
+
 /// What the words of a run say, but for the names of its files.
 #[derive(Clone, Copy, Debug, PartialEq, Eq)]
 pub struct Arguments {
     /// The id of the root's node.
     pub root: u64,
-    pub input: Form,
-    pub output: Form,
+    pub forms: Forms,
     /// Whether a fifth word names a newer schema file.
     pub newer: bool,
     /// Whether a sixth word names a renames file.
@@ -27,17 +35,26 @@ fn decimal(word: &str) -> Option<u64>
     word.parse::<u64>().ok()
 }
 
-/// The form of the input and that of the output.
-fn forms(word: &str) -> Option<(Form, Form)>
+/// The forms that a word names.
+fn forms_named(word: &str) -> Option<Forms>
     ensures { result ≡ forms_named word.now }
 {
-    match word {
-        "framed" => Some((Form::Framed, Form::Framed)),
-        "packed" => Some((Form::Packed, Form::Packed)),
-        "framed-packed" => Some((Form::Framed, Form::Packed)),
-        "packed-framed" => Some((Form::Packed, Form::Framed)),
-        _ => None,
-    }
+    let (input, output, plain) = match word {
+        "framed" => (Form::Framed, Form::Framed, false),
+        "packed" => (Form::Packed, Form::Packed, false),
+        "framed-packed" => (Form::Framed, Form::Packed, false),
+        "packed-framed" => (Form::Packed, Form::Framed, false),
+        "framed+plain" => (Form::Framed, Form::Framed, true),
+        "packed+plain" => (Form::Packed, Form::Packed, true),
+        "framed-packed+plain" => (Form::Framed, Form::Packed, true),
+        "packed-framed+plain" => (Form::Packed, Form::Framed, true),
+        _ => return None,
+    };
+    Some(Forms {
+        input,
+        output,
+        plain,
+    })
 }
 
 /// What the root's word and the forms' say, where these files are named.
@@ -45,20 +62,20 @@ fn arguments_of(root: &str, form: &str, newer: bool, renames: bool) -> Option<Ar
     ensures { result ≡ arguments_of root.now form.now newer renames }
 {
     let root = decimal(root)?;
-    let (input, output) = forms(form)?;
+    let forms = forms_named(form)?;
     Some(Arguments {
         root,
-        input,
-        output,
+        forms,
         newer,
         renames,
     })
 }
 
 impl Arguments {
-    /// What the words say: a schema file, a calls file, the root's id in decimal digits alone, and a form: `framed`, `packed`,
-    /// `framed-packed` or `packed-framed`, the input's and then the output's; and a newer schema file, if any; and behind that a
-    /// renames file, if any. Nothing where they are other words, or more or fewer.
+    /// What the words say: a schema file, a calls file, the root's id in decimal digits alone, and the forms: `framed`, `packed`,
+    /// `framed-packed` or `packed-framed`, the input's and then the output's, with `+plain` behind it where messages are written as
+    /// they were built; and a newer schema file, if any; and behind that a renames file, if any. Nothing where they are other words,
+    /// or more or fewer.
     pub fn new(words: &[String]) -> Option<Arguments>
         ensures { result ≡ arguments_in (map string_bytes words.now) }
     {

@@ -6,10 +6,10 @@ ghost use Rattle.capnp_compatible.specs.Renamed.{renamings_of};
 ghost use Rattle.capnp_files.specs.CallViews.{parts_of, file_of};
 ghost use Rattle.capnp_program.specs.Faults.{IsRefusalOf};
 ghost use Rattle.capnp_program.specs.Calls.{calls_from};
-ghost use Rattle.capnp_program.specs.Asked.{text_in, newer_in, renamings_in, request, asked, IsRefused};
+ghost use Rattle.capnp_program.specs.Asked.{text_in, newer_in, renamings_in, limits_in, forms_of, limits_of, request, asked, IsRefused};
 ghost use Rattle.capnp_program.specs.Versions.{nodes_at, HasRoot};
 
-use crate::arguments::Arguments;
+use crate::arguments::{Arguments, Forms};
 use crate::stop::Stop;
 use crate::version::Version;
 use capnp_between::ends::Fault;
@@ -112,6 +112,23 @@ fn made_calls(
     Ok(calls)
 }
 
+/// The options of these forms and limits.
+fn options_of(forms: Forms, words: usize, nesting: i32) -> Result<RelayOptions, Stop>
+    ensures forms { IfOk result (λ options. forms_of options ≡ forms) }
+    ensures limits { IfOk result (λ options. limits_in words nesting ≡ Ok (limits_of options)) }
+    ensures refused { IfErr result (λ stop. limits_in words nesting ≡ Err stop) }
+{
+    let limits = ReaderOptions {
+        traversal_limit_in_words: Some(words),
+        nesting_limit: nesting,
+    };
+    match RelayOptions::new(forms.input, forms.output, limits) {
+        Ok(options) if forms.plain => Ok(options.plain()),
+        Ok(options) => Ok(options),
+        Err(_) => Err(Stop::Options),
+    }
+}
+
 impl Settings {
     ghost use Rattle.capnp_program.specs.Settings.{asked_of};
 
@@ -141,20 +158,14 @@ impl Settings {
         let renamings = named_renamings(alloc, arguments.renames, renames)?;
         let text = calls_text(alloc, calls)?;
         let calls = made_calls(alloc, text.calls)?;
-        let limits = ReaderOptions {
-            traversal_limit_in_words: Some(text.words),
-            nesting_limit: text.nesting,
-        };
-        match RelayOptions::new(arguments.input, arguments.output, limits) {
-            Ok(options) => Ok(Settings {
-                version,
-                newer,
-                renamings,
-                calls,
-                options,
-                input: arguments.input,
-            }),
-            Err(_) => Err(Stop::Options),
-        }
+        let options = options_of(arguments.forms, text.words, text.nesting)?;
+        Ok(Settings {
+            version,
+            newer,
+            renamings,
+            calls,
+            options,
+            input: arguments.forms.input,
+        })
     }
 }

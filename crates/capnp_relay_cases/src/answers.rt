@@ -23,8 +23,7 @@ fn text(alloc: Global, text: &str) -> Result<String, Fault> {
 }
 
 /// The text of a framed message under the limits of the calls file; without a limit of words where there is no such file.
-pub fn shown(alloc: Global, case: &Case) -> Result<String, Fault> {
-    let given = Given::new(alloc, case)?;
+pub fn text_of(alloc: Global, given: &Given, message: &[u8]) -> Result<String, Fault> {
     let version = given.older(alloc)?;
     let mut options = ReaderOptions {
         traversal_limit_in_words: None,
@@ -37,7 +36,7 @@ pub fn shown(alloc: Global, case: &Case) -> Result<String, Fault> {
         options.traversal_limit_in_words = Some(file.words);
         options.nesting_limit = file.nesting;
     }
-    match show(alloc, &case.bytes(alloc, "stdin")?, version.root(), options) {
+    match show(alloc, message, version.root(), options) {
         Ok(bytes) => match String::from_utf8(bytes) {
             Ok(text) => Ok(text),
             Err(_) => Err(Fault::Shape),
@@ -45,6 +44,15 @@ pub fn shown(alloc: Global, case: &Case) -> Result<String, Fault> {
         Err(ShowFault::Memory) => Err(Fault::Memory),
         Err(fault) => Ok(format!(in alloc; "{fault}")?),
     }
+}
+
+/// The same of the case's message.
+pub fn shown(alloc: Global, case: &Case) -> Result<String, Fault> {
+    text_of(
+        alloc,
+        &Given::new(alloc, case)?,
+        &case.bytes(alloc, "stdin")?,
+    )
 }
 
 /// Whether the newer schema is compatible with the older.

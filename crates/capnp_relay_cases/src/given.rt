@@ -1,6 +1,7 @@
 //! What a run is given, and what it should leave.
 
 use crate::case::{Case, Fault};
+use crate::plain;
 use capnp_compatible::renamings::Renamings;
 use capnp_files::renames_file::renames_file;
 use capnp_program::arguments::Arguments;
@@ -58,12 +59,14 @@ impl Given {
         }
     }
 
+    /// What the words say.
+    pub fn arguments(&self) -> Result<Arguments, Fault> {
+        Arguments::new(&self.words).ok_or(Fault::Shape)
+    }
+
     /// The root's id.
     pub fn root(&self) -> Result<u64, Fault> {
-        match Arguments::new(&self.words) {
-            Some(arguments) => Ok(arguments.root),
-            None => Err(Fault::Shape),
-        }
+        Ok(self.arguments()?.root)
     }
 
     fn version_of(&self, alloc: Global, file: Option<&[u8]>) -> Result<Version, Fault> {
@@ -103,9 +106,27 @@ fn log_of(alloc: Global, case: &Case) -> Result<Vec<u8>, Fault> {
     case.bytes(alloc, "stderr")
 }
 
+/// These bytes, where they aren't those that a member tells in hex.
+pub fn difference_of_bytes(
+    alloc: Global,
+    case: &Case,
+    name: &str,
+    bytes: &[u8],
+) -> Result<Option<String>, Fault> {
+    if bytes == case.bytes(alloc, name)?.as_slice() {
+        return Ok(None);
+    }
+    Ok(Some(format!(in alloc; "{name} {}", hex_of(alloc, bytes)?.as_str())?))
+}
+
 impl Left {
     /// What differs from what the case tells, if anything.
-    pub fn difference(&self, alloc: Global, case: &Case) -> Result<Option<String>, Fault> {
+    pub fn difference(
+        &self,
+        alloc: Global,
+        given: &Given,
+        case: &Case,
+    ) -> Result<Option<String>, Fault> {
         let end = if case.has("answer") {
             String::from_str(alloc, case.text("answer")?)?
         } else {
@@ -117,8 +138,13 @@ impl Left {
         if self.log.as_slice() != log_of(alloc, case)?.as_slice() {
             return Ok(Some(format!(in alloc; "stderr {}", hex_of(alloc, &self.log)?.as_str())?));
         }
-        if self.out.as_slice() != case.bytes(alloc, "stdout")?.as_slice() {
-            return Ok(Some(format!(in alloc; "stdout {}", hex_of(alloc, &self.out)?.as_str())?));
+        let told = if case.has("again") {
+            plain::difference(alloc, given, &self.out, case)?
+        } else {
+            difference_of_bytes(alloc, case, "stdout", &self.out)?
+        };
+        if told.is_some() {
+            return Ok(told);
         }
         if case.has("unread") && case.number("unread")? != self.unread as u64 {
             return Ok(Some(format!(in alloc; "{} bytes are unread", self.unread)?));

@@ -6,6 +6,7 @@
 mod answers;
 mod case;
 mod given;
+mod plain;
 mod relays;
 mod runs;
 mod sources;

@@ -37,11 +37,11 @@ pub fn difference(alloc: Global, case: &Case) -> Result<Option<String>, Fault> {
     let mut source = input.as_slice();
     let mut left = left_of(alloc, &given, &mut source)?;
     left.unread = source.len();
-    if let Some(difference) = left.difference(alloc, case)? {
+    if let Some(difference) = left.difference(alloc, &given, case)? {
         return Ok(Some(difference));
     }
     let mut source = OneByOne::new(&input);
     let mut left = left_of(alloc, &given, &mut source)?;
     left.unread = source.left();
-    left.difference(alloc, case)
+    left.difference(alloc, &given, case)
 }

@@ -1,26 +1,25 @@
-use Rattle.std.proofs.Common.{rules, ◌≡◌, map, string_bytes, option_map, Some, ℤ, subst, w32}
+use Rattle.std.proofs.Common.{rules, ◌≡◌, map, string_bytes, option_map, Some, Ok, ℤ, subst, w32}
 use Rattle.std.proofs.lemmas.Int.{to_z-of_z}
 use Rattle.std.proofs.lemmas.Result.{err_from_is_err_and}
 use mir.Val.{SFits}
 use Rattle.std.specs.Option.{option_copied}
 use Rattle.capnp_compatible.specs.Renamed.{renamings_of}
 use Rattle.capnp_files.specs.CallViews.{file_of}
-use Rattle.capnp_between.specs.Relay.{IsOf}
 use Rattle.capnp_program.specs.Arguments.{arguments_in}
-use Rattle.capnp_program.specs.Asked.{request}
+use Rattle.capnp_program.specs.Asked.{request, limits_in, limits_of}
 use Rattle.capnp_program.specs.Versions.{nodes_at}
 use Rattle.capnp_program.proofs.Asking.{parts_ask, text_refused, calls_refused}
 use Rattle.capnp_program.proofs.settings.Settings.new.Goals as goal
 
-pub returns-in-Ok-clause-ok : goal.returns-in-Ok-clause-ok
-returns-in-Ok-clause-ok c =
+pub returns-clause-ok : goal.returns-clause-ok
+returns-clause-ok c =
     let a = c.in_ok-arguments.arguments in
     let text = c.in_ok-text.text in
+    let o = c.in_ok-options.options in
     let arguments : arguments_in (map string_bytes c.args.words.now) ≡ Some a = search rules in
     let fits : SFits w32 text.nesting = search rules in
-    let options : IsOf a.input a.output (record { traversal_limit_in_words = Some text.words; nesting_limit = text.nesting }) c.in-Ok.options =
-    subst (λ (z : ℤ). IsOf a.input a.output (record { traversal_limit_in_words = Some text.words; nesting_limit = z }) c.in-Ok.options) (to_z-of_z w32 text.nesting fits) c.in-Ok.ensures.options in
-    parts_ask (request (map string_bytes c.args.words.now) (option_copied c.args.schema) (option_copied c.args.calls) (option_copied c.args.newer) (option_copied c.args.renames)) (nodes_at c.in_ok-version.version) c.in_ok-newer.newer (renamings_of c.in_ok-renamings.renamings) c.in_ok-version.version.root.id c.in_ok-calls.calls.items c.in-Ok.options a (file_of text) arguments c.in_ok-version.ensures.ok c.in_ok-version.ensures.root c.in_ok-newer.ensures.ok c.in_ok-renamings.ensures.ok c.in_ok-text.ensures.ok c.in_ok-calls.ensures.ok options
+    let limits : limits_in text.words text.nesting ≡ Ok (limits_of o) = subst (λ (z : ℤ). limits_in text.words z ≡ Ok (limits_of o)) (to_z-of_z w32 text.nesting fits) c.in_ok-options.ensures.limits in
+    parts_ask (request (map string_bytes c.args.words.now) (option_copied c.args.schema) (option_copied c.args.calls) (option_copied c.args.newer) (option_copied c.args.renames)) (nodes_at c.in_ok-version.version) c.in_ok-newer.newer (renamings_of c.in_ok-renamings.renamings) c.in_ok-version.version.root.id c.in_ok-calls.calls.items o a (file_of text) arguments c.in_ok-version.ensures.ok c.in_ok-version.ensures.root c.in_ok-newer.ensures.ok c.in_ok-renamings.ensures.ok c.in_ok-text.ensures.ok c.in_ok-calls.ensures.ok c.in_ok-options.ensures.forms limits
 
 pub returns-in_err-calls-clause-refused : goal.returns-in_err-calls-clause-refused
 returns-in_err-calls-clause-refused c =
