@@ -1,5 +1,5 @@
 //! Gets of dynamic builders of lists.
-ghost use Rattle.std.specs.Prelude.{◌≡◌, ◌<◌, [], IfOk, IfSome};
+ghost use Rattle.std.specs.Prelude.{◌≡◌, ◌<◌, [], IfOk, IfSome, OnErr};
 ghost use Rattle.capnp_model.specs.Accepted.{schema_of};
 ghost use Rattle.capnp_model.specs.Calls.{initn, element_content};
 ghost use Rattle.capnp_model.specs.Edits.{edit_element};
@@ -7,7 +7,7 @@ ghost use Rattle.capnp_units.specs.Segments.{words_in};
 ghost use Rattle.capnp_copy.specs.Refusals.{IsSizeOrRefusal};
 ghost use Rattle.capnp_records.specs.Sets.{nodes_of};
 ghost use Rattle.capnp_queries.specs.Types.{ty_of};
-ghost use Rattle.capnp_dynamic_lists.specs.Builders.{IsReady, Puts, words_around};
+ghost use Rattle.capnp_dynamic_lists.specs.Builders.{IsReady, Puts, Stays, words_around};
 ghost use Rattle.capnp_dynamic_values.specs.Built.{memory_in, placed_of, IsPlaced, IsAtEnd, IsAtStart, IsReady as IsValueReady};
 ghost use Rattle.capnp_dynamic_gets.specs.Builders.{GetsAt, KeepsListReady};
 ghost use Rattle.capnp_dynamic_gets.specs.Inits.{BeginsAndGets};
@@ -68,7 +68,8 @@ pub fn init<'b, A: BuilderArena>(
     ensures begins { let ty = ty_of builder.old.element_type in
         let s = schema_of (nodes_of builder.old.set.now) in
         BeginsAndGets (λ b r. Puts A.segments A.room A.books (IsSizeOrRefusal A.refuses) builder.old
-        b (edit_element s [] (initn size) ty) index (element_content s (initn size) ty) r)
+        b (edit_element s [] (initn size) ty) index (element_content s (initn size) ty) r
+        × OnErr r (Stays A.segments builder.old b))
         (λ b r. GetsAt A.segments A.nesting b builder.new index r) builder.new result }
     ensures there { IfOk result (IsPlaced (words_around A.segments builder.new)) }
     ensures books { A.books builder.new.memory.now.arena ≡ A.books builder.old.memory.now.arena }

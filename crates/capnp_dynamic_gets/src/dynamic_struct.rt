@@ -1,5 +1,5 @@
 //! Gets of dynamic builders of structs.
-ghost use Rattle.std.specs.Prelude.{◌≡◌, None, IfOk, IfSome};
+ghost use Rattle.std.specs.Prelude.{◌≡◌, None, IfOk, IfSome, OnErr};
 ghost use Rattle.capnp_model.specs.Calls.{initn as initn_verb};
 ghost use Rattle.capnp_units.specs.Segments.{words_in};
 ghost use Rattle.capnp_copy.specs.Refusals.{IsSizeOrRefusal};
@@ -93,7 +93,8 @@ pub fn initn<'b, A: BuilderArena>(
     ensures begins { BeginsAndGets
         (λ b r. Puts A.segments A.room A.books (IsSizeOrRefusal A.refuses) builder.old b
         (edit_of field.entry (initn_verb count))
-        (initn_field (schema_around field.entry.parent) count (entry_of field.entry)) r)
+        (initn_field (schema_around field.entry.parent) count (entry_of field.entry)) r
+        × OnErr r (Stays A.segments builder.old b))
         (λ b r. Gets A.segments A.nesting b builder.new field.entry r) builder.new result }
     ensures there { IfOk result (IsPlaced (words_around A.segments builder.new)) }
     ensures books { A.books builder.new.memory.now.arena ≡ A.books builder.old.memory.now.arena }
