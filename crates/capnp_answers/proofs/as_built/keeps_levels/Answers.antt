@@ -12,8 +12,8 @@ returns-in-Ok-clause-keeps g c = λ is.
     let found = c.in-Ok.ensures in
     (found.0, read_with_more laws c.min-most.result c.args.levels s root (omega (arith, c.min-most.ensures)) found.0 found.1)
 
-pub returns-in-Err-clause-deeper : goal.returns-in-Err-clause-deeper
-returns-in-Err-clause-deeper g c n t is there =
+pub returns-else-most-levels-clause-deeper : goal.returns-else-most-levels-clause-deeper
+returns-else-most-levels-clause-deeper g c n t is there =
     let laws : LevelLaws = record { deep = c.values_that_are_read.ensures.deep; levels = c.values_that_are_read.ensures.levels } in
     let s = words_in (g.A.ReaderArena.segments c.args.arena.now) in
     let far = deeper laws c.values_on_walks.ensures.cost s n c.min-most.result t c.new-unlimited.result c.size_at.new.limiter _ c.new-unlimited.ensures.left c.in-Err.ensures there in
