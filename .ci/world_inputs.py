@@ -30,6 +30,18 @@ SCHEMA = [
 ]
 SET_A = {"path": ["a"], "verb": "set", "value": {"number": 7}}
 WORDS = ["schema.json", "calls.json", "1", "framed"]
+# Levels that a value is followed at most, whatever the limit, those of one that is far deeper, and kilobytes of stack.
+STACK_LEVELS, DEEP, STACK = 1024, 100_000, 1024
+# A struct whose pointer leads to another such struct.
+CHAIN = [
+    {
+        "id": 1,
+        "name": "N",
+        "data": 0,
+        "pointers": 1,
+        "fields": [{"name": "next", "type": {"struct": 1}, "offset": 0}],
+    }
+]
 
 
 def trickle(program, run):
@@ -73,9 +85,9 @@ def cuts(program, run):
     return {"inputs cut": len(run.given), "of these within a message": inside}
 
 
-def write_files(folder, calls):
+def write_files(folder, calls, schema=SCHEMA):
     """The schema, and a calls file."""
-    for name, value in (("schema.json", SCHEMA), ("calls.json", calls)):
+    for name, value in (("schema.json", schema), ("calls.json", calls)):
         with open(os.path.join(folder, name), "w", encoding="ascii") as file:
             json.dump(value, file)
 
@@ -194,3 +206,80 @@ def limits(program, _run):
     if high > low + LEVEL:
         raise Failure(f"{high} kB resident with a limit of {MOST_WORDS} words, {low} with one of 1000")
     return {"words of the highest limit": MOST_WORDS, "peak kB with it": high, "with a limit of 1000": low}
+
+
+def frame(words):
+    """A frame of one segment of these words, each as two halves."""
+    return struct.pack("<II", 0, len(words)) + b"".join(struct.pack("<II", *it) for it in words)
+
+
+def packed(data):
+    """The packed form of bytes, word by word."""
+    out = b""
+    for at in range(0, len(data), 8):
+        word = data[at : at + 8]
+        tag = sum((byte != 0) << bit for bit, byte in enumerate(word))
+        out += bytes([tag]) + bytes(filter(None, word)) + b"\0" * (tag in (0, 255))
+    return out
+
+
+# The pointer to a struct of one pointer behind it, that to the empty struct, and those to lists behind it.
+TO_STRUCT, TO_EMPTY, TO_POINTERS, TO_VOIDS = (0, 1 << 16), (0xFFFF_FFFC, 0), (1, 1 << 3 | 6), (1, 0)
+TO_STRUCTS, TAG, TO_EMPTIES, EMPTY_TAG = (1, 1 << 3 | 7), (4, 1 << 16), (1, 7), (4, 0)
+
+
+def structs(levels):
+    """A struct in a struct, so many levels, and the same."""
+    words = [TO_STRUCT] * (levels - 1) + [TO_EMPTY]
+    return frame(words), frame(words)
+
+
+def lists(levels):
+    """Lists of pointers below a struct, and the same."""
+    words = [TO_STRUCT] + [TO_POINTERS] * (levels - 2) + [TO_VOIDS]
+    return frame(words), frame(words)
+
+
+def far_lists(levels):
+    """Lists of structs below a struct, each behind a far pointer, and as they are written: without those, and without the null that ends them."""
+    words, count = [TO_STRUCT], levels - 1
+    for it in range(count):
+        words += [((3 * it + 2) << 3 | 2, 0), TO_STRUCTS, TAG]
+    return frame([*words, (0, 0)]), frame([TO_STRUCT] + [TO_STRUCTS, TAG] * (count - 1) + [TO_EMPTIES, EMPTY_TAG])
+
+
+def on_little_stack(program, form, calls, given):
+    """A run of chains of structs under such calls, with a stack of 1 MiB."""
+    shell = f'ulimit -s {STACK}; exec "$0" "$@"'
+    words = ["sh", "-c", shell, program, "schema.json", "calls.json", "1", form]
+    with tempfile.TemporaryDirectory() as folder:
+        write_files(folder, calls, CHAIN)
+        how = {"cwd": folder, "capture_output": True, "timeout": LIMIT}
+        it = subprocess.run(words, input=given, check=False, **how)
+    return Ran(it.returncode, it.stdout, it.stderr)
+
+
+def nested(program, _run):
+    """Values that are nested deep, and a cycle, under no limit of levels: an answer or want of memory, and never a signal."""
+    free, wanting, runs = {"calls": [], "nesting": 2**31 - 1}, Ran(1, b"", b"fault: memory\n"), []
+    refused, written = Ran(0, b"", b"message 1 refused: value\n"), b"message 1 written\n"
+    cycle = frame([TO_STRUCT, (0xFFFF_FFFC, 1 << 16)])
+    runs.append((free, cycle, wanting))
+    runs.append(({"calls": [], "words": 1000, "nesting": 2000}, cycle, refused))
+    for shape in (structs, lists, far_lists):
+        given, out = shape(STACK_LEVELS)
+        runs.append((free, given, Ran(0, out, written)))
+        runs.append(({"calls": []}, given, refused))
+        runs.extend((free, shape(levels)[0], wanting) for levels in (STACK_LEVELS + 1, DEEP))
+    given, _ = structs(STACK_LEVELS)
+    clear = {**free, "calls": [{"path": ["next"], "verb": "clear"}]}
+    runs.append((clear, given, Ran(0, frame([TO_EMPTY]), b"message 1 written; done\n")))
+    get = {**free, "calls": [{"path": ["next"], "verb": "get"}]}
+    text = b"(next = " * (STACK_LEVELS - 2) + b"()" + b")" * (STACK_LEVELS - 2)
+    runs.append((get, given, Ran(0, given, b"message 1 written; " + text + b"\n")))
+    for calls, given, wanted in runs:
+        for form, it in (("framed", given), ("packed-framed", packed(given))):
+            got = on_little_stack(program, form, calls, it)
+            if got != wanted:
+                raise Failure(f"{len(given)} bytes, {form}, {calls}: {str(got)[-300:]}, and not {str(wanted)[-300:]}")
+    return {"runs of nested values on a stack of 1 MiB": 2 * len(runs), "levels of the deepest": DEEP}

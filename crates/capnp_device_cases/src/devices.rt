@@ -147,6 +147,11 @@ impl<'a> Taking<'a> {
     {
         &self.held
     }
+
+    /// The same, where it isn't used any more.
+    pub fn into_held(self) -> Vec<u8> {
+        self.held
+    }
 }
 
 impl Write for Taking<'_> {

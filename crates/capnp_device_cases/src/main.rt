@@ -4,7 +4,10 @@
 #![tactic(auto)]
 
 mod devices;
+mod messages;
 mod readings;
+mod relays;
+mod rows;
 mod writings;
 
 use devices::Fault;
@@ -15,6 +18,9 @@ use std::{env, io};
 /// At how many bytes a device failed in the case of a name, each as it should be.
 fn faults(alloc: Global, name: &str) -> Result<usize, Fault> {
     if let Some(count) = writings::faults(alloc, name)? {
+        return Ok(count);
+    }
+    if let Some(count) = relays::faults(alloc, name)? {
         return Ok(count);
     }
     readings::faults(alloc, name)?.ok_or(Fault::Memory)
