@@ -22,6 +22,25 @@ pub struct Done {
     pub counts: Counts,
 }
 
+/// One of the three streams of a run.
+#[derive(Clone, Copy)]
+pub enum Stream {
+    Given,
+    Out,
+    Log,
+}
+
+impl Done {
+    /// How many bytes of a stream it is.
+    fn bytes_of(&self, stream: Stream) -> usize {
+        match stream {
+            Stream::Given => self.taken,
+            Stream::Out => self.written,
+            Stream::Log => self.logged,
+        }
+    }
+}
+
 /// The whole streams of a run, and what should be done behind each number of messages, none the first.
 #[derive(Drop)]
 pub struct Streams {
@@ -72,10 +91,20 @@ impl Streams {
         Ok(self.done.push(done)?)
     }
 
-    /// What should be done behind the last message for which this holds, and behind the next one.
-    pub fn around<F: Fn(&Done) -> bool>(&self, is_behind: F) -> Option<(Done, Done)> {
-        let count = self.done.iter().take_while(|done| is_behind(done)).count();
-        let whole = *self.done.get(count.checked_sub(1)?)?;
-        Some((whole, *self.done.get(count).unwrap_or(&whole)))
+    /// What should be done behind the last message that is whole in so many bytes of a stream, and behind the next one, or the last, if there is none.
+    pub fn around(&self, stream: Stream, bytes: usize) -> Option<(Done, Done)> {
+        let mut whole = None;
+        for done in &self.done {
+            if done.bytes_of(stream) > bytes {
+                return Some((whole?, *done));
+            }
+            whole = Some(*done);
+        }
+        Some((whole?, whole?))
+    }
+
+    /// What should be counted of all messages.
+    pub fn counts(&self) -> Option<Counts> {
+        Some(self.done.last()?.counts)
     }
 }

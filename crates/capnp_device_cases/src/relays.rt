@@ -1,7 +1,7 @@
 //! Runs of the relay whose source, output or log fails at each byte.
 
 use crate::devices::{Alarm, Fault, Giving, Taking};
-use crate::messages::{Done, Streams};
+use crate::messages::{Done, Stream, Streams};
 use crate::rows::{Run, run_of};
 use capnp_between::between::{BetweenFault, relay_between};
 use capnp_between::ends::{Counts, Fault as End, RelayFault};
@@ -85,12 +85,12 @@ impl Relay {
         let mut out = Vec::new(alloc);
         let mut log = Vec::new(alloc);
         let end = self.end(alloc, &mut source, &mut out, &mut log)?;
-        let Some((whole, _)) = streams.around(|_| true) else {
+        let Some(counts) = streams.counts() else {
             return Ok(false);
         };
         let is_same = out.as_slice() == streams.out.as_slice()
             && log.as_slice() == streams.log.as_slice();
-        Ok(end == Some(Ok(whole.counts)) && source.is_empty() && is_same)
+        Ok(end == Some(Ok(counts)) && source.is_empty() && is_same)
     }
 
     /// Runs the relay over devices that fail behind so many bytes. What is left, and whether none was called behind the fault.
@@ -163,7 +163,7 @@ impl Trial<'_> {
     fn is_good_source(&self, alloc: Global, given: usize) -> Result<bool, Fault> {
         let limits = Limits { given, ..NO_LIMITS };
         let left = self.relay.left(alloc, self.streams, self.width, limits)?;
-        let Some((whole, _)) = self.streams.around(|done| done.taken <= given) else {
+        let Some((whole, _)) = self.streams.around(Stream::Given, given) else {
             return Ok(false);
         };
         let Done {
@@ -179,7 +179,7 @@ impl Trial<'_> {
     fn is_good_out(&self, alloc: Global, out: usize) -> Result<bool, Fault> {
         let limits = Limits { out, ..NO_LIMITS };
         let left = self.relay.left(alloc, self.streams, self.width, limits)?;
-        let Some((whole, next)) = self.streams.around(|done| done.written <= out) else {
+        let Some((whole, next)) = self.streams.around(Stream::Out, out) else {
             return Ok(false);
         };
         let is_so = left.is_so(self.streams, End::Out, whole.counts, out, whole.logged);
@@ -190,7 +190,7 @@ impl Trial<'_> {
     fn is_good_log(&self, alloc: Global, log: usize) -> Result<bool, Fault> {
         let limits = Limits { log, ..NO_LIMITS };
         let left = self.relay.left(alloc, self.streams, self.width, limits)?;
-        let Some((whole, next)) = self.streams.around(|done| done.logged <= log) else {
+        let Some((whole, next)) = self.streams.around(Stream::Log, log) else {
             return Ok(false);
         };
         let counts = Counts {
