@@ -254,7 +254,8 @@ fn put_out<O: MessageForm, W: Write>(
 }
 
 /// Writes the line of an answer, and counts a refusal.
-#[inline]
+// Measured: with a call of its own a small message costs a twentieth more.
+#[inline(always)]
 fn put_log<L: Write>(
     log: &mut L,
     answer: &MessageAnswer,
