@@ -17,6 +17,7 @@ use capnp_units::sizes::{ElementSize, StructSize, Word};
 use capnp_wire::arena::{ReaderArena, ReaderArenaImpl};
 use capnp_wire::place::{ROOT, has_words};
 use capnp_wire::pointer::PointerReader;
+use std::alloc::Global;
 
 /// A data word and a pointer.
 const SIZE: StructSize = StructSize {
@@ -37,6 +38,18 @@ fn source(call: &str) -> &'static str {
     match call {
         "set_list" | "set_list_canonical" => LIST,
         _ => STRUCT,
+    }
+}
+
+/// Copies the text at the root.
+fn copy_text<A: BuilderArena>(alloc: Global, memory: &mut Memory<A>) -> Result<()> {
+    if !has_words(&memory.arena, ROOT, 1) {
+        return Err(Error::from(ErrorKind::OutOfBounds));
+    }
+    let text = PointerBuilder::get_root(memory).get_text(None)?;
+    match text.to_string(alloc)? {
+        Some(_copy) => Ok(()),
+        None => Err(Error::from(ErrorKind::OutOfBounds)),
     }
 }
 
@@ -181,6 +194,12 @@ fn called<A: BuilderArena, C: BuilderArena>(
         "set_struct_canonical" | "set_list_canonical" => {
             marks::begin(rt);
             let done = copy_by_way(memory, call, source, scratch, &mut lent);
+            marks::end(rt);
+            done
+        }
+        "text_to_string" => {
+            marks::begin(rt);
+            let done = copy_text(rt.alloc(), memory);
             marks::end(rt);
             done
         }
