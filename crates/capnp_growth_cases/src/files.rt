@@ -2,7 +2,7 @@
 
 use crate::fault::Fault;
 use crate::marks;
-use crate::relays::{CALLS, SCHEMA};
+use crate::relays::{CALLS, RENAMES, SCHEMA};
 use capnp_calls::{Call, CallFault, CallValue, Step, Verb};
 use capnp_compatible::renamings::{RenamingFault, Renamings};
 use capnp_files::calls_file::calls_file;
@@ -12,9 +12,6 @@ use capnp_files::schema_file::schema_file;
 use capnp_records::fault::SchemaFault;
 use capnp_records::set::SchemaSet;
 use std::alloc::Global;
-
-/// A field that another name has in the newer schema.
-pub const RENAMES: &str = r#"[{"node":1,"from":"a","to":"number"}]"#;
 
 /// A frame of a struct of the number 5.
 const FRAME: [u8; 24] = [

@@ -17,6 +17,7 @@ use capnp_units::sizes::{ElementSize, StructSize, Word};
 use capnp_wire::arena::{ReaderArena, ReaderArenaImpl};
 use capnp_wire::place::{ROOT, has_words};
 use capnp_wire::pointer::PointerReader;
+use std::alloc::Global;
 
 /// A data word and a pointer.
 const SIZE: StructSize = StructSize {
@@ -37,6 +38,18 @@ fn source(call: &str) -> &'static str {
     match call {
         "set_list" | "set_list_canonical" => LIST,
         _ => STRUCT,
+    }
+}
+
+/// Copies the text at the root.
+fn copy_text<A: BuilderArena>(alloc: Global, memory: &mut Memory<A>) -> Result<()> {
+    if !has_words(&memory.arena, ROOT, 1) {
+        return Err(Error::from(ErrorKind::OutOfBounds));
+    }
+    let text = PointerBuilder::get_root(memory).get_text(None)?;
+    match text.to_string(alloc)? {
+        Some(_copy) => Ok(()),
+        None => Err(Error::from(ErrorKind::OutOfBounds)),
     }
 }
 
@@ -72,22 +85,6 @@ fn make<A: BuilderArena>(memory: &mut Memory<A>, call: &str) -> Result<()> {
     }
 }
 
-/// Copies the content of a struct into that at the root.
-fn copy_content<A: BuilderArena, B: ReaderArena>(
-    memory: &mut Memory<A>,
-    place: StructPlace,
-    source: PointerReader<'_, B>,
-) -> Result<()> {
-    let mut unlimited = ReadLimiter::new(None);
-    let other = source.get_struct(&mut unlimited, None)?;
-    let words = place.data_words as usize + place.pointers as usize;
-    if place.start.position >= 1 << 60 || !has_words(&memory.arena, place.start, words) {
-        return Err(Error::from(ErrorKind::OutOfBounds));
-    }
-    let mut object = StructBuilder { memory, place };
-    object.copy_content_from(&mut unlimited, other)
-}
-
 /// Where the struct at the root lies.
 fn struct_at_root<A: BuilderArena>(memory: &mut Memory<A>) -> Result<StructPlace> {
     if !has_words(&memory.arena, ROOT, 1) {
@@ -97,6 +94,22 @@ fn struct_at_root<A: BuilderArena>(memory: &mut Memory<A>) -> Result<StructPlace
         Ok(object) => Ok(object.place),
         Err(error) => Err(error),
     }
+}
+
+/// Copies the content of a struct into that at the root.
+fn copy_content<A: BuilderArena, B: ReaderArena>(
+    memory: &mut Memory<A>,
+    source: PointerReader<'_, B>,
+) -> Result<()> {
+    let mut unlimited = ReadLimiter::new(None);
+    let other = source.get_struct(&mut unlimited, None)?;
+    let place = struct_at_root(memory)?;
+    let words = place.data_words as usize + place.pointers as usize;
+    if place.start.position >= 1 << 60 || !has_words(&memory.arena, place.start, words) {
+        return Err(Error::from(ErrorKind::OutOfBounds));
+    }
+    let mut object = StructBuilder { memory, place };
+    object.copy_content_from(&mut unlimited, other)
 }
 
 /// A call that copies a value.
@@ -147,7 +160,36 @@ fn copy_by_way<A: BuilderArena, B: ReaderArena, C: BuilderArena>(
     set_list_canonical(&mut pointer, &mut unlimited, other, &mut way, lent)
 }
 
-/// The call of a name, between the marks.
+/// The call of a name.
+fn call_of<A: BuilderArena, B: ReaderArena, C: BuilderArena>(
+    alloc: Global,
+    memory: &mut Memory<A>,
+    call: &str,
+    source: PointerReader<'_, B>,
+    scratch: &mut Memory<C>,
+    lent: &mut [Word],
+) -> Result<()> {
+    match call {
+        "set_text"
+        | "set_data"
+        | "init_text"
+        | "init_data"
+        | "init_struct"
+        | "init_list"
+        | "init_struct_list" => make(memory, call),
+        "copy_from" | "set_struct" | "set_list" | "copy_canonical_from" => {
+            copy(memory, call, source, lent)
+        }
+        "set_struct_canonical" | "set_list_canonical" => {
+            copy_by_way(memory, call, source, scratch, lent)
+        }
+        "copy_content_from" => copy_content(memory, source),
+        "text_to_string" => copy_text(alloc, memory),
+        _ => Err(Error::from(ErrorKind::FieldNotFound)),
+    }
+}
+
+/// The same between the marks, with a source in these bytes.
 fn called<A: BuilderArena, C: BuilderArena>(
     rt: &HostRuntime,
     memory: &mut Memory<A>,
@@ -159,40 +201,10 @@ fn called<A: BuilderArena, C: BuilderArena>(
     let arena: Segments<'_> = ReaderArenaImpl::new(segments.as_slice(), 64);
     let source = PointerReader::get_root_from_arena(&arena)?;
     let mut lent = [[0; 8]; 16];
-    match call {
-        "set_text"
-        | "set_data"
-        | "init_text"
-        | "init_data"
-        | "init_struct"
-        | "init_list"
-        | "init_struct_list" => {
-            marks::begin(rt);
-            let done = make(memory, call);
-            marks::end(rt);
-            done
-        }
-        "copy_from" | "set_struct" | "set_list" | "copy_canonical_from" => {
-            marks::begin(rt);
-            let done = copy(memory, call, source, &mut lent);
-            marks::end(rt);
-            done
-        }
-        "set_struct_canonical" | "set_list_canonical" => {
-            marks::begin(rt);
-            let done = copy_by_way(memory, call, source, scratch, &mut lent);
-            marks::end(rt);
-            done
-        }
-        "copy_content_from" => {
-            let place = struct_at_root(memory)?;
-            marks::begin(rt);
-            let done = copy_content(memory, place, source);
-            marks::end(rt);
-            done
-        }
-        _ => Err(Error::from(ErrorKind::FieldNotFound)),
-    }
+    marks::begin(rt);
+    let done = call_of(rt.alloc(), memory, call, source, scratch, &mut lent);
+    marks::end(rt);
+    done
 }
 
 /// What a call at a message tells.

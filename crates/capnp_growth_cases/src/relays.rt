@@ -1,11 +1,18 @@
 //! Runs of the relay, and then of the rest of the input.
+ghost use Rattle.std.specs.Prelude.{◌≡◌, ◌+◌, ◌*◌, length};
+ghost use Rattle.capnp_calls.specs.Roots.{IsRoot};
 
 use crate::fault::Fault;
 use crate::marks;
-use capnp_between::between::{BetweenFault, relay_between};
+use capnp_between::between::{BetweenFault, relay_between, relay_between_with};
+use capnp_calls::Call;
+use capnp_compatible::renamings::Renamings;
+use capnp_files::renames_file::renames_file;
 use capnp_program::settings::Settings;
 use capnp_program::version::Version;
-use capnp_relay_streams::ends::{Counts, RelayFault};
+use capnp_queries::structs::StructSchema;
+use capnp_relay_streams::ends::Counts;
+use capnp_relay_streams::options::RelayOptions;
 use capnp_relay_streams::relay::relay;
 use std::alloc::Global;
 
@@ -22,6 +29,9 @@ pub const NEWER: &str = r#"[{"id":1,"name":"P","data":2,"pointers":2,"fields":[
 pub const RENAMED: &str = r#"[{"id":1,"name":"P","data":2,"pointers":2,"fields":[
     {"name":"number","type":"UInt16","offset":0},{"name":"t","type":"Text","offset":0},
     {"name":"b","type":"UInt64","offset":1},{"name":"u","type":"Text","offset":1}]}]"#;
+
+/// The names that differ in it.
+pub const RENAMES: &str = r#"[{"node":1,"from":"a","to":"number"}]"#;
 
 /// Two calls: t is set to a text, and got.
 pub const CALLS: &str = r#"{"calls":[{"path":["t"],"verb":"set","value":{"text":"hi"}},
@@ -80,6 +90,12 @@ pub fn settings(alloc: Global, form: &str) -> Result<Settings, Fault> {
     }
 }
 
+/// A field that has another name in the newer schema.
+pub fn renamings(alloc: Global) -> Result<Renamings, Fault> {
+    let list = renames_file(alloc, RENAMES.as_bytes())?;
+    Renamings::new(list).ok().ok_or(Fault::Unmade)
+}
+
 /// The version of a schema file.
 pub fn version(alloc: Global, file: &str) -> Result<Version, Fault> {
     match Version::new(alloc, Some(file.as_bytes()), 1) {
@@ -88,51 +104,99 @@ pub fn version(alloc: Global, file: &str) -> Result<Version, Fault> {
     }
 }
 
+/// What is called.
+#[derive(Clone, Copy, PartialEq, Eq)]
+enum Way {
+    Alone,
+    Between,
+    /// Between versions of which the newer has another name for a field.
+    Renamed,
+}
+
+impl Way {
+    /// The newer schema.
+    fn newer(self) -> &'static str {
+        if self == Way::Renamed { RENAMED } else { NEWER }
+    }
+}
+
+/// What a run goes by.
+#[derive(Clone, Copy)]
+struct Given<'a> {
+    root: StructSchema<'a>,
+    newer: StructSchema<'a>,
+    renamings: &'a Renamings,
+    calls: &'a [Call],
+    options: RelayOptions,
+}
+
+/// How a run of the relay ends.
+fn relayed(
+    alloc: Global,
+    way: Way,
+    given: Given<'_>,
+    source: &mut &[u8],
+    out: &mut Vec<u8>,
+    log: &mut Vec<u8>,
+    region: &mut [u8],
+) -> Result<Counts, BetweenFault>
+    requires region { length region.old ≡ 8 * (given.options.bounds.words + 1) }
+    requires root { IsRoot given.root }
+{
+    let Given {
+        root,
+        newer,
+        renamings,
+        calls,
+        options,
+    } = given;
+    match way {
+        Way::Alone => match relay(alloc, source, out, log, root, calls, options, region) {
+            Ok(counts) => Ok(counts),
+            Err(fault) => Err(BetweenFault::Relay(fault)),
+        },
+        Way::Between => {
+            relay_between(alloc, source, out, log, root, newer, calls, options, region)
+        }
+        Way::Renamed => relay_between_with(
+            alloc, source, out, log, root, newer, renamings, calls, options, region,
+        ),
+    }
+}
+
 /// A run of the relay on messages, of which the growths between the marks are counted.
-fn ran(rt: &HostRuntime, form: &str, is_between: bool, mut source: &[u8]) -> Result<Left, Fault> {
+fn ran(rt: &HostRuntime, form: &str, way: Way, mut source: &[u8]) -> Result<Left, Fault> {
     let alloc = rt.alloc();
     let settings = settings(alloc, form)?;
-    let (older, newer) = (version(alloc, SCHEMA)?, version(alloc, NEWER)?);
-    let (calls, options) = (settings.calls.as_slice(), settings.options);
-    let (root, newer) = (older.root(), newer.root());
+    let (older, newer) = (version(alloc, SCHEMA)?, version(alloc, way.newer())?);
+    let renamings = renamings(alloc)?;
+    let options = settings.options;
+    let given = Given {
+        root: older.root(),
+        newer: newer.root(),
+        renamings: &renamings,
+        calls: settings.calls.as_slice(),
+        options,
+    };
     let mut out = Vec::with_capacity(alloc, ROOM)?;
     let mut log = Vec::with_capacity(alloc, ROOM)?;
     let mut region = vec![in alloc; DIRT; options.region_len()]?;
     marks::begin(rt);
-    let end = if is_between {
-        relay_between(
-            alloc,
-            &mut source,
-            &mut out,
-            &mut log,
-            root,
-            newer,
-            calls,
-            options,
-            &mut region,
-        )
-    } else {
-        match relay(
-            alloc,
-            &mut source,
-            &mut out,
-            &mut log,
-            root,
-            calls,
-            options,
-            &mut region,
-        ) {
-            Ok(counts) => Ok(counts),
-            Err(fault) => Err(BetweenFault::Relay(fault)),
-        }
-    };
+    let end = relayed(
+        alloc,
+        way,
+        given,
+        &mut source,
+        &mut out,
+        &mut log,
+        &mut region,
+    );
     marks::end(rt);
-    let region = byte_of(&region);
     Ok(Left {
         end,
         out,
         log,
-        region,
+        region: byte_of(&region),
     })
 }
 
@@ -173,21 +237,22 @@ fn told_of(alloc: Global, left: &Left) -> Result<(usize, String), Fault> {
 /// What a case tells: a run, and a run on the messages that it didn't answer.
 pub fn told(rt: &HostRuntime, call: &str) -> Result<String, Fault> {
     let alloc = rt.alloc();
-    let (form, is_between) = match call.strip_prefix("between.") {
-        Some(form) => (form, true),
-        None => (call, false),
+    let (way, form) = match call.split_once('.') {
+        Some(("between", form)) => (Way::Between, form),
+        Some(("renamed", form)) => (Way::Renamed, form),
+        _ => (Way::Alone, call),
     };
     let messages: &[u8] = if form.starts_with("packed") {
         &PACKED
     } else {
         &FRAMED
     };
-    let (answered, first) = told_of(alloc, &ran(rt, form, is_between, messages)?)?;
+    let (answered, first) = told_of(alloc, &ran(rt, form, way, messages)?)?;
     let rest = match answered {
         0 => messages,
         1 => messages.get(messages.len() / 2..).ok_or(Fault::Unmade)?,
         _ => return Ok(first),
     };
-    let (_, second) = told_of(alloc, &ran(rt, form, is_between, rest)?)?;
+    let (_, second) = told_of(alloc, &ran(rt, form, way, rest)?)?;
     Ok(format!(in alloc; "{}; then {}", first.as_str(), second.as_str())?)
 }

@@ -6,7 +6,7 @@ ghost use Rattle.capnp_message.specs.Built.{loans_held};
 use crate::fault::Fault;
 use crate::marks;
 use crate::messages::{end, outcome, roomy, stands, tree_of};
-use crate::samples::STRUCT;
+use crate::samples::{STRUCT, STRUCT_WORDS};
 use capnp_copy::allocator::Allocator;
 use capnp_copy::fields::StructPlace;
 use capnp_message::message::{
@@ -143,6 +143,9 @@ fn told_in(
 pub fn told(rt: &HostRuntime, name: &str) -> std::result::Result<String, Fault> {
     let alloc = rt.alloc();
     let (allocator, call) = name.split_once('.').ok_or(Fault::NoCase)?;
+    if name == "heap.set_words" {
+        return told_of_words(rt);
+    }
     let words = hex::decode(alloc, STRUCT.as_bytes())?;
     let mut region = [0xeeu8; 64];
     let text = match allocator {
@@ -153,6 +156,18 @@ pub fn told(rt: &HostRuntime, name: &str) -> std::result::Result<String, Fault> 
     };
     let count = region.iter().filter(|byte| **byte == 0).count();
     Ok(format!(in alloc; "{}; {count} bytes are zero", text.as_str())?)
+}
+
+/// What a message over the heap tells that is made of words.
+fn told_of_words(rt: &HostRuntime) -> std::result::Result<String, Fault> {
+    let alloc = rt.alloc();
+    let mut builder = Builder::new(alloc, HeapAllocator::new(alloc));
+    marks::begin(rt);
+    let done = builder.set_words(&STRUCT_WORDS);
+    marks::end(rt);
+    let told = seen(alloc, &builder.memory.arena, done);
+    end(builder);
+    told
 }
 
 /// What a message tells that is read where it was built, and given back, which takes no memory.

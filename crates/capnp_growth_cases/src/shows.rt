@@ -6,10 +6,9 @@ ghost use Rattle.capnp_calls.specs.Roots.{IsRoot};
 
 use crate::dynamics::record;
 use crate::fault::Fault;
-use crate::files::RENAMES;
 use crate::marks;
 use crate::messages::{Segments, end, outcome, put_words, refusal, small, tree_of};
-use crate::relays::{NEWER, RENAMED, SCHEMA, settings, version};
+use crate::relays::{NEWER, RENAMED, SCHEMA, renamings, settings, version};
 use crate::schemas::{NEW, root_place, schema_of, set_of, struct_at};
 use capnp_calls::Call;
 use capnp_calls::reply::Reply;
@@ -20,7 +19,6 @@ use capnp_compatible::root::Root;
 use capnp_copy::arena::{BuilderArena, Memory};
 use capnp_copy::laws_of_arenas::arenas_are_deep;
 use capnp_dynamic::init::Part;
-use capnp_files::renames_file::renames_file;
 use capnp_message::message::{DEFAULT_READER_OPTIONS, HeapAllocator};
 use capnp_print::stringify::print;
 use capnp_queries::structs::StructSchema;
@@ -149,8 +147,7 @@ fn told_of_versions(rt: &HostRuntime, call: &str) -> std::result::Result<String,
     };
     let (older, newer) = (version(alloc, SCHEMA)?, version(alloc, file)?);
     let settings = settings(alloc, "framed")?;
-    let list = renames_file(alloc, RENAMES.as_bytes())?;
-    let renamings = Renamings::new(list).ok().ok_or(Fault::Unmade)?;
+    let renamings = renamings(alloc)?;
     let older = Root {
         set: older.root().set(),
         id: 1,

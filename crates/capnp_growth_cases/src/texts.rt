@@ -30,6 +30,17 @@ fn own(alloc: Global) -> Result<usize> {
     Ok(segments.as_slice().len())
 }
 
+/// The words of the second segment that a table makes.
+fn copy_segment(alloc: Global) -> Result<usize> {
+    let mut table = SegmentLengthsBuilder::with_capacity(alloc, 2)?;
+    table.try_push_segment(1)?;
+    table.try_push_segment(2)?;
+    match table.into_owned_segments(alloc)?.segment_words(alloc, 1)? {
+        Some(words) => Ok(words.len()),
+        None => Err(Error::from(ErrorKind::OutOfBounds)),
+    }
+}
+
 /// The bytes of a message's canonical words.
 fn canonicalize(alloc: Global, words: &[u8]) -> Result<usize> {
     let segments: [&[u8]; 1] = [words];
@@ -64,6 +75,7 @@ fn called(rt: &HostRuntime, call: &str, words: &[u8]) -> Result<usize> {
     let count = match call {
         "table" => push(alloc, 5),
         "owned_segments" => own(alloc),
+        "segment_words" => copy_segment(alloc),
         "words" => words_of(alloc, words).map(|words| words.len()),
         "canonicalize" => canonicalize(alloc, words),
         "reader_to_string" => copy(alloc, false),

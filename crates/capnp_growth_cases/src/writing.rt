@@ -50,6 +50,22 @@ fn bytes_of(alloc: Global, call: &str, message: &Builder<HeapAllocator>) -> Resu
     }
 }
 
+/// The segments of a message, as a list that takes memory: how many there are.
+fn count_segments(
+    rt: &HostRuntime,
+    message: &Builder<HeapAllocator>,
+) -> std::result::Result<String, Fault> {
+    marks::begin(rt);
+    let made = message
+        .get_segments_for_output(rt.alloc())
+        .map(|all| all.len());
+    marks::end(rt);
+    match made {
+        Ok(count) => Ok(format!(in rt.alloc(); "done; {count}")?),
+        Err(error) => refusal(rt.alloc(), error),
+    }
+}
+
 /// What a call tells at a message.
 fn told_of(
     rt: &HostRuntime,
@@ -58,6 +74,9 @@ fn told_of(
 ) -> std::result::Result<String, Fault> {
     let alloc = rt.alloc();
     message.set_root::<text::Owned, &str>("hi there")?;
+    if call == "segments" {
+        return count_segments(rt, message);
+    }
     if call == "words" || call == "segments_to_words" {
         marks::begin(rt);
         let made = bytes_of(alloc, call, message);
