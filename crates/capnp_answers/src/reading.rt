@@ -24,7 +24,7 @@ use capnp_wire::place::ROOT;
 /// A message has fewer words than this.
 const MESSAGE_WORDS: usize = 0x2000_0000;
 
-/// The most levels of pointers that a value is followed, whatever the bounds allow, since each walk takes stack for each level. Measured as LLVM builds it, a level takes 200 bytes where structs lie in structs, 820 where lists of structs lie behind far pointers, and 850 where it is printed too. So these fit into 1 MiB.
+/// The most levels of pointers that a value is followed, whatever the bounds allow, since each walk takes stack for each level. Measured as LLVM builds it, a level takes 200 bytes where structs lie in structs, and 820 where lists of structs lie behind far pointers. So these fit into 1 MiB. What a `get` prints takes 850 for each struct, list and group.
 pub(crate) const STACK_LEVELS: u32 = 1024;
 
 /// Makes the buffer so many words long. `OutOfMemory`: it can't grow.

@@ -5,6 +5,10 @@
 
 mod building;
 mod building_bench;
+mod cars;
+mod cars_bench;
+mod cars_building;
+mod cars_reading;
 mod packing;
 mod reading;
 mod reading_bench;
@@ -21,6 +25,9 @@ const STRUCTS: u32 = 1_000_000;
 
 /// How many builder calls are made where no number is given.
 const CALLS: u32 = 100;
+
+/// How many cars are built or read where no number is given.
+const CARS: u32 = 50;
 
 /// How many nodes a set has where no number is given.
 const NODES: u32 = 2_000;
@@ -78,6 +85,12 @@ fn main(rt: HostRuntime) -> io::Result<()> {
         "unpack" => streams::unpack(&rt, text(&first, ""), number(&second, 1)),
         "pack" => streams::pack(&rt, text(&first, ""), number(&second, 1)),
         "build" => building_bench::build(&rt, text(&first, "fields"), number(&second, CALLS)),
+        "cars" => cars_bench::cars(
+            &rt,
+            text(&first, "read"),
+            number(&second, CARS),
+            number(&third, 1),
+        ),
         "schema" => schema_bench::accept_all(
             &rt,
             text(&first, "nodes"),

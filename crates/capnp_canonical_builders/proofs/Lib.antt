@@ -1,1 +1,2 @@
 mod Scratches
+pub mod Measures

@@ -3,4 +3,5 @@
 
 pub mod copy;
 pub mod laws;
+pub mod measured;
 pub mod sets;

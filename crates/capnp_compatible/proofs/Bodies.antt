@@ -3,12 +3,11 @@ use Rattle.std.proofs.Common.{◌≡◌, ◌≢◌, ℕ, suc, ◌+◌, Bool, tru
 use Rattle.std.specs.Str.{bytes_eq}
 use Rattle.std.proofs.lemmas.Bool.{le-leb}
 use Rattle.std.proofs.lemmas.List.Recursion.{is_count_by}
-use Rattle.std.proofs.lemmas.Bool.Decides.{nat_tests}
 use Rattle.std.specs.Cmp.Derive.{both_true}
 use Rattle.capnp_model.specs.Schemas.{base_type, type_of, Shape, shape, Fields, no_fields, field}
 use Rattle.capnp_model.specs.Accepted.{is_default_of, no_shape, shape_in, field_body, fields_from}
 use Rattle.capnp_model.specs.Compatible.{Pairs, related, same_option, member_count, is_new, keeps, keeps_fields, keeps_body}
-use Rattle.capnp_records.specs.NodeViews.{base_of, type_record_of, value_of, member_of, kind_of_field, field_of}
+use Rattle.capnp_records.specs.NodeViews.{base_of, type_record_of, value_of, member_of, kind_of_field}
 use Rattle.capnp_records.specs.declared.node.BaseType.{BaseType}
 use Rattle.capnp_records.specs.declared.node.TypeRecord.{TypeRecord}
 use Rattle.capnp_records.specs.declared.node.Value.{Value}

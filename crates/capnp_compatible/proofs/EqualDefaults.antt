@@ -1,7 +1,6 @@
 -- Equal defaults of related types are equal values.
-use Rattle.std.proofs.Common.{◌≡◌, ℕ, ◌*◌, ◌-◌, ◌^◌, ◌<◌, Bool, true, false, ◌&&◌, ◌==◌, Option, Some, None, List, length, nat_lt, refl, sym, ◌∙◌, ap, arith}
+use Rattle.std.proofs.Common.{◌≡◌, ℕ, ◌*◌, ◌-◌, ◌^◌, ◌<◌, Bool, true, false, ◌&&◌, ◌==◌, Option, Some, None, List, length, nat_lt, refl, sym, ◌∙◌, ap}
 use Rattle.std.specs.Str.{bytes_eq}
-use Rattle.std.proofs.lemmas.Bool.Decides.{nat_tests}
 use Rattle.capnp_model.specs.Trees.{Tree}
 use Rattle.capnp_model.specs.Schemas.{PlainType, Ty, void, plain, text, blob, untyped, interface, struct, list, Value, no_value, bits, text_bytes, blob_bytes, list_segment, struct_segment, untyped_value, interface_value, Schema}
 use Rattle.capnp_model.specs.Decoding.{decode}

@@ -1,7 +1,6 @@
 -- The pairs that are reached, and those that are known.
-use Rattle.std.proofs.Common.{◌≡◌, ℕ, Bool, true, false, not, cond, ◌&&◌, ◌||◌, ◌==◌, [], ◌∷◌, ◌++◌, refl, sym, ◌∙◌, ap, arith}
+use Rattle.std.proofs.Common.{◌≡◌, ℕ, Bool, true, false, cond, ◌&&◌, ◌||◌, ◌==◌, [], ◌∷◌, ◌++◌, refl, sym, ◌∙◌, ap}
 use Rattle.std.proofs.lemmas.List.Folds.{list_all-append}
-use Rattle.std.proofs.lemmas.Bool.Decides.{nat_tests}
 use Rattle.capnp_model.specs.Compatible.{Pairs, has_pair}
 use Rattle.capnp_model.proofs.lemmas.Tests.{same_number, and_true, and_left, and_right}
 use Rattle.capnp_compatible.specs.Pairs.{has_each}

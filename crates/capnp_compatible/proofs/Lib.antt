@@ -1,4 +1,7 @@
 mod Relations
+mod FirstPlaces
+mod PartnerNames
+mod PartnerPlaces
 mod NamedFields
 mod RenamedHolders
 mod RenamedLists

@@ -1,6 +1,6 @@
 -- What a node's record says, in the newer's words.
 use Rattle.std.proofs.Common.{◌≡◌, ℕ, Option, List, [], ◌∷◌, map, refl, ◌∙◌, ap}
-use Rattle.capnp_model.specs.Schemas.{Ty, void, plain, text, blob, untyped, interface, struct, list, type_of, Value, FieldKind, slot, group, Shape, shape, Fields, field, Body}
+use Rattle.capnp_model.specs.Schemas.{Ty, void, plain, text, blob, untyped, interface, struct, list, type_of, Value, FieldKind, slot, group, Shape, shape, field, Body}
 use Rattle.capnp_model.specs.Accepted.{slot_body, field_body, fields_from}
 use Rattle.capnp_model.specs.Partners.{Renaming, partner_name, renamed_shape, renamed_fields, renamed_body}
 use Rattle.capnp_records.specs.NodeViews.{field_of}

@@ -1,28 +1,26 @@
 -- Renamings in lists.
-use Rattle.std.proofs.Common.{◌≡◌, ℕ, zero, suc, Bool, true, false, not, ◌&&◌, ◌||◌, ◌==◌, cond, if◌then◌else◌, Option, Some, None, option_map, List, [], ◌∷◌, Bor, map, drop, find, string_bytes, refl, sym, ◌∙◌, ap}
+use Rattle.std.proofs.Common.{◌≡◌, ℕ, zero, suc, Bool, true, false, not, ◌&&◌, ◌==◌, cond, if◌then◌else◌, Option, Some, option_map, List, [], ◌∷◌, Bor, map, drop, find, string_bytes, refl, ◌∙◌, ap}
 use Rattle.std.specs.List.{list_any}
 use Rattle.std.specs.Str.{bytes_eq}
-use Rattle.capnp_model.specs.Partners.{Renaming as ModelRenaming, is_of, same_key, are_apart, are_one_to_one}
+use Rattle.capnp_model.specs.Partners.{Renaming as ModelRenaming, same_key, are_apart, are_one_to_one}
 use Rattle.capnp_model.proofs.lemmas.Tests.{and_false}
 use Rattle.capnp_compatible.specs.declared.renamings.Renaming.{Renaming}
 use Rattle.capnp_compatible.specs.declared.renamings.Version.{Version}
 use Rattle.capnp_compatible.specs.declared.renamings.Version.TheVariants as version
-use Rattle.capnp_compatible.specs.Renamed.{renaming_of, key_in}
+use Rattle.capnp_compatible.specs.Renamings.{renaming_of, key_in}
 
 -- ---- what a name finds
 
-abbrev pub newer_in : Option ModelRenaming → Option (List ℕ)
-newer_in o = option_map (λ (r : ModelRenaming). r.newer) o
-
--- one renaming more in front
-pub named_step : (id i : ℕ) (key n : List ℕ) (x : ModelRenaming) (rest : List ModelRenaming) (e : Bor (List ℕ)) (old : Option (Bor (List ℕ))) → e.now ≡ x.newer → i ≡ x.node → key ≡ x.older → option_map (λ s. s.now) old ≡ newer_in (find (is_of id n) rest)
-    → option_map (λ s. s.now) (cond (i == id && bytes_eq key n) (Some e) old) ≡ newer_in (find (is_of id n) (x ∷ rest))
-named_step id i key n x rest e old h a k o =
+-- one renaming more in front of those whose names are found
+pub named_step : (given told : ModelRenaming → List ℕ) (id i : ℕ) (key n : List ℕ) (x : ModelRenaming) (rest : List ModelRenaming) (e : Bor (List ℕ)) (old : Option (Bor (List ℕ))) → e.now ≡ told x → i ≡ x.node → key ≡ given x
+    → option_map (λ s. s.now) old ≡ option_map told (find (λ r. r.node == id && bytes_eq (given r) n) rest)
+    → option_map (λ s. s.now) (cond (i == id && bytes_eq key n) (Some e) old) ≡ option_map told (find (λ r. r.node == id && bytes_eq (given r) n) (x ∷ rest))
+named_step given told id i key n x rest e old h a k o =
     by (i == id && bytes_eq key n)
-    ∙ ap (λ (z : ℕ). newer_in (if (z == id && bytes_eq key n) then Some x else find (is_of id n) rest)) a
-    ∙ ap (λ (z : List ℕ). newer_in (if (x.node == id && bytes_eq z n) then Some x else find (is_of id n) rest)) k
+    ∙ ap (λ (z : ℕ). option_map told (if (z == id && bytes_eq key n) then Some x else find (λ r. r.node == id && bytes_eq (given r) n) rest)) a
+    ∙ ap (λ (z : List ℕ). option_map told (if (x.node == id && bytes_eq z n) then Some x else find (λ r. r.node == id && bytes_eq (given r) n) rest)) k
   where
-    by : (b : Bool) → option_map (λ s. s.now) (cond b (Some e) old) ≡ newer_in (if b then Some x else find (is_of id n) rest)
+    by : (b : Bool) → option_map (λ s. s.now) (cond b (Some e) old) ≡ option_map told (if b then Some x else find (λ r. r.node == id && bytes_eq (given r) n) rest)
     by true = ap Some h
     by false = o
 

@@ -1,6 +1,5 @@
 -- Slots of a newer version that keep those of an older.
 use Rattle.std.proofs.Common.{◌≡◌, ℕ, zero, suc, ◌*◌, ◌<◌, Bool, true, false, ◌&&◌, ◌||◌, ◌==◌, nat_le, if◌then◌else◌, Option, Some, None, refl, sym, ◌∙◌, ap, arith}
-use Rattle.std.proofs.lemmas.Bool.Decides.{nat_tests}
 use Rattle.capnp_model.specs.Schemas.{PlainType, bool, int, uint, «enum», width, base_type, Ty, void, plain, text, blob, untyped, interface, struct, list, lists_of, type_of, Value, Shape, group_slot, Schema}
 use Rattle.capnp_model.specs.Accepted.{default_bits, default_tree, is_default_of, opens_as, is_good_value, slot_body}
 use Rattle.capnp_model.specs.Compatible.{Pairs, related_plain, related, same_option, is_new, same_default, keeps, keeps_body}

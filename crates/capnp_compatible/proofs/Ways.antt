@@ -1,17 +1,14 @@
 -- Walks along the paths of calls.
-use Rattle.std.proofs.Common.{◌≡◌, ℕ, zero, suc, ◌-◌, ◌<◌, Bool, true, false, if◌then◌else◌, Option, Some, None, is_some, List, [], ◌∷◌, map, string_bytes, refl, sym, ◌∙◌, ap, arith}
-use Rattle.std.specs.Str.{bytes_eq}
-use Rattle.capnp_model.specs.Schemas.{id_of_shape, Ty, void, plain, text, blob, untyped, interface, struct, list, lists_of, Value, Shape, Fields, pointer_slot, group_slot, Schema}
-use Rattle.capnp_model.specs.Accepted.{slot_body, field_body, fields_from}
+use Rattle.std.proofs.Common.{◌≡◌, ℕ, Bool, true, false, Option, Some, None, is_some, List, [], ◌∷◌, refl, ◌∙◌, ap}
+use Rattle.capnp_model.specs.Schemas.{id_of_shape, Ty, void, plain, text, blob, untyped, interface, struct, list, Value, Shape, Fields, pointer_slot, group_slot, Schema}
+use Rattle.capnp_model.specs.Accepted.{slot_body}
 use Rattle.capnp_model.specs.Printing.{fields_in}
-use Rattle.capnp_model.specs.Steps.{Target, no_target, target, target_if, target_of}
+use Rattle.capnp_model.specs.Steps.{Target, no_target, target, target_of}
 use Rattle.capnp_model.specs.Calls.{Step, name, index, Verb as ModelVerb, get, set_to, init, initn, clear}
 use Rattle.capnp_model.specs.Admitted.{is_group_write, is_set, is_struct_type, At, at_body, at_element, nowhere, is_admitted_end, into_fields, into_type, into_at, is_admitted_from}
-use Rattle.capnp_records.specs.NodeViews.{member_of, kind_of_field, field_of}
-use Rattle.capnp_records.specs.declared.node.FieldRecord.{FieldRecord}
 use Rattle.capnp_calls.specs.CallViews.{verb_of}
 use Rattle.capnp_model.specs.Partners.{Renaming, partner_name}
-use Rattle.capnp_compatible.specs.Ways.{first_named, struct_id_in, element_in, writes_group, sets}
+use Rattle.capnp_compatible.specs.Ways.{struct_id_in, element_in, writes_group, sets}
 
 pub writes_verb : (w : ModelVerb) → writes_group (verb_of w) ≡ is_group_write w
 writes_verb get = refl

@@ -1,26 +1,22 @@
--- What contracts see of indexed nodes, and of what an id's node says.
-use Rattle.std.specs.Prelude.{ℕ, ◌≡◌, ◌==◌, Bool, ◌&&◌, option_map, List, map}
+-- What contracts see of the nodes of a set, and of what an id's node says.
+use Rattle.std.specs.Prelude.{ℕ, ◌≡◌, Bool, true, ◌&&◌, List, map}
 use Rattle.std.specs.List.{list_all}
-use Rattle.std.specs.Map.{lookup}
 use Rattle.capnp_model.specs.Schemas.{FieldKind, Node, Shape, shape, Schema}
-use Rattle.capnp_model.specs.Accepted.{find_node, fields_of_kind, has_good_default, default_reads, fields_from, schema_of, IsAccepted}
-use Rattle.capnp_records.specs.NodeViews.{node_of, field_of}
+use Rattle.capnp_model.specs.Accepted.{fields_of_kind, has_good_default, default_reads, are_distinct, fields_from, schema_of}
+use Rattle.capnp_records.specs.NodeViews.{field_of}
+use Rattle.capnp_records.specs.Sets.{nodes_of}
+use Rattle.capnp_records.specs.Tables.{AreByName}
 use Rattle.capnp_records.specs.declared.node.FieldRecord.{FieldRecord}
 use Rattle.capnp_compatible.specs.declared.nodes.Nodes.{Nodes}
 use Rattle.capnp_compatible.specs.declared.nodes.Holder.{Holder}
 
 -- The nodes.
 abbrev pub nodes_in : Nodes → List Node
-nodes_in ns = map node_of ns.nodes.now
+nodes_in ns = nodes_of ns.set.now
 
 -- The schema that they make.
 abbrev pub schema_in : Nodes → Schema
 schema_in ns = schema_of (nodes_in ns)
-
--- The nodes keep the rules, and each id finds its first node.
-pub record IsIndexed (ns : Nodes) : Type 0 where
-  pub accepted : IsAccepted (nodes_in ns)
-  pub found : (id : ℕ) → option_map (λ r. node_of r.now) (lookup (λ k. id == k) ns.by_id.entries) ≡ find_node (nodes_in ns) id
 
 -- The shape of what an id's node says, by the shapes of groups.
 abbrev pub shape_by : (ℕ → Shape) → Holder → Shape
@@ -37,3 +33,8 @@ are_sound_in n = list_all (λ f. is_sound_kind f.kind) (fields_of_kind n.kind)
 -- The defaults of fields are of their types, and read as them.
 abbrev pub are_sound : List FieldRecord → Bool
 are_sound fs = list_all (λ f. is_sound_kind f.kind) (map field_of fs)
+
+-- The fields have distinct names, and their places stand in the order of these.
+pub record AreFoundByName (h : Holder) : Type 0 where
+  pub places : AreByName (map field_of h.fields.now) h.by_name.now
+  pub distinct : are_distinct (map (λ f. f.name) (map field_of h.fields.now)) ≡ true

@@ -2,6 +2,7 @@ pub mod Pairs
 pub mod Types
 pub mod Defaults
 pub mod Holders
+pub mod Renamings
 pub mod Renamed
 pub mod Walks
 pub mod Ways

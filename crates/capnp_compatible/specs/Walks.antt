@@ -13,15 +13,9 @@ use Rattle.capnp_compatible.specs.declared.reached.Reached.{Reached}
 use Rattle.capnp_compatible.specs.declared.nodes.Holder.{Holder}
 use Rattle.capnp_compatible.specs.declared.keeps.Versions.{Versions}
 use Rattle.capnp_compatible.specs.declared.keeps.Levels.{Levels}
-use Rattle.capnp_compatible.specs.Holders.{nodes_in, schema_in, IsIndexed}
-use Rattle.capnp_compatible.specs.Renamed.{names_in, IsNamed}
+use Rattle.capnp_compatible.specs.Holders.{nodes_in, schema_in}
+use Rattle.capnp_compatible.specs.Renamed.{names_in}
 use Rattle.capnp_compatible.specs.Pairs.{has_each, pairs_of, IsSound, IsFront}
-
--- Both versions are indexed, and the newer names are found.
-pub record AreIndexed (v : Versions) : Type 0 where
-  pub older : IsIndexed v.older
-  pub newer : IsIndexed v.newer
-  pub names : IsNamed v.names
 
 -- The older schema in the newer's words.
 abbrev pub older_schema : Versions → Schema

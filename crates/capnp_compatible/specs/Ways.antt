@@ -1,5 +1,5 @@
 -- What contracts see of a walk along a call's path.
-use Rattle.std.specs.Prelude.{ℕ, ◌≡◌, ◌-◌, ◌<◌, ◌≤◌, Bool, true, false, Option, Some, None, find, List, length, take, string_bytes}
+use Rattle.std.specs.Prelude.{ℕ, ◌≡◌, ◌-◌, ◌<◌, ◌≤◌, Bool, true, false, Option, Some, None, min, find, List, length, take, string_bytes}
 use Rattle.std.specs.List.{list_all}
 use Rattle.std.specs.Str.{bytes_eq}
 use Rattle.capnp_model.specs.Schemas.{Ty, struct, list, type_of, Shape, pointer_slot, group_slot}
@@ -29,6 +29,12 @@ first_named n fs = find (λ f. bytes_eq (string_bytes f.name) n) fs
 -- The first field of a node whose partner has a name.
 abbrev pub first_partner : List Renaming → ℕ → List ℕ → List FieldRecord → Option FieldRecord
 first_partner rs node n fs = find (λ f. bytes_eq (partner_name rs node (string_bytes f.name)) n) fs
+
+-- The first of two places.
+abbrev pub earlier : Option ℕ → Option ℕ → Option ℕ
+earlier None b = b
+earlier (Some i) None = Some i
+earlier (Some i) (Some j) = Some (min i j)
 
 -- The struct that a type names.
 abbrev pub struct_id_in : Ty → Option ℕ

@@ -1,6 +1,6 @@
 //! Admitted calls.
 
-ghost use Rattle.std.specs.Prelude.{◌≡◌, List, map, option_map, option_copied, IfOk, IfErr};
+ghost use Rattle.std.specs.Prelude.{◌≡◌, List, map, option_map, IfOk, IfErr};
 ghost use Rattle.capnp_model.specs.Schemas.{struct, id_of_shape, type_of};
 ghost use Rattle.capnp_model.specs.Printing.{fields_in};
 ghost use Rattle.capnp_model.specs.Calls.{Step as ModelStep, Verb as ModelVerb};
@@ -9,11 +9,11 @@ ghost use Rattle.capnp_units.specs.declared.kinds.ErrorKind.TheVariants.{OutOfMe
 ghost use Rattle.capnp_records.specs.NodeViews.{type_record_of};
 ghost use Rattle.capnp_calls.specs.CallViews.{step_view, call_view};
 ghost use Rattle.capnp_compatible.specs.Holders.{schema_in};
-ghost use Rattle.capnp_compatible.specs.Walks.{AreIndexed, older_body, newer_body};
+ghost use Rattle.capnp_compatible.specs.Walks.{older_body, newer_body};
 ghost use Rattle.capnp_compatible.specs.Roots.{is_admitted_at, is_admitted_with_at};
 ghost use Rattle.capnp_compatible.specs.Renamed.{names_in, renamings_of};
 ghost use Rattle.capnp_compatible.specs.declared.keeps.Versions.{Versions};
-ghost use Rattle.capnp_compatible.specs.Ways.{first_named, struct_id_in, element_in, older_shape, newer_shape, at_seen, goes_on, next_seen, writes_group, sets, IsAdmissionOf};
+ghost use Rattle.capnp_compatible.specs.Ways.{struct_id_in, element_in, older_shape, newer_shape, at_seen, goes_on, next_seen, writes_group, sets, IsAdmissionOf};
 
 use crate::compatible::versions;
 use crate::extended::is_extended;
@@ -21,9 +21,9 @@ use crate::keeps::{Levels, Versions};
 use crate::renamings::Renamings;
 use crate::root::Root;
 use capnp_calls::{Call, Step, Verb};
-use capnp_records::node::{BaseType, FieldBody, FieldRecord, TypeRecord};
+use capnp_records::node::{BaseType, FieldBody, TypeRecord};
 use capnp_units::errors::Result;
-use std::alloc::{AllocError, Global};
+use std::alloc::Global;
 
 /// Whether calls are admitted.
 #[derive(Clone, Copy, PartialEq, Eq, Debug)]
@@ -66,20 +66,6 @@ enum Next {
     To(At),
 }
 
-/// The first field of a name.
-fn find_field<'a>(fields: &'a [FieldRecord], name: &str) -> Option<&'a FieldRecord>
-    ensures { option_copied result ≡ first_named name.now fields.now }
-{
-    let mut rest = fields;
-    while let [first, others @ ..] = rest {
-        if first.name.as_str() == name {
-            return Some(first);
-        }
-        rest = others;
-    }
-    None
-}
-
 /// At a field of both versions.
 fn at_fields(levels: Levels, older: &FieldBody, newer: &FieldBody) -> At
     ensures { (v : Versions) (path : List ModelStep) (verb : ModelVerb)
@@ -108,7 +94,6 @@ fn at_fields(levels: Levels, older: &FieldBody, newer: &FieldBody) -> At
 
 /// Where a name leads from a struct or a group.
 fn into_fields(versions: &Versions<'_>, levels: Levels, older: u64, newer: u64, name: &str) -> Next
-    requires { AreIndexed versions.now }
     ensures { (path : List ModelStep) (verb : ModelVerb) → into_fields (names_in versions.now.names)
         (id_of_shape (older_shape versions.now levels older)) name.now
         (fields_in (older_shape versions.now levels older))
@@ -121,10 +106,10 @@ fn into_fields(versions: &Versions<'_>, levels: Levels, older: u64, newer: u64, 
         older: levels.older.saturating_sub(1),
         newer: levels.newer.saturating_sub(1),
     };
-    let Some(field) = find_field(a.fields, name) else {
+    let Some(field) = a.field(name) else {
         return Next::Unknown;
     };
-    match find_field(b.fields, versions.names.partner(a.id, name)) {
+    match b.field(versions.names.partner(a.id, name)) {
         None => Next::To(At::Nowhere),
         Some(other) => Next::To(at_fields(below, &field.body, &other.body)),
     }
@@ -159,7 +144,6 @@ fn element_of(ty: TypeRecord) -> Option<TypeRecord>
 
 /// Where a step leads behind a pointer of a type.
 fn into_type(versions: &Versions<'_>, step: &Step, older: TypeRecord, newer: TypeRecord) -> Next
-    requires { AreIndexed versions.now }
     ensures { (path : List ModelStep) (verb : ModelVerb)
         → into_type (names_in versions.now.names) (schema_in versions.now.older)
         (schema_in versions.now.newer) (step_view step.now) (type_of (type_record_of older)) (type_of (type_record_of newer))
@@ -192,7 +176,6 @@ fn into_type(versions: &Versions<'_>, step: &Step, older: TypeRecord, newer: Typ
 
 /// Where a step leads.
 fn into_at(versions: &Versions<'_>, step: &Step, at: At) -> Next
-    requires { AreIndexed versions.now }
     ensures { (path : List ModelStep) (verb : ModelVerb)
         → into_at (names_in versions.now.names) (schema_in versions.now.older)
         (schema_in versions.now.newer) (step_view step.now) (at_seen versions.now at) (goes_on versions.now path verb)
@@ -227,16 +210,9 @@ fn is_set(verb: Verb) -> bool
 }
 
 /// Whether a call that ends here is admitted.
-fn is_admitted_end(
-    alloc: Global,
-    versions: &Versions<'_>,
-    call: &Call,
-    at: At,
-) -> std::result::Result<bool, AllocError>
-    requires { AreIndexed versions.now }
-    ensures { IfOk result (λ b.
-        b ≡ is_admitted_end (names_in versions.now.names) (call_view call.now).verb
-        (at_seen versions.now at)) }
+fn is_admitted_end(versions: &Versions<'_>, call: &Call, at: At) -> bool
+    ensures { result ≡ is_admitted_end (names_in versions.now.names) (call_view call.now).verb
+        (at_seen versions.now at) }
 {
     match at {
         At::Group {
@@ -245,27 +221,19 @@ fn is_admitted_end(
             newer,
         } => {
             if !is_group_write(call.verb()) {
-                return Ok(true);
+                return true;
             }
-            Ok(!is_extended(alloc, versions, levels, older, newer)?)
+            !is_extended(versions, levels, older, newer)
         }
-        At::Element { older, .. } => Ok(!is_set(call.verb()) || struct_id(older).is_none()),
-        At::Slot { .. } | At::Nowhere => Ok(true),
+        At::Element { older, .. } => !is_set(call.verb()) || struct_id(older).is_none(),
+        At::Slot { .. } | At::Nowhere => true,
     }
 }
 
 /// Whether a call is admitted from the two roots.
-fn is_admitted(
-    alloc: Global,
-    versions: &Versions<'_>,
-    older: u64,
-    newer: u64,
-    call: &Call,
-) -> std::result::Result<bool, AllocError>
-    requires { AreIndexed versions.now }
-    ensures { IfOk result (λ b.
-        b ≡ is_admitted_with (names_in versions.now.names) (schema_in versions.now.older)
-        (schema_in versions.now.newer) older newer (call_view call.now)) }
+fn is_admitted(versions: &Versions<'_>, older: u64, newer: u64, call: &Call) -> bool
+    ensures { result ≡ is_admitted_with (names_in versions.now.names) (schema_in versions.now.older)
+        (schema_in versions.now.newer) older newer (call_view call.now) }
 {
     let mut at = At::Element {
         older: struct_type(older),
@@ -274,13 +242,13 @@ fn is_admitted(
     let mut rest = call.path();
     while let [step, more @ ..] = rest {
         match into_at(versions, step, at) {
-            Next::Unknown => return Ok(false),
-            Next::Unfit => return Ok(true),
+            Next::Unknown => return false,
+            Next::Unfit => return true,
             Next::To(next) => at = next,
         }
         rest = more;
     }
-    is_admitted_end(alloc, versions, call, at)
+    is_admitted_end(versions, call, at)
 }
 
 fn struct_type(id: u64) -> TypeRecord
@@ -293,8 +261,9 @@ fn struct_type(id: u64) -> TypeRecord
 }
 
 /// Whether each call under the older schema is admitted beside the newer, where fields are renamed: it goes by fields that the older
-/// has, writes no group as a whole that the newer extends, and sets no list element of struct type. Takes time linear in the steps
-/// of the calls times the fields of the structs on their ways, and of the groups that they write. `OutOfMemory` is the one error.
+/// has, writes no group as a whole that the newer extends, and sets no list element of struct type. Takes two binary searches by
+/// name for each step of a call, one or two for each field of a group that is written as a whole, and memory for the renamings
+/// alone. `OutOfMemory` is the one error.
 pub fn admitted_with(
     alloc: Global,
     calls: &[Call],
@@ -309,7 +278,7 @@ pub fn admitted_with(
 {
     let versions = versions(alloc, older, newer, renamings)?;
     for i in 0..calls.len() {
-        if !is_admitted(alloc, &versions, older.id, newer.id, &calls[i])? {
+        if !is_admitted(&versions, older.id, newer.id, &calls[i]) {
             return Ok(Admission::Refused(i + 1));
         }
     }
@@ -317,8 +286,8 @@ pub fn admitted_with(
 }
 
 /// Whether each call under the older schema is admitted beside the newer: it goes by fields that the older has, writes no
-/// group as a whole that the newer extends, and sets no list element of struct type. Takes time linear in the steps of the
-/// calls times the fields of the structs on their ways, and of the groups that they write. `OutOfMemory` is the one error.
+/// group as a whole that the newer extends, and sets no list element of struct type. Takes two binary searches by name for
+/// each step of a call, and one for each field of a group that is written as a whole. `OutOfMemory` is the one error.
 pub fn admitted(
     alloc: Global,
     calls: &[Call],

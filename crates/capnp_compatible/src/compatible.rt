@@ -7,7 +7,7 @@ ghost use Rattle.capnp_records.specs.Sets.{nodes_of};
 ghost use Rattle.capnp_compatible.specs.Holders.{nodes_in};
 ghost use Rattle.capnp_compatible.specs.Roots.{AreCompatible, AreCompatibleWith, IsViewed, IsViewedWith};
 ghost use Rattle.capnp_compatible.specs.Renamed.{names_in, renamings_of};
-ghost use Rattle.capnp_compatible.specs.Walks.{AreIndexed, IsKeptFrom, are_alike};
+ghost use Rattle.capnp_compatible.specs.Walks.{IsKeptFrom, are_alike};
 
 use crate::keeps::{Levels, Versions, keeps};
 use crate::names::Names;
@@ -27,17 +27,14 @@ pub(crate) fn versions<'a>(
     newer: Root<'a>,
     renamings: &'a Renamings,
 ) -> std::result::Result<Versions<'a>, AllocError>
-    ensures index { IfOk result AreIndexed }
     ensures older { IfOk result (λ v. nodes_in v.older ≡ nodes_of older.entry.set.now) }
     ensures newer { IfOk result (λ v. nodes_in v.newer ≡ nodes_of newer.entry.set.now) }
     ensures names { IfOk result (λ v. names_in v.names ≡ renamings_of renamings.now) }
 {
-    let first = Nodes::new(alloc, older.set.nodes())?;
-    let second = Nodes::new(alloc, newer.set.nodes())?;
-    let names = Names::new(alloc, renamings.list())?;
+    let names = Names::new(alloc, renamings)?;
     Ok(Versions {
-        older: first,
-        newer: second,
+        older: Nodes::new(older.set),
+        newer: Nodes::new(newer.set),
         names,
     })
 }
@@ -57,7 +54,6 @@ fn all_kept(
     older: u64,
     newer: u64,
 ) -> std::result::Result<bool, AllocError>
-    requires { AreIndexed versions.now }
     ensures { IfOk result (λ b.
         MatchBool b (IsKeptFrom versions.now levels older newer)
         (IsKeptFrom versions.now levels older newer → ⊥)) }

@@ -5,9 +5,9 @@ ghost use Rattle.std.specs.Str.{bytes_eq};
 ghost use Rattle.capnp_model.specs.Compatible.{same_option, member_count, is_new, keeps_union, keeps_fields, keeps_body};
 ghost use Rattle.capnp_records.specs.NodeViews.{kind_of_field, member_of};
 ghost use Rattle.capnp_model.specs.Partners.{partner_name};
-ghost use Rattle.capnp_compatible.specs.Renamed.{names_in, IsNamed};
+ghost use Rattle.capnp_compatible.specs.Renamed.{names_in};
 ghost use Rattle.capnp_compatible.specs.Holders.{schema_in, are_sound, is_sound_kind};
-ghost use Rattle.capnp_compatible.specs.Walks.{AreIndexed, IsSoundFor, Decides, Moves, older_schema, begins_with, has_room, keeps_at, older_fields, newer_fields, kept_body, newer_body};
+ghost use Rattle.capnp_compatible.specs.Walks.{IsSoundFor, Decides, Moves, older_schema, begins_with, has_room, keeps_at, older_fields, newer_fields, kept_body, newer_body};
 
 use crate::defaults::same_default;
 use crate::names::Names;
@@ -93,7 +93,6 @@ fn partner<'f>(
     left: &'f [FieldRecord],
     name: &str,
 ) -> Option<(&'f FieldRecord, &'f [FieldRecord])>
-    requires { IsNamed names.now }
     ensures missing { IfNone result
         (begins_with (names_in names.now) node left.now name.now ≡ false) }
     ensures found { IfSome result (λ p. left.now ≡ p.0.now ∷ p.1.now) }
@@ -119,7 +118,6 @@ pub(crate) fn keeps(
     newer: u64,
     reached: &mut Reached,
 ) -> Result<bool, AllocError>
-    requires index { AreIndexed versions.now }
     requires sound { IsSoundFor versions.now reached.old }
     ensures { IfOk result (λ b.
         Decides versions.now reached.old reached.new b (keeps_at versions.now levels older newer)) }
@@ -149,7 +147,6 @@ fn keeps_fields(
     newer: &[FieldRecord],
     reached: &mut Reached,
 ) -> Result<bool, AllocError>
-    requires index { AreIndexed versions.now }
     requires sound { IsSoundFor versions.now reached.old }
     requires older { are_sound older.now ≡ true }
     requires newer { are_sound newer.now ≡ true }
@@ -184,7 +181,6 @@ fn keeps_next<'f>(
     next: &FieldRecord,
     reached: &mut Reached,
 ) -> Result<Option<&'f [FieldRecord]>, AllocError>
-    requires index { AreIndexed versions.now }
     requires sound { IsSoundFor versions.now reached.old }
     requires left { are_sound left.now ≡ true }
     requires next { is_sound_kind (kind_of_field next.now.body) ≡ true }
@@ -214,7 +210,6 @@ fn keeps_field(
     newer: &FieldRecord,
     reached: &mut Reached,
 ) -> Result<bool, AllocError>
-    requires index { AreIndexed versions.now }
     requires sound { IsSoundFor versions.now reached.old }
     requires older { is_sound_kind (kind_of_field older.now.body) ≡ true }
     requires newer { is_sound_kind (kind_of_field newer.now.body) ≡ true }
@@ -241,7 +236,6 @@ fn keeps_body(
     newer: &FieldBody,
     reached: &mut Reached,
 ) -> Result<bool, AllocError>
-    requires index { AreIndexed versions.now }
     requires sound { IsSoundFor versions.now reached.old }
     requires older { is_sound_kind (kind_of_field older.now) ≡ true }
     requires newer { is_sound_kind (kind_of_field newer.now) ≡ true }

@@ -1,8 +1,9 @@
 //! Fields that have other names in a newer schema.
 
-ghost use Rattle.std.specs.Prelude.{◌≡◌, map, IfOk, string_bytes};
-ghost use Rattle.capnp_model.specs.Partners.{are_apart};
-ghost use Rattle.capnp_compatible.specs.Renamed.{renaming_of, name_in, key_in};
+ghost use Rattle.std.specs.Prelude.{◌≡◌, true, map, IfOk, string_bytes};
+ghost use Rattle.std.proofs.Props.{props};
+ghost use Rattle.capnp_model.specs.Partners.{are_apart, are_one_to_one};
+ghost use Rattle.capnp_compatible.specs.Renamings.{renaming_of, name_in, key_in};
 
 use std::alloc::{AllocError, Global};
 use std::collections::HashSet;
@@ -76,12 +77,13 @@ fn are_apart(alloc: Global, list: &[Renaming], version: Version) -> Result<bool,
 #[derive(Debug, Drop)]
 pub struct Renamings {
     list: Vec<Renaming>,
+    pub ghost distinct: { are_one_to_one (map renaming_of list.items) ≡ true } by { Prim.hlevel props },
 }
 
 impl Renamings {
     ghost use Rattle.std.specs.Prelude.{◌≡◌, true, map, [], IfOk, IfErr};
     ghost use Rattle.capnp_model.specs.Partners.{are_one_to_one};
-    ghost use Rattle.capnp_compatible.specs.Renamed.{renaming_of, renamings_of, IsRefusalOf};
+    ghost use Rattle.capnp_compatible.specs.Renamed.{renamings_of, IsRefusalOf};
 
     /// The renamings of a list. `Twice`: two of one node have the same older or the same newer name.
     pub fn new(list: Vec<Renaming>) -> Result<Renamings, RenamingFault>

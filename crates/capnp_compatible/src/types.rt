@@ -6,7 +6,7 @@ ghost use Rattle.capnp_model.specs.Compatible.{related, same_names};
 ghost use Rattle.capnp_records.specs.NodeViews.{base_of, type_record_of};
 ghost use Rattle.capnp_compatible.specs.Types.{sort, bits, id_in};
 ghost use Rattle.capnp_compatible.specs.Holders.{schema_in};
-ghost use Rattle.capnp_compatible.specs.Walks.{AreIndexed, IsSoundFor, Decides, older_schema};
+ghost use Rattle.capnp_compatible.specs.Walks.{IsSoundFor, Decides, older_schema};
 
 use crate::keeps::Versions;
 use crate::reached::{Reached, same_names};
@@ -64,7 +64,6 @@ fn related_enums(
     newer: u64,
     reached: &mut Reached,
 ) -> Result<bool, AllocError>
-    requires index { AreIndexed versions.now }
     requires sound { IsSoundFor versions.now reached.old }
     ensures { IfOk result (λ b.
         Decides versions.now reached.old reached.new
@@ -91,7 +90,6 @@ fn related_bases(
     newer: BaseType,
     reached: &mut Reached,
 ) -> Result<bool, AllocError>
-    requires index { AreIndexed versions.now }
     requires sound { IsSoundFor versions.now reached.old }
     ensures { IfOk result (λ b.
         Decides versions.now reached.old reached.new
@@ -134,7 +132,6 @@ pub(crate) fn related(
     newer: TypeRecord,
     reached: &mut Reached,
 ) -> Result<bool, AllocError>
-    requires index { AreIndexed versions.now }
     requires sound { IsSoundFor versions.now reached.old }
     ensures { IfOk result (λ b.
         Decides versions.now reached.old reached.new

@@ -123,18 +123,18 @@ fn fails_once(
     let (failed, failures, unread) = if way == "packed_words" {
         let (failed, source) = unpack(source);
         (failed, source.failures(), source.unread())
-    } else if way == "framed_unbuffered" {
+    } else if let Some(form) = way.strip_suffix("_unbuffered") {
         let mut unbuffered = Unbuffered::new(source);
-        let failed = read(alloc, "framed", &mut unbuffered, &mut kept);
+        let failed = read(alloc, form, &mut unbuffered, &mut kept);
         let failures = unbuffered.failures();
         (failed, failures, unbuffered.into_inner().unread())
     } else {
         let failed = read(alloc, way, &mut source, &mut kept);
         (failed, source.failures(), source.unread())
     };
-    let works = match way {
-        "packed_words" => unpack(bytes).0,
-        "framed_unbuffered" => read(alloc, "framed", &mut Unbuffered::new(bytes), &mut kept),
+    let works = match (way, way.strip_suffix("_unbuffered")) {
+        ("packed_words", _) => unpack(bytes).0,
+        (_, Some(form)) => read(alloc, form, &mut Unbuffered::new(bytes), &mut kept),
         _ => read(alloc, way, &mut &bytes[..], &mut kept),
     };
     let is_refused = is_failed(failed)

@@ -52,6 +52,11 @@ const IN_TWO: &[u8] = &[
 
 const IN_TWO_PACKED: &[u8] = &[0x11, 1, 1, 1, 2, 0x11, 2, 1, 0x10, 1, 1, 7];
 
+/// The same with the null text, as it is built.
+const SEVEN_AND_NULL: &[u8] = &[
+    0, 0, 0, 0, 3, 0, 0, 0, 0, 0, 0, 0, 1, 0, 1, 0, 7, 0, 0, 0, 0, 0, 0, 0, 0, 0, 0, 0, 0, 0, 0, 0,
+];
+
 /// A struct of the text `hi`.
 const TEXT: &[u8] = &[
     0, 0, 0, 0, 3, 0, 0, 0, 0, 0, 0, 0, 0, 0, 1, 0, 1, 0, 0, 0, 0x1a, 0, 0, 0, 0x68, 0x69, 0, 0, 0,
@@ -89,6 +94,12 @@ const KEPT: Message<'static> = Message {
 const SET: &[Message<'static>] = &[Message {
     given: NULL,
     written: SEVEN,
+    line: "written; done",
+}];
+
+const SET_PLAIN: &[Message<'static>] = &[Message {
+    given: NULL,
+    written: SEVEN_AND_NULL,
     line: "written; done",
 }];
 
@@ -196,6 +207,7 @@ pub fn run_of(name: &str) -> Option<Run<'static>> {
         }
         "relay_text" => Some(older("framed", SET_TEXT, TEXT_SET)),
         "relay_segments" => Some(older("framed", NO_CALLS, SEGMENTS)),
+        "relay_plain" => Some(older("framed+plain", SET_NUMBER, SET_PLAIN)),
         "relay_packed" => Some(older("packed", SET_NUMBER, SET_PACKED)),
         "relay_to_packed" => Some(older("framed-packed", SET_NUMBER, SET_THEN_PACKED)),
         "relay_from_packed" => Some(older("packed-framed", NO_CALLS, SEGMENTS_PACKED)),

@@ -1,6 +1,7 @@
 //! Messages of two segments that are written to sinks that fail at each byte.
 
 use crate::devices::{Alarm, Fault, Taking};
+use capnp_message::laws::built_segments_can_be_written;
 use capnp_message::message::{AllocationStrategy, Builder, HeapAllocator};
 use capnp_message::{serialize, serialize_packed};
 use capnp_packing::streams::PackedWrite;
@@ -30,9 +31,12 @@ fn write<W: Write>(
     if message.memory.arena.len() == 0 {
         return Err(Error::from(ErrorKind::OutOfBounds));
     }
+    built_segments_can_be_written(message);
     match way {
         "write_framed" => serialize::write_message(alloc, out, message),
         "write_packed" => serialize_packed::write_message(alloc, out, message),
+        "write_framed_segments" => serialize::write_message_segments(alloc, out, message),
+        "write_packed_segments" => { serialize_packed::write_message_segments(alloc, out, message) }
         _ => PackedWrite { inner: out }.write_all(WORDS),
     }
 }
@@ -74,7 +78,14 @@ fn count(
 
 /// The same, with a message of its own; none where there is no such way.
 pub fn faults(alloc: Global, way: &str) -> std::result::Result<Option<usize>, Fault> {
-    if !matches!(way, "write_framed" | "write_packed" | "write_words") {
+    if !matches!(
+        way,
+        "write_framed"
+            | "write_framed_segments"
+            | "write_packed"
+            | "write_packed_segments"
+            | "write_words"
+    ) {
         return Ok(None);
     }
     let allocator = HeapAllocator::new(alloc)

@@ -7,6 +7,7 @@ use capnp_message::message::{
 use capnp_message::serialize::{
     NoAllocBufferSegments, NoAllocSegmentTableInfo, NoAllocSliceSegments,
 };
+use capnp_schema::any_pointer;
 use std::alloc::Global;
 use std::test::Fail;
 
@@ -66,6 +67,39 @@ fn blobs(alloc: Global) -> (Result<TextPlace>, Result<DataPlace>) {
 fn texts_and_data_are_roots(rt: HostRuntime) -> std::result::Result<(), Fail> {
     let (text, data) = blobs(rt.alloc());
     assert!(rt; text?.0.count == 2 && data?.0.count == 3);
+    Ok(())
+}
+
+/// How many words a message has whose untyped root is begun by its type, then got.
+fn untyped(alloc: Global) -> Result<usize> {
+    let mut built: TypedBuilder<any_pointer::Owned, HeapAllocator> = TypedBuilder::new_default(
+        alloc,
+    );
+    let begun: Result<PointerPlace> = built.init_root();
+    let got: Result<PointerPlace> = built.get_root();
+    let words = built.borrow_inner().size_in_words();
+    let _heap = built.into_inner().into_allocator();
+    begun?;
+    got?;
+    Ok(words)
+}
+
+#[test]
+fn an_untyped_root_is_a_word(rt: HostRuntime) -> std::result::Result<(), Fail> {
+    assert!(rt; untyped(rt.alloc())? == 1);
+    Ok(())
+}
+
+/// Sets an untyped root to a text, and tells how many words the message has.
+fn set_hello(message: &mut Builder<HeapAllocator>) -> Result<usize> {
+    let mut root = any_pointer::Builder::new(root_of(&mut message.memory)?);
+    root.set_as::<text::Owned, &str>("Hello, World!")?;
+    Ok(message.size_in_words())
+}
+
+#[test]
+fn an_untyped_root_is_set(rt: HostRuntime) -> std::result::Result<(), Fail> {
+    assert!(rt; with_message(rt.alloc(), set_hello)? == 3);
     Ok(())
 }
 

@@ -21,6 +21,7 @@ use capnp_builders::owned::FromPointerBuilder;
 use capnp_builders::pointer_builder::PointerBuilder;
 use capnp_copy::arena::{BuilderArena, Memory};
 use capnp_copy::clear::clear;
+use capnp_message::placed::{OwnedPlaced, PointerPlace};
 use capnp_queries::introspect::{Introspect, Type, TypeVariant};
 use capnp_units::errors::Result;
 use capnp_units::sizes::{MessageSize, Word};
@@ -195,6 +196,11 @@ impl<'a, A: BuilderArena + 'a> owned::Owned<'a, A> for Owned {
     type Reader = Reader<'a, A>;
 
     type Builder = Builder<'a, A>;
+}
+
+/// As a message's root it is built by where its pointer stands.
+impl OwnedPlaced for Owned {
+    type Builder = PointerPlace;
 }
 
 /// An untyped pointer is made null, which is never refused, and got as what is there, whatever its kind.

@@ -26,7 +26,7 @@ pub trait DowncastBuilder<'a, A>: Sized {
         ensures { variant value.entry ≡ Some result };
 }
 
-impl<'a, A: Drop> DowncastBuilder<'a, A> for Enum<'a> {
+impl<'a, A> DowncastBuilder<'a, A> for Enum<'a> {
     ghost variant = { enum_in };
 
     fn fits(value: &Builder<'a, A>) -> bool {
@@ -44,7 +44,7 @@ impl<'a, A: Drop> DowncastBuilder<'a, A> for Enum<'a> {
     }
 }
 
-impl<'a, A: Drop> DowncastBuilder<'a, A> for TextBuilder<'a, A> {
+impl<'a, A> DowncastBuilder<'a, A> for TextBuilder<'a, A> {
     ghost variant = { text_in };
 
     fn fits(value: &Builder<'a, A>) -> bool {
@@ -62,7 +62,7 @@ impl<'a, A: Drop> DowncastBuilder<'a, A> for TextBuilder<'a, A> {
     }
 }
 
-impl<'a, A: Drop> DowncastBuilder<'a, A> for DataBuilder<'a, A> {
+impl<'a, A> DowncastBuilder<'a, A> for DataBuilder<'a, A> {
     ghost variant = { data_in };
 
     fn fits(value: &Builder<'a, A>) -> bool {
@@ -80,7 +80,7 @@ impl<'a, A: Drop> DowncastBuilder<'a, A> for DataBuilder<'a, A> {
     }
 }
 
-impl<'a, A: Drop> DowncastBuilder<'a, A> for dynamic_list::Builder<'a, A> {
+impl<'a, A> DowncastBuilder<'a, A> for dynamic_list::Builder<'a, A> {
     ghost variant = { list_in };
 
     fn fits(value: &Builder<'a, A>) -> bool {
@@ -98,7 +98,7 @@ impl<'a, A: Drop> DowncastBuilder<'a, A> for dynamic_list::Builder<'a, A> {
     }
 }
 
-impl<'a, A: Drop> DowncastBuilder<'a, A> for dynamic_struct::Builder<'a, A> {
+impl<'a, A> DowncastBuilder<'a, A> for dynamic_struct::Builder<'a, A> {
     ghost variant = { struct_in };
 
     fn fits(value: &Builder<'a, A>) -> bool {
@@ -116,7 +116,7 @@ impl<'a, A: Drop> DowncastBuilder<'a, A> for dynamic_struct::Builder<'a, A> {
     }
 }
 
-impl<'a, A: Drop> DowncastBuilder<'a, A> for any_pointer::Builder<'a, A> {
+impl<'a, A> DowncastBuilder<'a, A> for any_pointer::Builder<'a, A> {
     ghost variant = { untyped_in };
 
     fn fits(value: &Builder<'a, A>) -> bool {

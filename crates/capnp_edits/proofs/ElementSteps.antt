@@ -34,7 +34,7 @@ use Rattle.capnp_edits.proofs.lemmas.Outcomes.{unmapped}
 
 -- ---- an element that is a struct
 
-struct_within : (s : Schema) (id : ℕ) (path : List Step) (verb : Verb) (c : Cell) → path ≢ [] → IsElementDone s (struct id) path verb c → IsDoneWithin s (s.shape_of id) path verb c
+pub struct_within : (s : Schema) (id : ℕ) (path : List Step) (verb : Verb) (c : Cell) → path ≢ [] → IsElementDone s (struct id) path verb c → IsDoneWithin s (s.shape_of id) path verb c
 unfolding step_element
 struct_within s id [] verb c some h = absurd (some refl)
 struct_within s id (index k ∷ rest) verb c some h = absurd h.1
@@ -79,7 +79,7 @@ element_wide o k p g at has schema e =
 
 -- ---- an element that is a pointer to a list
 
-value_within : (s : Schema) (e : Ty) (path : List Step) (verb : Verb) (c : Cell) → path ≢ [] → IsElementDone s (list e) path verb c → IsDone (value_outcome s (list e) null path verb (child c.kids 0))
+pub value_within : (s : Schema) (e : Ty) (path : List Step) (verb : Verb) (c : Cell) → path ≢ [] → IsElementDone s (list e) path verb c → IsDone (value_outcome s (list e) null path verb (child c.kids 0))
 unfolding step_element
 value_within s e [] verb c some h = absurd (some refl)
 value_within s e (st ∷ rest) verb c some h =

@@ -3,7 +3,7 @@ use Rattle.std.proofs.Common.{◌≡◌, ◌⊎◌, inl, inr, ℕ, ◌+◌, ◌<
 use Rattle.std.specs.Option.{ok_or}
 use Rattle.capnp_model.specs.Kinds.{OutOfBounds, WrongElementSize}
 use Rattle.capnp_model.specs.Readings.{is_accepted_as}
-use Rattle.capnp_model.specs.Segments.{Segments, Place, after, word_at, words_at}
+use Rattle.capnp_model.specs.Segments.{Segments, after, word_at, words_at}
 use Rattle.capnp_model.specs.Pointers.{a_list, nothing}
 use Rattle.capnp_model.specs.Traversal.{ListKind, of_bits, list_kind, list_words, tag_in}
 use Rattle.capnp_model.specs.Trees.{Tree}

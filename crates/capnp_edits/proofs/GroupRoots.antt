@@ -30,7 +30,7 @@ use Rattle.capnp_edits.specs.Written.{WritesField, IsDoneAt, edit_at}
 use Rattle.capnp_edits.proofs.Lifting.{cell, edits_alike}
 
 -- what a struct that is read stands on
-basis_is : (g : Ground) (levels : Option ℕ) (o : Object) (v : StructView) → read_struct g levels o ≡ Ok v → v.basis ≡ g
+pub basis_is : (g : Ground) (levels : Option ℕ) (o : Object) (v : StructView) → read_struct g levels o ≡ Ok v → v.basis ≡ g
 basis_is g levels object.Null v h = ap (λ (x : StructView). x.basis) (sym (ok_is _ v h))
 basis_is g levels (object.Struct p d k) v h = (let a = bind_ok (level_below levels) _ v h in ap (λ (x : StructView). x.basis) (sym (ok_is _ v a.2)))
 basis_is g levels (object.List p size n) v h = absurd cc

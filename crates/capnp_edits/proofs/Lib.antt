@@ -15,3 +15,10 @@ mod BegunLists
 mod ElementEnds
 mod ElementMessages
 mod TakenContents
+mod ThereObjects
+mod Claims
+mod ClaimsBehind
+mod ClaimsLists
+mod ClaimsEnds
+mod ClaimsMessages
+mod ClaimsElements

@@ -125,11 +125,11 @@ module _ (s : Schema) (ty : Ty) (rest : List Step) (verb : Verb) where
   abbrev Through : ℕ → Reading → Type 0
   Through k r = IsDone (through_value s (index k) (step_field s rest verb) (step_element s rest verb) (list ty) r)
 
-  listed : (d : Tree) (k : ℕ) (b : Bool) (rs : Readings) → Through k (opened s (list ty) d (list_reading b rs)) → IsDone (on_index f k rs)
+  pub listed : (d : Tree) (k : ℕ) (b : Bool) (rs : Readings) → Through k (opened s (list ty) d (list_reading b rs)) → IsDone (on_index f k rs)
   listed d k true rs h = unmapped _ _ h
   listed d k false rs h = absurd h
 
-  defaulted : (k : ℕ) (b : Bool) (rs : Readings) → Through k (or_empty s (list ty) (list_reading b rs)) → IsDone (on_index f k rs)
+  pub defaulted : (k : ℕ) (b : Bool) (rs : Readings) → Through k (or_empty s (list ty) (list_reading b rs)) → IsDone (on_index f k rs)
   defaulted k true rs h = unmapped _ _ h
   defaulted k false rs h = absurd h
 

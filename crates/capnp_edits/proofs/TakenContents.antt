@@ -25,14 +25,14 @@ use Rattle.capnp_edits.specs.Elements.{TakesTree}
 
 -- ---- what the root holds
 
-record Content (n : ℕ) (s : Segments) (q : Place) (d k : ℕ) (t : Tree) : Type 0 where
-  section : ℕ
-  kids : Trees
-  is : t ≡ structure d section kids
-  section_is : section_at s q d ≡ section
-  kids_are : each (tree_at n s) (after q d) k ≡ Some kids
+pub record Content (n : ℕ) (s : Segments) (q : Place) (d k : ℕ) (t : Tree) : Type 0 where
+  pub section : ℕ
+  pub kids : Trees
+  pub is : t ≡ structure d section kids
+  pub section_is : section_at s q d ≡ section
+  pub kids_are : each (tree_at n s) (after q d) k ≡ Some kids
 
-struct_content : (n : ℕ) (s : Segments) (p q : Place) (d k : ℕ) (t : Tree) → LeadsTo s p (a_struct q d k) → tree_at (suc n) s p ≡ Some t → Content n s q d k t
+pub struct_content : (n : ℕ) (s : Segments) (p q : Place) (d k : ℕ) (t : Tree) → LeadsTo s p (a_struct q d k) → tree_at (suc n) s p ≡ Some t → Content n s q d k t
 unfolding tree_at
 struct_content n s p q d k t leads e =
     let x = bind_found (found_at s p) _ t e in

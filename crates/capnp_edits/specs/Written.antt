@@ -4,8 +4,8 @@ use Rattle.capnp_model.specs.Kinds.{WrongStep}
 use Rattle.capnp_model.specs.Segments.{Segments, Place}
 use Rattle.capnp_model.specs.Trees.{Tree, null, Trees, structure}
 use Rattle.capnp_model.specs.Schemas.{Ty, void, plain, text, blob, untyped, interface, struct, list, Shape, group_slot, Schema}
-use Rattle.capnp_model.specs.Readings.{Reading, read}
-use Rattle.capnp_model.specs.Calls.{Step, Verb}
+use Rattle.capnp_model.specs.Readings.{Reading, inactive, null_pointer, fault, number, text_of, blob_of, list_of, record_as, opaque, read}
+use Rattle.capnp_model.specs.Calls.{Step, Verb, CallValue, whole_number, truth, enumerant, text_value, blob_value, message}
 use Rattle.capnp_model.specs.Steps.{Outcome, refused, opened, through_value, step_field, step_element}
 use Rattle.capnp_model.specs.Edits.{Cell, Edit, opened_tree, edit_value, edit_field, edit_element}
 use Rattle.capnp_footprints.specs.Footprints.{Owns, OwnsObject}
@@ -27,7 +27,16 @@ EditsWhere Holds s u p f =
     (n section : ℕ) (kids : Trees) → OwnsObject n s (struct_at p) (structure p.data_words section kids) → Holds (record { section = section; kids = kids })
     → let d = f (record { section = section; kids = kids }) in (more : ℕ) × ReplacesObject (n + more) s u (struct_at p) (structure p.data_words d.section d.kids)
 
+-- Of whatever data and children the struct has for which the test holds: the claim.
+abbrev pub ClaimsWhere : (Cell → Type 0) → Segments → StructPlace → Type 0 → Type 0
+ClaimsWhere Holds s p Claim =
+    (n section : ℕ) (kids : Trees) → OwnsObject n s (struct_at p) (structure p.data_words section kids) → Holds (record { section = section; kids = kids }) → Claim
+
 -- ---- at a struct or a group
+
+-- Where the record machine does the call at the struct: the claim.
+abbrev pub WhereDone : Segments → StructPlace → StructSchema → List Step → Verb → Type 0 → Type 0
+WhereDone s p g path verb Claim = ClaimsWhere (λ c. IsDone (shape_outcome (schema_around g) (shape_of_struct g) path verb c)) s p Claim
 
 -- Where the record machine does the call at the struct: its data and children become what the call's edit makes of them.
 abbrev pub WritesPath : Segments → Segments → StructPlace → StructSchema → List Step → Verb → Type 0
@@ -50,6 +59,19 @@ edit_at f path verb (Some e) c = edit_field (schema_around f.parent) path verb (
 abbrev pub WritesField : Segments → Segments → StructPlace → Field → List Step → Verb → Type 0
 WritesField s u p f path verb = EditsWhere (IsDoneAt f path verb (entry_of f)) s u p (edit_at f path verb (entry_of f))
 
+-- Where the record machine does the end of a call at a field, whatever the struct has: the claim.
+abbrev pub WhereFieldTakes : Field → Verb → Type 0 → Type 0
+WhereFieldTakes f verb Claim = (c : Cell) → IsDoneAt f [] verb (entry_of f) c → Claim
+
+-- A value is a number, a truth value or an enum's: no text, no data and no message's.
+abbrev pub is_single : CallValue → Bool
+is_single (whole_number z) = true
+is_single (truth b) = true
+is_single (enumerant n) = true
+is_single (text_value bs) = false
+is_single (blob_value bs) = false
+is_single (message t) = false
+
 -- The field is a group.
 abbrev pub IsGroup : Option Entry → Type 0
 IsGroup o = (g : Shape) × (option_map (λ e. e.body) o ≡ Some (group_slot g))
@@ -70,6 +92,26 @@ value_edit s ty d (st ∷ path) verb t = edit_value s st (edit_field s path verb
 abbrev pub WritesValue : Segments → Segments → Place → Schema → Ty → Tree → List Step → Verb → Type 0
 WritesValue s u p around ty d path verb =
     (n : ℕ) (t : Tree) → Owns n s p t → IsDone (value_outcome around ty d path verb t) → (more : ℕ) × Replaces (n + more) s u p (value_edit around ty d path verb t)
+
+-- Whatever value is owned there at which the steps are done: the claim.
+abbrev pub WhereValueDone : Segments → Place → Schema → Ty → Tree → List Step → Verb → Type 0 → Type 0
+WhereValueDone s p around ty d path verb Claim = (n : ℕ) (t : Tree) → Owns n s p t → IsDone (value_outcome around ty d path verb t) → Claim
+
+-- A reading without a fault.
+abbrev pub IsSound : Reading → Type 0
+IsSound inactive = Unit {0}
+IsSound null_pointer = Unit {0}
+IsSound (fault k) = ⊥
+IsSound (number n) = Unit {0}
+IsSound (text_of bs) = Unit {0}
+IsSound (blob_of bs) = Unit {0}
+IsSound (list_of rs) = Unit {0}
+IsSound (record_as r) = Unit {0}
+IsSound (opaque t) = Unit {0}
+
+-- Whatever value is owned there that can be read as one of the type, null as its default: the claim.
+abbrev pub WhereRead : Segments → Place → Schema → Ty → Tree → Type 0 → Type 0
+WhereRead s p around ty d Claim = (n : ℕ) (t : Tree) → Owns n s p t → IsSound (read around (opened_tree ty d t) ty) → Claim
 
 -- The words of a default, if there is one, hold this value, at most 64 levels deep; no default is null.
 abbrev pub HoldsDefault : Option (List (List ℕ)) → Tree → Type 0

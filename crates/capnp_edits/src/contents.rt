@@ -1,14 +1,15 @@
 //! Structs that take over the values of messages.
-ghost use Rattle.std.specs.Prelude.{◌≡◌, Some, OnOk};
+ghost use Rattle.std.specs.Prelude.{◌≡◌, Some, IfErr, OnOk};
 ghost use Rattle.capnp_model.specs.Calls.{message_root};
 ghost use Rattle.capnp_model.specs.Segments.{root};
 ghost use Rattle.capnp_model.specs.Traversal.{tree_at};
 ghost use Rattle.capnp_model.specs.Trees.{Tree};
 ghost use Rattle.capnp_units.specs.Segments.{words_in};
+ghost use Rattle.capnp_copy.specs.Refusals.{IsSizeOrRefusal};
 ghost use Rattle.capnp_copy_from.specs.Defaults.{default_segments};
 ghost use Rattle.capnp_dynamic.specs.Edits.{IsThere};
 ghost use Rattle.capnp_dynamic.specs.Grown.{GrowsAround};
-ghost use Rattle.capnp_edits.specs.Elements.{TakesTree};
+ghost use Rattle.capnp_edits.specs.Elements.{TakesTree, IsOfStruct};
 
 use capnp_copy::arena::BuilderArena;
 use capnp_copy::fields::StructPlace;
@@ -37,6 +38,8 @@ pub(crate) fn copy_content<A: BuilderArena>(
         (words_in (A.segments arena.new)) object (message_root t)) }
     ensures grows { GrowsAround (words_in (A.segments arena.old))
         (words_in (A.segments arena.new)) object }
+    ensures cause { (t : Tree) → tree_at 64 (default_segments words.now) root ≡ Some t
+        → IsOfStruct t → IfErr result (IsSizeOrRefusal A.refuses) }
     ensures books { A.books arena.new ≡ A.books arena.old }
 {
     let source: Backing<NullArena> = default_backing(words);

@@ -1,5 +1,5 @@
 //! Calls written at the elements of lists where their paths end.
-ghost use Rattle.std.specs.Prelude.{ℕ, ◌≡◌, ◌<◌, true, [], OnOk};
+ghost use Rattle.std.specs.Prelude.{ℕ, ◌≡◌, ◌<◌, true, [], IfErr, OnOk};
 ghost use Rattle.capnp_model.specs.Accepted.{schema_of};
 ghost use Rattle.capnp_model.specs.Calls.{set_to, message};
 ghost use Rattle.capnp_model.specs.Coverage.{Grows};
@@ -10,9 +10,11 @@ ghost use Rattle.capnp_records.specs.Sets.{nodes_of};
 ghost use Rattle.capnp_call_messages.specs.Messages.{tree_of_message};
 ghost use Rattle.capnp_queries.specs.Types.{ty_of, is_type_of};
 ghost use Rattle.capnp_calls.specs.CallViews.{action_view, slot_value_view};
+ghost use Rattle.capnp_copy.specs.Refusals.{IsSizeOrRefusal};
 ghost use Rattle.capnp_dynamic_lists.specs.Lists.{IsListThere, GrowsIn};
 ghost use Rattle.capnp_dynamic_lists.specs.Elements.{Holds, HoldsStructs};
-ghost use Rattle.capnp_edits.specs.Elements.{WritesElement};
+ghost use Rattle.capnp_edits.specs.Elements.{WritesElement, WhereElementTakes};
+ghost use Rattle.capnp_edits.specs.Written.{is_single};
 
 use crate::contents::copy_content;
 use crate::messages::put_message;
@@ -50,6 +52,9 @@ fn set_plain<A: BuilderArena>(
         (words_in (A.segments arena.new)) list s (ty_of ty) index []
         (set_to (slot_value_view value.now))) }
     ensures grows { Grows (words_in (A.segments arena.old)) (words_in (A.segments arena.new)) }
+    ensures cause { (s : Schema) → is_single (slot_value_view value.now) ≡ true
+        → IfErr result (λ e. WhereElementTakes s (ty_of ty)
+        (set_to (slot_value_view value.now)) (IsSizeOrRefusal A.refuses e)) }
     ensures books { A.books arena.new ≡ A.books arena.old }
 {
     if let Some(plain) = plain_type(ty) {
@@ -82,6 +87,9 @@ fn set_message<A: BuilderArena>(
         (set_to (message (tree_of_message value.now)))) }
     ensures grows { GrowsIn (words_in (A.segments arena.old)) (words_in (A.segments arena.new))
         list }
+    ensures cause { (s : Schema) → IfErr result (λ e.
+        WhereElementTakes s (ty_of ty) (set_to (message (tree_of_message value.now)))
+        (IsSizeOrRefusal A.refuses e)) }
     ensures books { A.books arena.new ≡ A.books arena.old }
 {
     match ty.which() {
@@ -119,6 +127,9 @@ fn set_value<A: BuilderArena>(
         (set_to (slot_value_view value.now))) }
     ensures grows { GrowsIn (words_in (A.segments arena.old)) (words_in (A.segments arena.new))
         list }
+    ensures cause { (s : Schema) → IfErr result (λ e.
+        WhereElementTakes s (ty_of ty) (set_to (slot_value_view value.now))
+        (IsSizeOrRefusal A.refuses e)) }
     ensures books { A.books arena.new ≡ A.books arena.old }
 {
     match value {
@@ -156,6 +167,8 @@ pub(crate) fn write_element_end<A: BuilderArena>(
         (action_view action.now)) }
     ensures grows { GrowsIn (words_in (A.segments arena.old)) (words_in (A.segments arena.new))
         list }
+    ensures cause { IfErr result (λ e. WhereElementTakes (schema_of (nodes_of set.now)) (ty_of ty)
+        (action_view action.now) (IsSizeOrRefusal A.refuses e)) }
     ensures books { A.books arena.new ≡ A.books arena.old }
 {
     match action {

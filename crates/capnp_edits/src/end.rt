@@ -1,11 +1,12 @@
 //! Calls written where their paths end.
-ghost use Rattle.std.specs.Prelude.{◌≡◌, [], OnOk};
+ghost use Rattle.std.specs.Prelude.{◌≡◌, [], IfErr, OnOk};
 ghost use Rattle.capnp_model.specs.Coverage.{Grows};
 ghost use Rattle.capnp_units.specs.Segments.{words_in};
 ghost use Rattle.capnp_queries.specs.Structs.{shape_of_struct};
 ghost use Rattle.capnp_calls.specs.CallViews.{action_view};
+ghost use Rattle.capnp_copy.specs.Refusals.{IsSizeOrRefusal};
 ghost use Rattle.capnp_dynamic.specs.Edits.{IsThere, IsWide};
-ghost use Rattle.capnp_edits.specs.Written.{WritesField};
+ghost use Rattle.capnp_edits.specs.Written.{WritesField, WhereFieldTakes};
 
 use crate::values::set_value;
 use capnp_calls::Action;
@@ -30,6 +31,8 @@ pub(crate) fn write_end<A: BuilderArena>(
     ensures writes { OnOk result (WritesField (words_in (A.segments arena.old))
         (words_in (A.segments arena.new)) object field.entry [] (action_view action.now)) }
     ensures grows { Grows (words_in (A.segments arena.old)) (words_in (A.segments arena.new)) }
+    ensures cause { IfErr result (λ e. WhereFieldTakes field.entry (action_view action.now)
+        (IsSizeOrRefusal A.refuses e)) }
     ensures books { A.books arena.new ≡ A.books arena.old }
 {
     match action {

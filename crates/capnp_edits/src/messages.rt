@@ -1,5 +1,5 @@
 //! Values of messages that calls set behind pointers.
-ghost use Rattle.std.specs.Prelude.{◌≡◌, ◌<◌, ◌^◌, true, [], OnOk};
+ghost use Rattle.std.specs.Prelude.{◌≡◌, ◌<◌, ◌^◌, true, [], IfErr, OnOk};
 ghost use Rattle.std.specs.Option.{is_some};
 ghost use Rattle.capnp_model.specs.Accepted.{areas_of};
 ghost use Rattle.capnp_model.specs.Calls.{set_to, message, message_root};
@@ -16,7 +16,7 @@ ghost use Rattle.capnp_copy.specs.Refusals.{IsSizeOrRefusal};
 ghost use Rattle.capnp_dynamic.specs.Edits.{IsThere, IsWide};
 ghost use Rattle.capnp_dynamic.specs.GroupSets.{PutsAny, SetsFields};
 ghost use Rattle.capnp_dynamic.specs.Inside.{LieIn};
-ghost use Rattle.capnp_edits.specs.Written.{WritesField, IsGroup, takes_message};
+ghost use Rattle.capnp_edits.specs.Written.{WritesField, WhereFieldTakes, IsGroup, takes_message};
 
 use capnp_call_messages::message::MessageValue;
 use capnp_copy::arena::BuilderArena;
@@ -64,6 +64,7 @@ pub(crate) fn put_message<A: BuilderArena>(
         (words_in (A.segments arena.new)) (place_view slot)
         (message_root (tree_of_message message.now))) }
     ensures grows { Grows (words_in (A.segments arena.old)) (words_in (A.segments arena.new)) }
+    ensures cause { IfErr result (IsSizeOrRefusal A.refuses) }
     ensures books { A.books arena.new ≡ A.books arena.old }
 {
     let words = words_of(message.segment());
@@ -111,6 +112,8 @@ fn set_group<A: BuilderArena>(
         (words_in (A.segments arena.new)) object field.entry []
         (set_to (message (tree_of_message value.now)))) }
     ensures grows { Grows (words_in (A.segments arena.old)) (words_in (A.segments arena.new)) }
+    ensures cause { IfErr result (λ e. WhereFieldTakes field.entry
+        (set_to (message (tree_of_message value.now))) (IsSizeOrRefusal A.refuses e)) }
     ensures books { A.books arena.new ≡ A.books arena.old }
 {
     gets_are_readings();
@@ -134,6 +137,8 @@ pub(crate) fn set_message<A: BuilderArena>(
         (words_in (A.segments arena.new)) object field.entry []
         (set_to (message (tree_of_message value.now)))) }
     ensures grows { Grows (words_in (A.segments arena.old)) (words_in (A.segments arena.new)) }
+    ensures cause { IfErr result (λ e. WhereFieldTakes field.entry
+        (set_to (message (tree_of_message value.now))) (IsSizeOrRefusal A.refuses e)) }
     ensures books { A.books arena.new ≡ A.books arena.old }
 {
     let _said = field.get_proto();

@@ -1,5 +1,5 @@
 //! Calls written along the steps of their paths.
-ghost use Rattle.std.specs.Prelude.{◌≡◌, ◌≢◌, ◌<◌, ◌^◌, true, [], map, option_copied, OnOk};
+ghost use Rattle.std.specs.Prelude.{◌≡◌, ◌≢◌, ◌<◌, ◌^◌, true, [], map, option_copied, IfErr, OnOk};
 ghost use Rattle.std.specs.Option.{is_some};
 ghost use Rattle.capnp_model.specs.Accepted.{schema_of};
 ghost use Rattle.capnp_model.specs.Segments.{words_at};
@@ -12,14 +12,15 @@ ghost use Rattle.capnp_queries.specs.Structs.{schema_around, shape_of_struct, id
 ghost use Rattle.capnp_queries.specs.Types.{ty_of, is_type_of};
 ghost use Rattle.capnp_calls.specs.CallViews.{step_view, action_view};
 ghost use Rattle.capnp_calls.specs.Roots.{starts_with_name};
+ghost use Rattle.capnp_copy.specs.Refusals.{IsSizeOrRefusal};
 ghost use Rattle.capnp_copy.specs.States.{HasWords};
 ghost use Rattle.capnp_dynamic.specs.Edits.{IsThere, IsWide};
 ghost use Rattle.capnp_dynamic_lists.specs.Lists.{IsListThere, GrowsIn};
 ghost use Rattle.capnp_dynamic_lists.specs.Elements.{Holds, HoldsStructs};
 ghost use Rattle.capnp_ways.specs.Ways.{IsWay};
 ghost use Rattle.capnp_dynamic.specs.Grown.{GrowsAround, GrowsBehind};
-ghost use Rattle.capnp_edits.specs.Written.{WritesPath, WritesValue, HoldsDefault, has_inside};
-ghost use Rattle.capnp_edits.specs.Elements.{WritesWithin, WritesFieldWithin, WritesElement};
+ghost use Rattle.capnp_edits.specs.Written.{WritesPath, WhereDone, WritesValue, WhereValueDone, HoldsDefault, has_inside};
+ghost use Rattle.capnp_edits.specs.Elements.{WritesWithin, WhereDoneWithin, WritesFieldWithin, WhereFieldDone, WritesElement, WhereElementDone};
 
 use crate::default::default_of;
 use crate::elements::write_element_end;
@@ -48,11 +49,20 @@ use capnp_ways::steps::{begins_with_name, first_index, first_name};
 use capnp_ways::ways::FoundField;
 use capnp_wire::place::Place;
 
-/// Writes a call along its path, at a struct that is there and wide enough for its schema. Where the record machine does the call, whatever struct is owned there becomes what the call's edit makes of it, and nothing else changes. On the way a null pointer gets its default, else an empty struct; a narrower struct is widened to its schema's sizes, and a list whose elements' type is a struct becomes one of structs of its sizes, whatever its elements were.
+/// Writes a call along its path, at a struct that is there and wide enough for its schema. Where the record machine does the call, whatever struct is owned there becomes what the call's edit makes of it, and nothing else changes. On the way a null pointer gets its default, else an empty struct. A narrower struct is widened to its schema's sizes, and a list whose elements' type is a struct becomes one of structs of its sizes, whatever its elements were.
 ///
 /// The way says what the names of the path find, as far as it is known: no name is compared where that was found under the struct that stands there.
 ///
-/// Whether the call is done isn't looked at: a caller tests that on a reader first. A path that begins with no name or goes on by a name or an index where the schema has none, and a `get`, are refused with `WrongStep`; a name that the struct lacks with `FieldNotFound`; an index that is none of the list's with `IndexOutOfRange`; a struct on the way as by `struct_or_default`, and a list as by `get_list` and `get_struct_list` of `capnp_widening`; the last field as by `clear_field`, `begin_field`, `initn_slot` and `set_flat`, an element where the path ends as by `set_flat` and `init_element` of `capnp_dynamic_lists` and by `copy_content_from`, and a value that a field or an element doesn't take with `TypeMismatch`. After a refusal structs and lists on the way may be widened or have their defaults, the last field may be as before, and a group, or an element that is a struct, may have a part of the value; each segment of the message is still there, and no shorter.
+/// Whether the call is done isn't looked at: a caller tests that on a reader first. One that the record machine does is refused only by a size past a limit of the format, or by a refusal that the arena gave, with its kind. Others are refused so:
+///
+/// - `WrongStep`: the path begins with no name, or goes on by a name or an index where the schema has none; or the call is a `get`.
+/// - `FieldNotFound`: the struct lacks the name.
+/// - `IndexOutOfRange`: the list has no such index.
+/// - `TypeMismatch`: a field or an element doesn't take the value.
+/// - A struct on the way is refused as by `struct_or_default`, a list as by `get_list` and `get_struct_list` of `capnp_widening`.
+/// - The last field is refused as by `clear_field`, `begin_field`, `initn_slot` and `set_flat`. An element at the path's end is refused as by `set_flat` and `init_element` of `capnp_dynamic_lists` and by `copy_content_from`.
+///
+/// After a refusal structs and lists on the way may be widened or have their defaults. The last field may be as before, and a group, or an element that is a struct, may have a part of the value. Each segment of the message is still there, and no shorter.
 ///
 /// Each step takes stack.
 pub fn write_path<A: BuilderArena>(
@@ -71,6 +81,9 @@ pub fn write_path<A: BuilderArena>(
         (action_view action.now)) }
     ensures grows { GrowsAround (words_in (A.segments arena.old))
         (words_in (A.segments arena.new)) object }
+    ensures cause { IfErr result (λ e. WhereDone (words_in (A.segments arena.old)) object
+        schema.entry (map step_view path.now) (action_view action.now)
+        (IsSizeOrRefusal A.refuses e)) }
     ensures books { A.books arena.new ≡ A.books arena.old }
 {
     write_steps(arena, object, schema, path, way, action)
@@ -94,6 +107,9 @@ fn write_steps<A: BuilderArena>(
         (action_view action.now)) }
     ensures grows { GrowsAround (words_in (A.segments arena.old))
         (words_in (A.segments arena.new)) object }
+    ensures cause { IfErr result (λ e. WhereDoneWithin (words_in (A.segments arena.old)) object
+        schema.entry (map step_view path.now) (action_view action.now)
+        (IsSizeOrRefusal A.refuses e)) }
     ensures books { A.books arena.new ≡ A.books arena.old }
 {
     let Some((name, rest)) = first_name(path) else {
@@ -127,6 +143,9 @@ fn write_behind<A: BuilderArena>(
         (action_view action.now)) }
     ensures grows { GrowsAround (words_in (A.segments arena.old))
         (words_in (A.segments arena.new)) object }
+    ensures cause { IfErr result (λ e. WhereFieldDone (words_in (A.segments arena.old)) object
+        field.entry (map step_view rest.now) (action_view action.now)
+        (IsSizeOrRefusal A.refuses e)) }
     ensures books { A.books arena.new ≡ A.books arena.old }
 {
     let holder = field.parent().record();
@@ -168,6 +187,11 @@ fn write_value<A: BuilderArena>(
         (ty_of ty) d (map step_view path.now) (action_view action.now)) }
     ensures grows { GrowsBehind (words_in (A.segments arena.old))
         (words_in (A.segments arena.new)) (place_view slot) }
+    ensures cause { (d : Tree)
+        → (has_inside (ty_of ty) ≡ true → HoldsDefault (option_copied default.entry) d)
+        → IfErr result (λ e. WhereValueDone (words_in (A.segments arena.old)) (place_view slot)
+        (schema_of (nodes_of set.now)) (ty_of ty) d (map step_view path.now)
+        (action_view action.now) (IsSizeOrRefusal A.refuses e)) }
     ensures books { A.books arena.new ≡ A.books arena.old }
 {
     match ty.which() {
@@ -204,6 +228,10 @@ fn write_struct<A: BuilderArena>(
         (struct (id_of schema.entry)) d (map step_view path.now) (action_view action.now)) }
     ensures grows { GrowsBehind (words_in (A.segments arena.old))
         (words_in (A.segments arena.new)) (place_view slot) }
+    ensures cause { (d : Tree) → HoldsDefault (option_copied default.entry) d
+        → IfErr result (λ e. WhereValueDone (words_in (A.segments arena.old)) (place_view slot)
+        (schema_around schema.entry) (struct (id_of schema.entry)) d (map step_view path.now)
+        (action_view action.now) (IsSizeOrRefusal A.refuses e)) }
     ensures books { A.books arena.new ≡ A.books arena.old }
 {
     let inner = struct_or_default(arena, slot, struct_size(schema), default)?;
@@ -233,6 +261,10 @@ fn write_list<A: BuilderArena>(
         (list (ty_of element)) d (map step_view path.now) (action_view action.now)) }
     ensures grows { GrowsBehind (words_in (A.segments arena.old))
         (words_in (A.segments arena.new)) (place_view slot) }
+    ensures cause { (d : Tree) → HoldsDefault (option_copied default.entry) d
+        → IfErr result (λ e. WhereValueDone (words_in (A.segments arena.old)) (place_view slot)
+        (schema_of (nodes_of set.now)) (list (ty_of element)) d (map step_view path.now)
+        (action_view action.now) (IsSizeOrRefusal A.refuses e)) }
     ensures books { A.books arena.new ≡ A.books arena.old }
 {
     let Some((index, rest)) = first_index(path) else {
@@ -271,6 +303,9 @@ fn write_element<A: BuilderArena>(
         (map step_view rest.now) (action_view action.now)) }
     ensures grows { GrowsIn (words_in (A.segments arena.old)) (words_in (A.segments arena.new))
         list }
+    ensures cause { IfErr result (λ e. WhereElementDone (words_in (A.segments arena.old)) list
+        (schema_of (nodes_of set.now)) (ty_of ty) index (map step_view rest.now)
+        (action_view action.now) (IsSizeOrRefusal A.refuses e)) }
     ensures books { A.books arena.new ≡ A.books arena.old }
 {
     if rest.is_empty() {

@@ -1,5 +1,5 @@
 //! Values that calls set into the fields where their paths end.
-ghost use Rattle.std.specs.Prelude.{◌≡◌, ◌<◌, ◌^◌, [], IfSome, OnOk};
+ghost use Rattle.std.specs.Prelude.{◌≡◌, ◌<◌, ◌^◌, [], true, IfSome, IfErr, OnOk};
 ghost use Rattle.capnp_model.specs.Schemas.{width};
 ghost use Rattle.capnp_model.specs.Calls.{set_to, plain_content};
 ghost use Rattle.capnp_model.specs.Coverage.{Grows};
@@ -8,8 +8,9 @@ ghost use Rattle.capnp_queries.specs.Handles.{plain_of};
 ghost use Rattle.capnp_queries.specs.Structs.{shape_of_struct};
 ghost use Rattle.capnp_calls.specs.CallViews.{slot_value_view};
 ghost use Rattle.capnp_calls.specs.Contents.{bits_content};
+ghost use Rattle.capnp_copy.specs.Refusals.{IsSizeOrRefusal};
 ghost use Rattle.capnp_dynamic.specs.Edits.{IsThere, IsWide};
-ghost use Rattle.capnp_edits.specs.Written.{WritesField};
+ghost use Rattle.capnp_edits.specs.Written.{WritesField, WhereFieldTakes, is_single};
 
 use crate::messages::set_message;
 use capnp_calls::SlotValue;
@@ -60,6 +61,9 @@ fn set_plain<A: BuilderArena>(
         (words_in (A.segments arena.new)) object field.entry []
         (set_to (slot_value_view value.now))) }
     ensures grows { Grows (words_in (A.segments arena.old)) (words_in (A.segments arena.new)) }
+    ensures cause { is_single (slot_value_view value.now) ≡ true → IfErr result (λ e.
+        WhereFieldTakes field.entry (set_to (slot_value_view value.now))
+        (IsSizeOrRefusal A.refuses e)) }
     ensures books { A.books arena.new ≡ A.books arena.old }
 {
     let _said = field.get_proto();
@@ -101,6 +105,8 @@ pub(crate) fn set_value<A: BuilderArena>(
         (words_in (A.segments arena.new)) object field.entry []
         (set_to (slot_value_view value.now))) }
     ensures grows { Grows (words_in (A.segments arena.old)) (words_in (A.segments arena.new)) }
+    ensures cause { IfErr result (λ e. WhereFieldTakes field.entry
+        (set_to (slot_value_view value.now)) (IsSizeOrRefusal A.refuses e)) }
     ensures books { A.books arena.new ≡ A.books arena.old }
 {
     let _said = field.get_proto();

@@ -7,7 +7,7 @@ ghost use Rattle.capnp_dynamic.specs.Edits.{IsThere, IsWide};
 use crate::fault::Fault;
 use crate::marks;
 use crate::messages::{Segments, end, outcome, put_words, segments_of, small, stands};
-use crate::schemas::{NEW, OLD, root_place, root_text, schema_of, set_of, struct_at};
+use crate::schemas::{DEFAULTS, NEW, OLD, root_place, root_text, schema_of, set_of, struct_at};
 use capnp_copy::arena::{BuilderArena, Memory};
 use capnp_dynamic::init::Part;
 use capnp_dynamic_gets::dynamic_struct as gets;
@@ -84,6 +84,9 @@ fn edit<A: BuilderArena>(memory: &mut Memory<A>, part: Part<'_>, call: Call<'_>)
         }
         "initn" => object.initn(field, 2)?,
         "initn_named" => object.initn_named(call.field, 2)?,
+        "initn_and_get" => {
+            let _placed = gets::initn(&mut object, field, 2)?;
+        }
         "clear" => object.clear(field)?,
         "clear_named" => object.clear_named(call.field)?,
         "get" => {
@@ -136,9 +139,10 @@ fn told_of<A: BuilderArena>(
     memory: &mut Memory<A>,
     schema: StructSchema<'_>,
     call: Call<'_>,
+    old: &str,
 ) -> std::result::Result<String, Fault> {
     let alloc = rt.alloc();
-    put_words(memory, &hex::decode(alloc, OLD.as_bytes())?)?;
+    put_words(memory, &hex::decode(alloc, old.as_bytes())?)?;
     let source = hex::decode(alloc, NEW.as_bytes())?;
     let before = segments_of(alloc, &memory.arena)?;
     let done = called(rt, memory, schema, call, &source);
@@ -151,13 +155,23 @@ fn told_of<A: BuilderArena>(
     )
 }
 
-/// What a case tells.
-pub fn told(rt: &HostRuntime, call: &str) -> std::result::Result<String, Fault> {
+/// What a case tells, at a record of the struct of an id.
+fn told_at(rt: &HostRuntime, call: &str, id: u64, old: &str) -> std::result::Result<String, Fault> {
     let call = Call::new(call)?;
     let set = set_of(rt.alloc())?;
-    let schema = schema_of(&set, 1)?;
+    let schema = schema_of(&set, id)?;
     let mut message = small(rt.alloc());
-    let told = told_of(rt, &mut message.memory, schema, call);
+    let told = told_of(rt, &mut message.memory, schema, call, old);
     end(message);
     told
+}
+
+/// What a case tells.
+pub fn told(rt: &HostRuntime, call: &str) -> std::result::Result<String, Fault> {
+    told_at(rt, call, 1, OLD)
+}
+
+/// The same at a record whose fields have defaults, and are null.
+pub fn told_of_defaults(rt: &HostRuntime, call: &str) -> std::result::Result<String, Fault> {
+    told_at(rt, call, 5, DEFAULTS)
 }

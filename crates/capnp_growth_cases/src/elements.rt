@@ -13,12 +13,13 @@ use crate::dynamics::{Call, record};
 use crate::fault::Fault;
 use crate::marks;
 use crate::messages::{Segments, end, outcome, put_words, segments_of, small, stands, tree_of};
-use crate::schemas::{NEW, OLD, root_place, root_text, schema_of, set_of, struct_at};
+use crate::schemas::{DEFAULTS, NEW, OLD, root_place, root_text, schema_of, set_of, struct_at};
 use capnp_builders::data_builder::DataBuilder;
 use capnp_builders::list_builder::ListBuilder;
 use capnp_builders::text_builder::TextBuilder;
 use capnp_copy::arena::{BuilderArena, Memory};
 use capnp_dynamic::init::Part;
+use capnp_dynamic_gets::dynamic_list as gets;
 use capnp_dynamic_gets::dynamic_struct::get;
 use capnp_dynamic_lists::dynamic_list;
 use capnp_dynamic_values::any_pointer;
@@ -90,6 +91,14 @@ fn edit_element<A: BuilderArena, B: ReaderArena>(
     match call.verb {
         "set" => list.set(0, value),
         "init" => list.init(0, 2),
+        "get" => {
+            let _placed = gets::get(&mut list, 0)?;
+            Ok(())
+        }
+        "init_and_get" => {
+            let _placed = gets::init(&mut list, 0, 2)?;
+            Ok(())
+        }
         _ => Err(NO_CALL),
     }
 }
@@ -113,22 +122,40 @@ fn is_untyped<A: BuilderArena>(value: &Builder<'_, A>) -> bool
     matches!(value, Builder::AnyPointer(_))
 }
 
+/// Sets an untyped pointer to a struct or a list, or to what another such pointer names.
+fn set_untyped<A: BuilderArena, B: ReaderArena>(
+    pointer: &mut any_pointer::Builder<'_, A>,
+    value: Reader<'_, B>,
+) -> Result<()>
+    requires { IsPointerReady A.segments pointer.old }
+{
+    match value {
+        Reader::Struct(value) => pointer.set_as::<any_pointer::Owned, _>(value),
+        Reader::List(value) => pointer.set_as::<any_pointer::Owned, _>(value),
+        Reader::AnyPointer(value) => pointer.set_as::<any_pointer::Owned, _>(value),
+        _ => Err(NO_CALL),
+    }
+}
+
 /// A call at an untyped pointer.
-fn edit_untyped<A: BuilderArena>(
+fn edit_untyped<A: BuilderArena, B: ReaderArena>(
     memory: &mut Memory<A>,
     placed: Placed<'_>,
     call: Call<'_>,
+    value: Reader<'_, B>,
 ) -> Result<()>
     requires { IsPlaced (words_in (A.segments memory.old.arena)) placed }
 {
-    let value = Builder::new(memory, placed);
-    if !is_untyped(&value) {
+    let built = Builder::new(memory, placed);
+    if !is_untyped(&built) {
         return Err(NO_CALL);
     }
-    let mut pointer = untyped_of(value);
+    let mut pointer = untyped_of(built);
     match call.verb {
         "set_as_text" => pointer.set_as::<text::Owned, text::Reader<'_>>(text::Reader(b"hi")),
         "set_as_data" => pointer.set_as::<data::Owned, &[u8]>(&[1, 2, 3]),
+        "set_as_str" => pointer.set_as::<text::Owned, &str>("hi"),
+        "set_as_struct" | "set_as_list" | "set_as_pointer" => set_untyped(&mut pointer, value),
         "initn_as_text" => {
             let _text = pointer.initn_as::<TextBuilder<'_, A>>(2)?;
             Ok(())
@@ -149,45 +176,47 @@ fn edit_untyped<A: BuilderArena>(
     }
 }
 
-/// Makes a call between the marks, with a text as the value for texts, and a struct for structs.
-fn called<A: BuilderArena>(
+/// The field of a source that has the value for a call.
+fn source_of(call: Call<'_>) -> &'static str {
+    match (call.verb, call.field) {
+        ("set_as_list", _) => "list",
+        ("set_as_pointer", _) => "untyped",
+        (_, "list") => "text",
+        (_, "numbers") => "number",
+        _ => "struct",
+    }
+}
+
+/// Makes a call between the marks, with a value of a source.
+fn called<A: BuilderArena, B: ReaderArena>(
     rt: &HostRuntime,
     memory: &mut Memory<A>,
     schema: StructSchema<'_>,
     call: Call<'_>,
-    source: &[u8],
+    value: Reader<'_, B>,
 ) -> Result<()> {
-    let segments = [source];
-    let arena: Segments<'_> = ReaderArenaImpl::new(segments.as_slice(), 64);
-    let name = if call.field == "list" {
-        "text"
-    } else {
-        "struct"
-    };
-    let value = record(&arena, schema)?.get_named(name)?;
     let place = root_place(memory, schema)?;
     let placed = field_of(memory, Part { place, schema }, call.field)?;
     marks::begin(rt);
     let done = match placed {
         Placed::List(part) => edit_element(memory, part, call, value),
-        _ => edit_untyped(memory, placed, call),
+        _ => edit_untyped(memory, placed, call, value),
     };
     marks::end(rt);
     done
 }
 
 /// What a call at a message tells.
-fn told_of<A: BuilderArena>(
+fn told_of<A: BuilderArena, B: ReaderArena>(
     rt: &HostRuntime,
     memory: &mut Memory<A>,
     schema: StructSchema<'_>,
     call: Call<'_>,
+    value: Reader<'_, B>,
 ) -> std::result::Result<String, Fault> {
     let alloc = rt.alloc();
-    put_words(memory, &hex::decode(alloc, OLD.as_bytes())?)?;
-    let source = hex::decode(alloc, NEW.as_bytes())?;
     let before = segments_of(alloc, &memory.arena)?;
-    let done = called(rt, memory, schema, call, &source);
+    let done = called(rt, memory, schema, call, value);
     let is_standing = stands(&memory.arena, &before);
     let read = if call.field == "untyped" {
         tree_of(alloc, &memory.arena)?
@@ -197,13 +226,31 @@ fn told_of<A: BuilderArena>(
     outcome(alloc, done, is_standing, read.as_str())
 }
 
+/// The struct that has the field of a call, by its id, and the record that stands.
+fn record_of(call: Call<'_>) -> (u64, &'static str) {
+    match call.field {
+        "lists" | "numbers" => (5, DEFAULTS),
+        _ => (1, OLD),
+    }
+}
+
 /// What a case tells.
 pub fn told(rt: &HostRuntime, call: &str) -> std::result::Result<String, Fault> {
+    let alloc = rt.alloc();
     let call = Call::new(call)?;
-    let set = set_of(rt.alloc())?;
-    let schema = schema_of(&set, 1)?;
-    let mut message = small(rt.alloc());
-    let told = told_of(rt, &mut message.memory, schema, call);
+    let set = set_of(alloc)?;
+    let source = hex::decode(alloc, NEW.as_bytes())?;
+    let segments = [source.as_slice()];
+    let arena: Segments<'_> = ReaderArenaImpl::new(segments.as_slice(), 64);
+    let value = record(&arena, schema_of(&set, 1)?)?.get_named(source_of(call))?;
+    let (id, old) = record_of(call);
+    let schema = schema_of(&set, id)?;
+    let old = hex::decode(alloc, old.as_bytes())?;
+    let mut message = small(alloc);
+    let told = match put_words(&mut message.memory, &old) {
+        Ok(()) => told_of(rt, &mut message.memory, schema, call, value),
+        Err(_) => Err(Fault::Unmade),
+    };
     end(message);
     told
 }

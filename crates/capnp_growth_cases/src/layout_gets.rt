@@ -3,16 +3,13 @@
 use crate::fault::Fault;
 use crate::marks;
 use crate::messages::{end, outcome, put_words, segments_of, small, stands, tree_of};
-use crate::samples::{LIST_WORDS, OLD_STRUCT, OLD_STRUCTS, STRUCT_WORDS, TEXT_WORDS};
+use crate::samples::{LIST_WORDS, NULL, OLD_STRUCT, OLD_STRUCTS, STRUCT_WORDS, TEXT_WORDS};
 use capnp_builders::pointer_builder::PointerBuilder;
 use capnp_copy::arena::{BuilderArena, Memory};
 use capnp_units::errors::{Error, Result};
 use capnp_units::kinds::ErrorKind;
 use capnp_units::sizes::{ElementSize, StructSize};
 use capnp_wire::place::{ROOT, has_words};
-
-/// A null root.
-const NULL: &str = "0000000000000000";
 
 /// A data word and a pointer.
 const SIZE: StructSize = StructSize {

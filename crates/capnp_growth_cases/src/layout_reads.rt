@@ -3,7 +3,7 @@
 use crate::fault::Fault;
 use crate::marks;
 use crate::messages::{Segments, end, put_words, roomy};
-use crate::samples::{LIST, OLD_STRUCT, STRUCT};
+use crate::samples::{LIST, LIST_WORDS, NULL, OLD_STRUCT, STRUCT, STRUCT_WORDS, TEXT_WORDS};
 use capnp_builders::pointer_builder::PointerBuilder;
 use capnp_builders::struct_builder::StructBuilder;
 use capnp_copy::arena::{BuilderArena, Memory};
@@ -28,15 +28,21 @@ struct Seen {
     words: u64,
     is_null: bool,
     is_canonical: bool,
+    is_canonical_from_it_on: bool,
+}
+
+/// A word of the first segment.
+fn at(position: usize) -> Place {
+    Place {
+        segment: 0,
+        position,
+    }
 }
 
 /// Reads a struct by each get.
 fn read_struct<B: ReaderArena>(root: PointerReader<'_, B>) -> Result<Seen> {
     let mut unlimited = ReadLimiter::new(None);
-    let mut head = Place {
-        segment: 0,
-        position: 1,
-    };
+    let (mut head, mut read_head, mut pointer_head) = (at(1), at(1), at(3));
     let words = root.total_size(&mut unlimited)?.word_count;
     let object = root.get_struct(&mut unlimited, None)?;
     let text = object.get_pointer_field(0).get_text(&mut unlimited, None)?;
@@ -51,6 +57,11 @@ fn read_struct<B: ReaderArena>(root: PointerReader<'_, B>) -> Result<Seen> {
         words: words.min(size.word_count.saturating_add(1)),
         is_null: object.is_pointer_field_null(0) || root.is_null(),
         is_canonical: root.is_canonical(&mut unlimited, &mut head)?,
+        is_canonical_from_it_on: object.is_canonical(
+            &mut unlimited,
+            &mut read_head,
+            &mut pointer_head,
+        )?,
     })
 }
 
@@ -66,6 +77,17 @@ fn read_list<B: ReaderArena>(root: PointerReader<'_, B>) -> Result<usize> {
         count = count.saturating_add(data.len());
     }
     Ok(count)
+}
+
+/// Reads a null pointer that has defaults: a struct's number, how many elements a list has, and the bytes of a text and of data.
+fn read_defaults<B: ReaderArena>(root: PointerReader<'_, B>) -> Result<(u16, u32, usize, usize)> {
+    let mut unlimited = ReadLimiter::new(None);
+    let object = root.get_struct(&mut unlimited, Some(&STRUCT_WORDS))?;
+    let list = root.get_list(&mut unlimited, ElementSize::Pointer, Some(&LIST_WORDS))?;
+    let text = root.get_text(&mut unlimited, Some(&TEXT_WORDS))?;
+    let data = root.get_data(&mut unlimited, Some(&TEXT_WORDS))?;
+    let number = object.get_data_field::<u16>(0);
+    Ok((number, list.len(), text.len(), data.len()))
 }
 
 /// What is told where a struct isn't there.
@@ -95,6 +117,36 @@ fn set_flag<A: BuilderArena>(memory: &mut Memory<A>, place: StructPlace) -> Resu
     Ok(object.get_data_field::<u16>(0))
 }
 
+/// Sets the number as that of a field with the default 1. What lies there then, and what is read.
+fn set_masked_number<A: BuilderArena>(
+    memory: &mut Memory<A>,
+    place: StructPlace,
+) -> Result<(u16, u16)> {
+    let is_near = place.data_words > 0 && place.start.position < 1 << 60;
+    if !is_near || !has_words(&memory.arena, place.start, place.data_words as usize) {
+        return Err(NOT_THERE);
+    }
+    let mut object = StructBuilder { memory, place };
+    object.set_data_field_mask::<u16>(0, 8, 1);
+    let there = object.get_data_field::<u16>(0);
+    Ok((there, object.get_data_field_mask::<u16>(0, 1)))
+}
+
+/// The same of a bit, with the default true.
+fn set_masked_flag<A: BuilderArena>(
+    memory: &mut Memory<A>,
+    place: StructPlace,
+) -> Result<(bool, bool)> {
+    let is_near = place.data_words > 0 && place.start.position < 1 << 60;
+    if !is_near || !has_words(&memory.arena, place.start, place.data_words as usize) {
+        return Err(NOT_THERE);
+    }
+    let mut object = StructBuilder { memory, place };
+    object.set_bool_field_mask(16, true, true);
+    let there = object.get_bool_field(16);
+    Ok((there, object.get_bool_field_mask(16, true)))
+}
+
 /// Clears its pointer. Whether that is null then.
 fn clear<A: BuilderArena>(memory: &mut Memory<A>, place: StructPlace) -> Result<bool> {
     if place.pointers == 0 || place.start.position >= 1 << 60 {
@@ -105,15 +157,31 @@ fn clear<A: BuilderArena>(memory: &mut Memory<A>, place: StructPlace) -> Result<
     Ok(pointer.is_null())
 }
 
-/// Edits a struct of a message. The number and whether the pointer is null then.
-fn edit<A: BuilderArena>(memory: &mut Memory<A>, place: StructPlace) -> Result<(u16, bool)> {
+/// What lies in a struct, and what is read, behind changes.
+#[derive(Clone, Copy, Debug)]
+struct Changed {
+    number: u16,
+    masked: (u16, u16),
+    flag: (bool, bool),
+    is_null: bool,
+}
+
+/// Edits a struct of a message.
+fn edit<A: BuilderArena>(memory: &mut Memory<A>, place: StructPlace) -> Result<Changed> {
     set_number(memory, place)?;
     let number = set_flag(memory, place)?;
-    Ok((number, clear(memory, place)?))
+    let masked = set_masked_number(memory, place)?;
+    let flag = set_masked_flag(memory, place)?;
+    Ok(Changed {
+        number,
+        masked,
+        flag,
+        is_null: clear(memory, place)?,
+    })
 }
 
 /// The same of the struct at the root, which is wide enough.
-fn edit_root<A: BuilderArena>(memory: &mut Memory<A>) -> Result<(u16, bool)> {
+fn edit_root<A: BuilderArena>(memory: &mut Memory<A>) -> Result<Changed> {
     if !has_words(&memory.arena, ROOT, 1) {
         return Err(Error::from(ErrorKind::OutOfBounds));
     }
@@ -139,28 +207,44 @@ fn edited(rt: &HostRuntime) -> std::result::Result<String, Fault> {
     marks::end(rt);
     end(message);
     put?;
-    let (number, is_null) = edited?;
-    Ok(format!(in alloc; "number {number}, null {is_null}")?)
+    Ok(format!(in alloc; "{:?}", edited?)?)
+}
+
+/// What reads at the root of a segment tell.
+fn told_at<B: ReaderArena>(
+    rt: &HostRuntime,
+    root: PointerReader<'_, B>,
+    call: &str,
+) -> std::result::Result<String, Fault> {
+    let alloc = rt.alloc();
+    marks::begin(rt);
+    if call == "struct" {
+        let seen = read_struct(root);
+        marks::end(rt);
+        return Ok(format!(in alloc; "{:?}", seen?)?);
+    }
+    if call == "defaults" {
+        let read = read_defaults(root);
+        marks::end(rt);
+        let (number, elements, text, data) = read?;
+        return Ok(format!(in alloc; "{number}, {elements}, {text} and {data} bytes")?);
+    }
+    let count = read_list(root);
+    marks::end(rt);
+    Ok(format!(in alloc; "{} bytes", count?)?)
 }
 
 /// What a case tells.
 pub fn told(rt: &HostRuntime, call: &str) -> std::result::Result<String, Fault> {
     let alloc = rt.alloc();
-    if call == "edits" {
-        return edited(rt);
-    }
-    let text = if call == "struct" { STRUCT } else { LIST };
+    let text = match call {
+        "edits" => return edited(rt),
+        "struct" => STRUCT,
+        "defaults" => NULL,
+        _ => LIST,
+    };
     let bytes = hex::decode(alloc, text.as_bytes())?;
     let segments = [bytes.as_slice()];
     let arena: Segments<'_> = ReaderArenaImpl::new(segments.as_slice(), 64);
-    if call == "struct" {
-        marks::begin(rt);
-        let seen = read_struct(PointerReader::get_root_from_arena(&arena)?);
-        marks::end(rt);
-        return Ok(format!(in alloc; "{:?}", seen?)?);
-    }
-    marks::begin(rt);
-    let count = read_list(PointerReader::get_root_from_arena(&arena)?);
-    marks::end(rt);
-    Ok(format!(in alloc; "{} bytes", count?)?)
+    told_at(rt, PointerReader::get_root_from_arena(&arena)?, call)
 }

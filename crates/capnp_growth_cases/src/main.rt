@@ -7,6 +7,7 @@ mod dynamics;
 mod elements;
 mod fault;
 mod files;
+mod large;
 mod layout;
 mod layout_gets;
 mod layout_reads;
@@ -15,11 +16,13 @@ mod messages;
 mod reading;
 mod relays;
 mod roots;
+mod runs;
 mod samples;
 mod schema_reads;
 mod schemas;
 mod shows;
 mod texts;
+mod typed;
 mod writing;
 
 use fault::Fault;
@@ -32,14 +35,19 @@ fn told_with_memory(rt: &HostRuntime, part: &str, call: &str) -> Result<String, 
         "layout" => layout::told(rt, call),
         "layout_get" => layout_gets::told(rt, call),
         "schema" => dynamics::told(rt, call),
+        "default" => dynamics::told_of_defaults(rt, call),
         "element" | "untyped" => elements::told(rt, call),
         "root" => roots::told(rt, call),
+        "typed" => typed::told(rt, call),
+        "words" => typed::told_of_words(rt, call),
         "read" => reading::told(rt, call),
         "write" => writing::told(rt, call),
         "make" => texts::told(rt, call),
         "file" => files::told(rt, call),
         "record" => shows::told(rt, call),
+        "run" => runs::told(rt, call),
         "relay" => relays::told(rt, call),
+        "large" => large::told(rt, call),
         _ => Err(Fault::NoCase),
     }
 }
@@ -49,8 +57,9 @@ fn told_without_memory(rt: &HostRuntime, part: &str, call: &str) -> Result<Strin
     match part {
         "layout" => layout_reads::told(rt, call),
         "schema" => dynamics::told(rt, call),
-        "untyped" => elements::told(rt, call),
+        "element" | "untyped" => elements::told(rt, call),
         "root" => roots::read_back(rt),
+        "typed" => typed::read(rt),
         "read" => reading::lent(rt, call),
         "write" => writing::lent(rt),
         "record" => schema_reads::told(rt, call),

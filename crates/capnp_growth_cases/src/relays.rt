@@ -1,10 +1,11 @@
 //! Runs of the relay, and then of the rest of the input.
-ghost use Rattle.std.specs.Prelude.{◌≡◌, ◌+◌, ◌*◌, length};
 ghost use Rattle.capnp_calls.specs.Roots.{IsRoot};
 
 use crate::fault::Fault;
 use crate::marks;
-use capnp_between::between::{BetweenFault, relay_between, relay_between_with};
+use capnp_between::between::{
+    BetweenFault, relay_between, relay_between_pausing, relay_between_with,
+};
 use capnp_calls::Call;
 use capnp_compatible::renamings::Renamings;
 use capnp_files::renames_file::renames_file;
@@ -13,7 +14,8 @@ use capnp_program::version::Version;
 use capnp_queries::structs::StructSchema;
 use capnp_relay_streams::ends::Counts;
 use capnp_relay_streams::options::RelayOptions;
-use capnp_relay_streams::relay::relay;
+use capnp_relay_streams::pauses::NoPause;
+use capnp_relay_streams::relay::{relay, relay_pausing};
 use std::alloc::Global;
 
 /// P (1): a UInt16, t Text.
@@ -46,6 +48,9 @@ const PACKED: [u8; 8] = [0x10, 1, 1, 3, 0x10, 1, 0, 0];
 
 /// What the region holds before a run.
 const DIRT: u8 = 0xff;
+
+/// The bytes of a region that is too short for each message here.
+const SHORT: usize = 8;
 
 /// The bytes that the output, and the log, have room for beforehand.
 const ROOM: usize = 1000;
@@ -80,10 +85,10 @@ fn words_in(alloc: Global, form: &str) -> Result<Vec<String>, Fault> {
 }
 
 /// The calls and the limits of a run.
-pub fn settings(alloc: Global, form: &str) -> Result<Settings, Fault> {
+pub fn settings(alloc: Global, form: &str, calls: &str) -> Result<Settings, Fault> {
     let words = words_in(alloc, form)?;
     let schema = Some(SCHEMA.as_bytes());
-    let (calls, newer) = (Some(CALLS.as_bytes()), Some(NEWER.as_bytes()));
+    let (calls, newer) = (Some(calls.as_bytes()), Some(NEWER.as_bytes()));
     match Settings::new(alloc, &words, schema, calls, newer, None) {
         Ok(settings) => Ok(settings),
         Err(_) => Err(Fault::Unmade),
@@ -111,12 +116,29 @@ enum Way {
     Between,
     /// Between versions of which the newer has another name for a field.
     Renamed,
+    /// Alone and between them, with a region that is too short.
+    Pausing,
+    BetweenPausing,
 }
 
 impl Way {
     /// The newer schema.
     fn newer(self) -> &'static str {
-        if self == Way::Renamed { RENAMED } else { NEWER }
+        match self {
+            Way::Renamed | Way::BetweenPausing => RENAMED,
+            _ => NEWER,
+        }
+    }
+
+    /// The call, and its form, of the name of a case.
+    fn of(name: &str) -> (Way, &str) {
+        match name.split_once('.') {
+            Some(("between", form)) => (Way::Between, form),
+            Some(("renamed", form)) => (Way::Renamed, form),
+            Some(("pausing", form)) => (Way::Pausing, form),
+            Some(("between_pausing", form)) => (Way::BetweenPausing, form),
+            _ => (Way::Alone, name),
+        }
     }
 }
 
@@ -130,18 +152,19 @@ struct Given<'a> {
     options: RelayOptions,
 }
 
-/// How a run of the relay ends.
-fn relayed(
-    alloc: Global,
+/// How a call ended, and the byte that its region holds everywhere then, if it is one.
+type Ended = (std::result::Result<Counts, BetweenFault>, Option<u8>);
+
+/// How a run of the relay ends that has a region which is too short, of which the growths between the marks are counted.
+fn paused(
+    rt: &HostRuntime,
     way: Way,
     given: Given<'_>,
     source: &mut &[u8],
     out: &mut Vec<u8>,
     log: &mut Vec<u8>,
-    region: &mut [u8],
-) -> Result<Counts, BetweenFault>
-    requires region { length region.old ≡ 8 * (given.options.bounds.words + 1) }
-    requires root { IsRoot given.root }
+) -> Result<Ended, Fault>
+    requires { IsRoot given.root }
 {
     let Given {
         root,
@@ -150,53 +173,105 @@ fn relayed(
         calls,
         options,
     } = given;
-    match way {
-        Way::Alone => match relay(alloc, source, out, log, root, calls, options, region) {
+    let mut region = vec![in rt.alloc(); DIRT; SHORT]?;
+    let into = &mut region;
+    marks::begin(rt);
+    let end = if way == Way::BetweenPausing {
+        relay_between_pausing::<&[u8], Vec<u8>, Vec<u8>, NoPause>(
+            rt.alloc(),
+            source,
+            out,
+            log,
+            root,
+            newer,
+            renamings,
+            calls,
+            options,
+            into,
+        )
+    } else {
+        match relay_pausing::<&[u8], Vec<u8>, Vec<u8>, NoPause>(
+            rt.alloc(),
+            source,
+            out,
+            log,
+            root,
+            calls,
+            options,
+            into,
+        ) {
+            Ok(counts) => Ok(counts),
+            Err(fault) => Err(BetweenFault::Relay(fault)),
+        }
+    };
+    marks::end(rt);
+    Ok((end, byte_of(&region)))
+}
+
+/// The same of a run with the whole region.
+fn relayed(
+    rt: &HostRuntime,
+    way: Way,
+    given: Given<'_>,
+    source: &mut &[u8],
+    out: &mut Vec<u8>,
+    log: &mut Vec<u8>,
+) -> Result<Ended, Fault>
+    requires { IsRoot given.root }
+{
+    let Given {
+        root,
+        newer,
+        renamings,
+        calls,
+        options,
+    } = given;
+    let alloc = rt.alloc();
+    let mut region = vec![in alloc; DIRT; options.region_len()]?;
+    let into = &mut region;
+    marks::begin(rt);
+    let end = match way {
+        Way::Between => {
+            relay_between(alloc, source, out, log, root, newer, calls, options, into)
+        }
+        Way::Renamed => relay_between_with(
+            alloc, source, out, log, root, newer, renamings, calls, options, into,
+        ),
+        _ => match relay(alloc, source, out, log, root, calls, options, into) {
             Ok(counts) => Ok(counts),
             Err(fault) => Err(BetweenFault::Relay(fault)),
         },
-        Way::Between => {
-            relay_between(alloc, source, out, log, root, newer, calls, options, region)
-        }
-        Way::Renamed => relay_between_with(
-            alloc, source, out, log, root, newer, renamings, calls, options, region,
-        ),
-    }
+    };
+    marks::end(rt);
+    Ok((end, byte_of(&region)))
 }
 
-/// A run of the relay on messages, of which the growths between the marks are counted.
+/// A run of the relay on messages.
 fn ran(rt: &HostRuntime, form: &str, way: Way, mut source: &[u8]) -> Result<Left, Fault> {
     let alloc = rt.alloc();
-    let settings = settings(alloc, form)?;
+    let settings = settings(alloc, form, CALLS)?;
     let (older, newer) = (version(alloc, SCHEMA)?, version(alloc, way.newer())?);
     let renamings = renamings(alloc)?;
-    let options = settings.options;
     let given = Given {
         root: older.root(),
         newer: newer.root(),
         renamings: &renamings,
         calls: settings.calls.as_slice(),
-        options,
+        options: settings.options,
     };
     let mut out = Vec::with_capacity(alloc, ROOM)?;
     let mut log = Vec::with_capacity(alloc, ROOM)?;
-    let mut region = vec![in alloc; DIRT; options.region_len()]?;
-    marks::begin(rt);
-    let end = relayed(
-        alloc,
-        way,
-        given,
-        &mut source,
-        &mut out,
-        &mut log,
-        &mut region,
-    );
-    marks::end(rt);
+    let (end, region) = match way {
+        Way::Pausing | Way::BetweenPausing => {
+            paused(rt, way, given, &mut source, &mut out, &mut log)?
+        }
+        _ => relayed(rt, way, given, &mut source, &mut out, &mut log)?,
+    };
     Ok(Left {
         end,
         out,
         log,
-        region: byte_of(&region),
+        region,
     })
 }
 
@@ -237,11 +312,7 @@ fn told_of(alloc: Global, left: &Left) -> Result<(usize, String), Fault> {
 /// What a case tells: a run, and a run on the messages that it didn't answer.
 pub fn told(rt: &HostRuntime, call: &str) -> Result<String, Fault> {
     let alloc = rt.alloc();
-    let (way, form) = match call.split_once('.') {
-        Some(("between", form)) => (Way::Between, form),
-        Some(("renamed", form)) => (Way::Renamed, form),
-        _ => (Way::Alone, call),
-    };
+    let (way, form) = Way::of(call);
     let messages: &[u8] = if form.starts_with("packed") {
         &PACKED
     } else {

@@ -13,8 +13,8 @@ use capnp_message::message::{
     AllocationStrategy, Builder, DEFAULT_READER_OPTIONS, HeapAllocator, Reader,
     ScratchSpaceHeapAllocator, SegmentArray, SingleSegmentAllocator,
 };
-use capnp_message::placed::{DataPlace, PlacedStruct, TextPlace};
-use capnp_text::text;
+use capnp_message::placed::{DataPlace, PlacedStruct, PointerPlace, TextPlace};
+use capnp_text::{data, text};
 use capnp_units::errors::{Error, Result};
 use capnp_units::kinds::ErrorKind;
 use capnp_units::limiter::ReadLimiter;
@@ -55,6 +55,8 @@ fn make<L: Allocator>(
     match call {
         "allocate_root" => builder.allocate_root(),
         "set_root" => builder.set_root::<text::Owned, &str>("hi"),
+        "set_root_text" => builder.set_root::<text::Owned, text::Reader<'_>>(text::Reader(b"hi")),
+        "set_root_data" => builder.set_root::<data::Owned, &[u8]>(&[1, 2, 3]),
         "init_root" => {
             let _record = builder.init_root::<Record>()?;
             Ok(())
@@ -71,6 +73,10 @@ fn make<L: Allocator>(
             let _record = builder.get_root::<Record>()?;
             Ok(())
         }
+        "get_root_pointer" => {
+            let _pointer = builder.get_root::<PointerPlace>()?;
+            Ok(())
+        }
         "set_root_canonical" => {
             let segments: [&[u8]; 1] = [words];
             let source = Reader::new(SegmentArray::new(&segments), DEFAULT_READER_OPTIONS);
@@ -82,7 +88,7 @@ fn make<L: Allocator>(
 }
 
 /// What is seen of a message that had no segment.
-fn seen<A: ReaderArena>(
+pub fn seen<A: ReaderArena>(
     alloc: Global,
     arena: &A,
     done: Result<()>,

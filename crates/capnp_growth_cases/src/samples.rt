@@ -2,6 +2,9 @@
 
 use capnp_units::sizes::Word;
 
+/// A null root.
+pub const NULL: &str = "0000000000000000";
+
 /// The text `old`.
 pub const OLD_TEXT: &str = "01000000220000006f6c640000000000";
 

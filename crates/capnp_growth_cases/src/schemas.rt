@@ -23,8 +23,8 @@ use capnp_wire::arena::ReaderArena;
 use capnp_wire::place::{ROOT, has_words};
 use std::alloc::Global;
 
-/// S (1), of a field of each sort, with a union, a group (3) and a default; P (2): a UInt16, t Text; and the enum C (4).
-const SCHEMA: &str = r#"[
+/// S (1), of a field of each sort, with a union, a group (3) and a default; P (2): a UInt16, t Text; the enum C (4); and D (5), of defaults and lists.
+pub const SCHEMA: &str = r#"[
     {"id":1,"name":"S","data":2,"pointers":10,"union":3,"fields":[
         {"name":"number","type":"UInt16","offset":0},
         {"name":"flag","type":"Bool","offset":16},
@@ -47,7 +47,16 @@ const SCHEMA: &str = r#"[
         {"name":"first","type":"Text","offset":8},
         {"name":"count","type":"UInt16","offset":6},
         {"name":"second","type":"Text","offset":9}]},
-    {"id":4,"name":"C","enumerants":["red","green"]}]"#;
+    {"id":4,"name":"C","enumerants":["red","green"]},
+    {"id":5,"name":"D","data":0,"pointers":6,"fields":[
+        {"name":"text","type":"Text","offset":0,"default":"hi"},
+        {"name":"data","type":"Data","offset":1,"default":"010203"},
+        {"name":"list","type":{"list":"Text"},"offset":2,
+            "default":"01000000160000000500000012000000050000001200000061000000000000006200000000000000"},
+        {"name":"structs","type":{"list":{"struct":2}},"offset":3,
+            "default":"010000000f00000004000000010000000500000000000000"},
+        {"name":"lists","type":{"list":{"list":{"struct":2}}},"offset":4},
+        {"name":"numbers","type":{"list":"UInt16"},"offset":5}]}]"#;
 
 /// `(number = 5, flag = true, colour = green, plain = 3, text = "old", data = 0x"0102", list = ["a"], structs = [(a = 1)], untyped = <opaque pointer>, group = (count = 4), nothing = ())`.
 pub const OLD: &str =
@@ -56,6 +65,11 @@ pub const OLD: &str =
     0000000000000000000000000000000000000000000000006f6c6400000000000102000000000000\
     01000000120000006100000000000000040000000100010001000000000000000000000000000000\
     7800000000000000";
+
+/// `(lists = [[(a = 5)]], numbers = [1, 2])`, in which the structs are a list of numbers.
+pub const DEFAULTS: &str = "0000000000000600000000000000000000000000000000000000000000000000\
+    0000000000000000050000000e0000000900000013000000010000000b0000000500000000000000\
+    0100020000000000";
 
 /// A record of other values, in which each field that is null in the old one is present, and the other member of the union is active.
 pub const NEW: &str =

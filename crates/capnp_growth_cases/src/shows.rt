@@ -8,7 +8,7 @@ use crate::dynamics::record;
 use crate::fault::Fault;
 use crate::marks;
 use crate::messages::{Segments, end, outcome, put_words, refusal, small, tree_of};
-use crate::relays::{NEWER, RENAMED, SCHEMA, renamings, settings, version};
+use crate::relays::{CALLS, NEWER, RENAMED, SCHEMA, renamings, settings, version};
 use crate::schemas::{NEW, root_place, schema_of, set_of, struct_at};
 use capnp_calls::Call;
 use capnp_calls::reply::Reply;
@@ -20,15 +20,16 @@ use capnp_copy::arena::{BuilderArena, Memory};
 use capnp_copy::laws_of_arenas::arenas_are_deep;
 use capnp_dynamic::init::Part;
 use capnp_message::message::{DEFAULT_READER_OPTIONS, HeapAllocator};
-use capnp_print::stringify::print;
+use capnp_print::stringify::{print, print_field};
 use capnp_queries::structs::StructSchema;
 use capnp_run::builder::run;
 use capnp_run::fault::RunFault;
 use capnp_show::show::{ShowFault, show};
 use capnp_units::errors::{Error, Result};
 use capnp_units::kinds::ErrorKind;
+use capnp_values::dynamic_struct;
 use capnp_values::dynamic_value::Reader;
-use capnp_wire::arena::ReaderArenaImpl;
+use capnp_wire::arena::{ReaderArena, ReaderArenaImpl};
 use std::alloc::Global;
 
 /// A frame of a struct of the number 0 and the text `hi`.
@@ -50,7 +51,7 @@ fn answered<A: BuilderArena>(
     requires root { IsRoot schema }
 {
     let alloc = rt.alloc();
-    let settings = settings(alloc, "framed")?;
+    let settings = settings(alloc, "framed", CALLS)?;
     let place = root_place(memory, schema)?;
     let mut root = struct_at(memory, Part { place, schema });
     marks::begin(rt);
@@ -84,21 +85,49 @@ fn ran(rt: &HostRuntime) -> std::result::Result<String, Fault> {
     Ok(format!(in alloc; "{}; {}", told?.as_str(), tree?.as_str())?)
 }
 
-/// Prints a record behind what a vector holds, which stands where memory is refused.
-fn printed(rt: &HostRuntime) -> std::result::Result<String, Fault> {
+/// Prints a record, or a field of it, behind what a vector holds.
+fn print_by<A: ReaderArena>(
+    record: dynamic_struct::Reader<'_, A>,
+    call: &str,
+    text: &mut Vec<u8>,
+) -> Result<()> {
+    match call {
+        "print_field" => {
+            let field = record.get_schema().get_field_by_name("structs")?;
+            print_field(record, field, false, text)
+        }
+        _ => print(Reader::Struct(record), call == "print_alternate", text),
+    }
+}
+
+/// What the printing of a record behind what a vector holds tells: that stands where memory is refused. Lines are told in quotes.
+fn printed_by<A: ReaderArena>(
+    rt: &HostRuntime,
+    record: dynamic_struct::Reader<'_, A>,
+    call: &str,
+) -> std::result::Result<String, Fault> {
+    let alloc = rt.alloc();
+    let mut text = b"is ".to_vec(alloc)?;
+    marks::begin(rt);
+    let done = print_by(record, call, &mut text);
+    marks::end(rt);
+    let is_standing = text.as_slice() == b"is ".as_slice();
+    let text = str::from_utf8(&text).ok().ok_or(Fault::Unmade)?;
+    if call == "print_alternate" {
+        let lines = format!(in alloc; "{text:?}")?;
+        return outcome(alloc, done, is_standing, lines.as_str());
+    }
+    outcome(alloc, done, is_standing, text)
+}
+
+/// The same of a record of each sort of field.
+fn printed(rt: &HostRuntime, call: &str) -> std::result::Result<String, Fault> {
     let alloc = rt.alloc();
     let set = set_of(alloc)?;
     let bytes = hex::decode(alloc, NEW.as_bytes())?;
     let segments = [bytes.as_slice()];
     let arena: Segments<'_> = ReaderArenaImpl::new(segments.as_slice(), 64);
-    let value = Reader::Struct(record(&arena, schema_of(&set, 1)?)?);
-    let mut text = b"is ".to_vec(alloc)?;
-    marks::begin(rt);
-    let done = print(value, false, &mut text);
-    marks::end(rt);
-    let is_standing = text.as_slice() == b"is ".as_slice();
-    let text = str::from_utf8(&text).ok().ok_or(Fault::Unmade)?;
-    outcome(alloc, done, is_standing, text)
+    printed_by(rt, record(&arena, schema_of(&set, 1)?)?, call)
 }
 
 /// Shows a framed message of the same schema as the relay's.
@@ -146,7 +175,7 @@ fn told_of_versions(rt: &HostRuntime, call: &str) -> std::result::Result<String,
         NEWER
     };
     let (older, newer) = (version(alloc, SCHEMA)?, version(alloc, file)?);
-    let settings = settings(alloc, "framed")?;
+    let settings = settings(alloc, "framed", CALLS)?;
     let renamings = renamings(alloc)?;
     let older = Root {
         set: older.root().set(),
@@ -169,7 +198,7 @@ fn told_of_versions(rt: &HostRuntime, call: &str) -> std::result::Result<String,
 pub fn told(rt: &HostRuntime, call: &str) -> std::result::Result<String, Fault> {
     match call {
         "run" => ran(rt),
-        "print" => printed(rt),
+        "print" | "print_alternate" | "print_field" => printed(rt, call),
         "show" => shown(rt),
         _ => told_of_versions(rt, call),
     }

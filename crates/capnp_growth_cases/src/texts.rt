@@ -4,8 +4,12 @@ use crate::fault::Fault;
 use crate::marks;
 use crate::messages::refusal;
 use crate::samples::STRUCT;
-use capnp_message::message::{DEFAULT_READER_OPTIONS, Reader, SegmentArray};
+use capnp_message::message::{
+    Builder, DEFAULT_READER_OPTIONS, HeapAllocator, Reader, SegmentArray, with_message,
+};
+use capnp_stream::adapters::Source;
 use capnp_stream::segments::{SegmentLengthsBuilder, words_of};
+use capnp_stream::traits::BufRead;
 use capnp_text::text;
 use capnp_units::errors::{Error, Result};
 use capnp_units::kinds::ErrorKind;
@@ -68,6 +72,20 @@ fn copy(alloc: Global, is_built: bool) -> Result<usize> {
     }
 }
 
+/// The bytes that a reader shows through a buffered source.
+fn show(alloc: Global) -> Result<usize> {
+    let mut source = Source::new(alloc, b"hi".as_slice())?;
+    Ok(source.fill_buf()?.len())
+}
+
+/// The words of a message that is built by a function.
+fn build(alloc: Global) -> Result<usize> {
+    with_message(alloc, |message: &mut Builder<HeapAllocator>| {
+        message.set_root::<text::Owned, &str>("hi")?;
+        Ok(message.size_in_words())
+    })
+}
+
 /// The call of a name, between the marks. How many words or bytes it answers.
 fn called(rt: &HostRuntime, call: &str, words: &[u8]) -> Result<usize> {
     let alloc = rt.alloc();
@@ -80,6 +98,8 @@ fn called(rt: &HostRuntime, call: &str, words: &[u8]) -> Result<usize> {
         "canonicalize" => canonicalize(alloc, words),
         "reader_to_string" => copy(alloc, false),
         "builder_to_string" => copy(alloc, true),
+        "source" => show(alloc),
+        "message" => build(alloc),
         _ => Err(Error::from(ErrorKind::FieldNotFound)),
     };
     marks::end(rt);

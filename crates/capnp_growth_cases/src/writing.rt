@@ -18,7 +18,12 @@ const NO_CALL: Error = Error {
     kind: ErrorKind::FieldNotFound,
 };
 
-/// Writes a message of two segments by a call.
+/// Words that are written alone.
+const WORDS: [u8; 24] = [
+    0, 0, 0x0c, 0, 0, 0x22, 0, 0, 0, 0, 0, 0, 0, 0, 0, 0, 0, 0, 0, 0, 0, 0, 0, 0,
+];
+
+/// Writes a message of two segments by a call, or words.
 fn write(
     alloc: Global,
     call: &str,
@@ -33,6 +38,9 @@ fn write(
         "framed" => serialize::write_message(alloc, out, message),
         "framed_segments" => serialize::write_message_segments(alloc, out, message),
         "packed" => serialize_packed::write_message(alloc, out, message),
+        "packed_segments" => serialize_packed::write_message_segments(alloc, out, message),
+        "packed_segment" => serialize_packed::write_segment(out, &WORDS),
+        "packed_words" => PackedWrite { inner: out }.write_all(&WORDS),
         _ => Err(NO_CALL),
     }
 }
@@ -114,13 +122,10 @@ pub fn told(rt: &HostRuntime, call: &str) -> std::result::Result<String, Fault> 
 
 /// What a case tells that writes packed words into a slice, which takes no memory.
 pub fn lent(rt: &HostRuntime) -> std::result::Result<String, Fault> {
-    let mut words = [0; 24];
-    words[2] = 0x0c;
-    words[5] = 0x22;
     let mut room = [0; 32];
     let mut rest = room.as_mut_slice();
     marks::begin(rt);
-    let done = PackedWrite { inner: &mut rest }.write_all(&words);
+    let done = PackedWrite { inner: &mut rest }.write_all(&WORDS);
     marks::end(rt);
     outcome(
         rt.alloc(),

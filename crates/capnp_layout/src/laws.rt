@@ -6,6 +6,7 @@ pub use capnp_canonical::laws::{
 };
 pub use capnp_canonical_builders::laws::values_by_way_of_scratches;
 pub use capnp_copy::laws::{changes_two_pointers_deep, words_in_part, words_that_stay};
+pub use capnp_copy::laws_of_arenas::arenas_are_deep;
 pub use capnp_copy_from::laws::values_after_copies;
 pub use capnp_object::laws::messages_begin_at_their_root;
 pub use capnp_wire::laws::{gets_are_readings, values_by_levels};

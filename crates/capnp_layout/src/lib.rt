@@ -13,6 +13,7 @@ pub use capnp_builders::struct_builder::StructBuilder;
 pub use capnp_builders::text_builder::TextBuilder;
 pub use capnp_builders::traits::SetterInput;
 pub use capnp_canonical_builders::copy::copy_canonical_from;
+pub use capnp_canonical_builders::measured::copy_canonical;
 pub use capnp_canonical_builders::sets::{set_list_canonical, set_struct_canonical};
 pub use capnp_copy::allocator::{Allocator, SegmentBytes};
 pub use capnp_copy::arena::{BuilderArena, Memory};

@@ -11,18 +11,14 @@ use Rattle.std.proofs.lemmas.List.Sorted.{searchable_from_sorted}
 use Rattle.std.proofs.lemmas.Map.Text.{is_eq-slice_cmp}
 use Rattle.std.proofs.lemmas.Slice.Eq.{bytes_eq-Decides}
 use Rattle.std.proofs.lemmas.Bool.Decides.{nat_tests}
-use Rattle.capnp_model.specs.Schemas.{Field, StructNode, Node}
-use Rattle.capnp_model.specs.Accepted.{are_distinct, names_of_kind, is_empty_name, has_good_names, IsAccepted}
-use Rattle.capnp_model.proofs.lemmas.KeptRules.{found_passes}
-use Rattle.capnp_model.proofs.lemmas.SoundRules.{rules_kept}
+use Rattle.capnp_model.specs.Schemas.{Field}
+use Rattle.capnp_model.specs.Accepted.{are_distinct}
 use Rattle.capnp_model.proofs.lemmas.Tests.{same_number, not_true, and_left, and_right, never_true}
-use Rattle.capnp_records.specs.Sets.{struct_found}
 use Rattle.capnp_records.specs.Tables.{name_at, AreByName}
 use Rattle.capnp_records.specs.NodeViews.{field_of}
 use Rattle.capnp_records.specs.declared.node.FieldRecord.{FieldRecord}
 use Rattle.capnp_records.proofs.lemmas.FieldPlaces.{get_at, length_mapped}
 use Rattle.capnp_queries.specs.Names.{place_named}
-use Rattle.capnp_queries.proofs.lemmas.Records.{struct_is}
 
 -- where the name of the field at a place stands to a name: 0 below it, 1 at it, 2 above it
 abbrev pub rank : List Field → List ℕ → ℕ → ℕ
@@ -153,12 +149,7 @@ halved n left used now digits some before less one = by (digits - used) refl bef
         let grown = pow_mono more in
         (omega (arith, e, one, fits), omega (arith, small, grown))
 
--- ---- the names of a struct of an accepted set
-
-pub names_differ : (nodes : List Node) → IsAccepted nodes → (id : ℕ) (s : StructNode) → struct_found nodes id ≡ Some s → are_distinct (map (λ f. f.name) s.fields) ≡ true
-names_differ nodes accepted id s h =
-    let f = struct_is nodes id s h in
-    let r = rules_kept nodes accepted in
-    let names = found_passes has_good_names nodes id f.node r.names f.found in
-    ap (λ k. are_distinct (names_of_kind k)) (sym f.kind)
-    ∙ and_left (are_distinct (names_of_kind f.node.kind)) (list_all (λ m. not (is_empty_name m)) (names_of_kind f.node.kind)) names
+-- a range that is used up without a comparison has no places
+pub some_compared : (compared low high places fields : ℕ) → (compared ≡ 0 → (low ≡ 0) × (high ≡ places)) → high ≤ low → places ≡ fields → 0 < fields → 0 < compared
+some_compared zero low high places fields none over same some = let begun = none refl in absurd (omega (arith, begun, over, same, some))
+some_compared (suc n) low high places fields none over same some = omega arith

@@ -1,3 +1,4 @@
 pub mod Shapes
 pub mod Records
 pub mod Places
+pub mod Names

@@ -45,11 +45,12 @@ impl NameCount {
 }
 
 /// The place of the field of a name, and how many names were compared.
-pub(crate) fn place_of(fields: &[FieldRecord], by_name: &[u16], name: &str) -> (Option<u16>, u32)
+pub fn place_of(fields: &[FieldRecord], by_name: &[u16], name: &str) -> (Option<u16>, u32)
     requires by_name { AreByName (map field_of fields.now) by_name.now }
     requires distinct { are_distinct (map (λ f. f.name) (map field_of fields.now)) ≡ true }
     ensures place { result.0 ≡ place_named name.now 0 (map field_of fields.now) }
     ensures few { (digits : ℕ) → length fields.now < 2 ^ digits → result.1 ≤ digits }
+    ensures some { 0 < length fields.now → 0 < result.1 }
 {
     let mut names = NameCount::new();
     let mut low = 0;

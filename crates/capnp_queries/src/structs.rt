@@ -129,11 +129,13 @@ impl<'a> StructSchema<'a> {
         Ok(FieldSubset::new(self, others))
     }
 
-    /// The field of a name, and how many names were compared: at most as many as the number of fields has binary digits.
+    /// The field of a name, and how many names were compared: at most as many as the number of
+    /// fields has binary digits, and at least one where there are fields.
     pub fn find_field_by_name_counted(&self, name: &str) -> (Option<Field<'a>>, u32)
         ensures found { IsFieldAt self.now (index_named self.now name.now) result.0 }
         ensures few { (digits : ℕ) → field_count (fields_of_struct self.now) < 2 ^ digits
             → result.1 ≤ digits }
+        ensures some { 0 < field_count (fields_of_struct self.now) → 0 < result.1 }
     {
         let by_name = self.set.field_tables(self.raw).by_name.as_slice();
         let (place, compared) = place_of(&self.record().fields, by_name, name);

@@ -3,6 +3,7 @@ mod Overlaps
 mod Breaks
 mod Forward
 mod Marked
+mod Claimed
 mod Members
 mod DistinctNames
 mod Below

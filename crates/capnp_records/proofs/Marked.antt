@@ -1,5 +1,5 @@
 -- Marks say what the claims so far cover.
-use Rattle.std.proofs.Common.{◌≡◌, ℕ, zero, suc, ◌+◌, ◌<◌, ◌≤◌, max, Bool, true, false, not, ◌&&◌, ◌||◌, ◌==◌, nat_lt, nat_le, List, [], ◌∷◌, ◌++◌, map, length, take, get_or, refl, sym, ◌∙◌, ap, arith}
+use Rattle.std.proofs.Common.{◌≡◌, ℕ, zero, suc, ◌+◌, ◌<◌, ◌≤◌, max, Bool, true, false, not, ◌&&◌, ◌||◌, ◌==◌, nat_lt, nat_le, List, [], ◌∷◌, ◌++◌, length, take, get_or, refl, sym, ◌∙◌, ap, arith}
 use Rattle.std.specs.List.{list_all, list_any}
 use Rattle.std.proofs.lemmas.Bool.Decides.{nat_tests}
 use Rattle.std.proofs.lemmas.Grind.{common_steps, flat_map-append}
@@ -7,10 +7,9 @@ use Rattle.capnp_model.specs.Accepted.{Area as ModelArea, bit_area, pointer_area
 use Rattle.capnp_model.proofs.lemmas.Tests.{never_true, or_right as or_there, and_left, and_right, and_right_false, or_left_false, or_right_false, or_left}
 use Rattle.capnp_records.specs.declared.area.Area.{Area}
 use Rattle.capnp_records.specs.declared.area.Area.TheVariants as A
-use Rattle.capnp_records.specs.declared.overlap.Claim.{Claim}
 use Rattle.capnp_records.specs.declared.marks.Marks.{Marks}
 use Rattle.capnp_records.specs.Storage.{areas_in, areas_seen}
-use Rattle.capnp_records.specs.Claims.{claim_of, claims_are_apart}
+use Rattle.capnp_records.specs.Claims.{claims_are_apart}
 use Rattle.capnp_records.specs.Marks.{has, covers, mark_at, AllowsAll, Refuses, Puts, most_mark, level_mark}
 use Rattle.capnp_records.proofs.lemmas.ListTests.{list_any-append, list_all-flat_map}
 use Rattle.capnp_records.proofs.Forward.{pairs}
@@ -55,7 +54,7 @@ puts_more old m n as' i a level lt is h g pointer k =
 
 -- ---- sharing is having a bit or a pointer in common
 
-abbrev is_wide : ModelArea → Bool
+abbrev pub is_wide : ModelArea → Bool
 is_wide (bit_area a n) = nat_lt 0 n
 is_wide (pointer_area i) = true
 
@@ -265,16 +264,9 @@ wide_area A.Empty = refl
 wide_area (A.Bits s) = let w = s.wide in grind (arith, nat_tests)
 wide_area (A.Pointer i) = refl
 
-wide_areas : (as' : List Area) → list_all is_wide (areas_seen as') ≡ true
+pub wide_areas : (as' : List Area) → list_all is_wide (areas_seen as') ≡ true
 wide_areas as' = list_all-flat_map is_wide areas_in as' ∙ each as'
   where
     each : (bs : List Area) → list_all (λ a. list_all is_wide (areas_in a)) bs ≡ true
     each [] = refl
     each (b ∷ bs) = ap (λ t. t && list_all (λ a. list_all is_wide (areas_in a)) bs) (wide_area b) ∙ each bs
-
-pub wide_claim : (c : Claim) → list_all is_wide (claim_of c).1 ≡ true
-wide_claim c = wide_areas c.areas.items
-
-pub wide_claims : (cs : List Claim) → AreWide (map claim_of cs)
-wide_claims [] = refl
-wide_claims (c ∷ cs) = ap (λ b. b && list_all (λ d. list_all is_wide d.1) (map claim_of cs)) (wide_claim c) ∙ wide_claims cs

@@ -3,14 +3,8 @@ use Rattle.std.specs.Prelude.{ℕ, ◌≡◌, ◌<◌, ◌-◌, Bool, true, fals
 use Rattle.std.specs.List.{list_all}
 use Rattle.capnp_model.specs.Schemas.{Field, StructNode, Node, Shape}
 use Rattle.capnp_model.specs.Accepted.{Area, field_body, shape_in, union_place, union_area, are_apart, areas_of, areas_of_body, has_no_overlap, body_has_no_overlap}
-use Rattle.capnp_records.specs.Storage.{areas_seen}
-use Rattle.capnp_records.specs.declared.overlap.Claim.{Claim}
 
--- Whether it is a union member's, and the areas.
-abbrev pub claim_of : Claim → Bool × List Area
-claim_of c = (c.is_member, areas_seen c.areas.items)
-
--- What a field takes, by the shapes of groups.
+-- Whether a field is a union member, and the areas that it takes, by the shapes of groups.
 abbrev pub claim_in : (ℕ → Shape) → Field → Bool × List Area
 claim_in groups f = (is_some f.member, areas_of_body (field_body groups f.kind))
 

@@ -52,7 +52,7 @@ pub(crate) fn is_short(node: &NodeRecord) -> bool
 fn are_distinct(alloc: Global, names: &[&str]) -> Result<bool, AllocError>
     ensures { IfOk result (λ b. b ≡ are_distinct (map (λ s. s.now) names.now)) }
 {
-    let mut seen: HashSet<&str> = HashSet::new(alloc);
+    let mut seen: HashSet<&str> = HashSet::with_capacity(alloc, names.len())?;
     for name in names {
         if !seen.insert(*name)? {
             return Ok(false);

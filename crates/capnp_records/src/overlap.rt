@@ -1,13 +1,13 @@
 //! The rule of places: two fields of a struct or a group share a bit or a pointer, those of their groups included, only where they are two members of its union, and none shares a bit with its discriminant.
 
-ghost use Rattle.std.specs.Prelude.{◌≡◌, ◌&&◌, ◌++◌, false, map, IfOk, IfSome, IfNone};
+ghost use Rattle.std.specs.Prelude.{◌≡◌, ◌++◌, is_some, map, IfOk, IfSome, IfNone};
 ghost use Rattle.std.specs.Bool.{MatchBool};
 ghost use Rattle.capnp_model.specs.Accepted.{field_body, shape_in, union_place, union_area, areas_of, areas_of_body, has_no_overlap, body_has_no_overlap};
 ghost use Rattle.capnp_records.specs.Listed.{listed};
-ghost use Rattle.capnp_records.specs.NodeViews.{kind_of_field, field_of, struct_of, node_of};
+ghost use Rattle.capnp_records.specs.NodeViews.{member_of, kind_of_field, field_of, struct_of};
 ghost use Rattle.capnp_records.specs.Storage.{areas_seen};
 ghost use Rattle.capnp_records.specs.Marks.{AllowsAll, Refuses, Puts, most_mark, level_mark};
-ghost use Rattle.capnp_records.specs.Claims.{claim_of, claim_in, claims_in, claims_are_apart, areas_claimed, groups_have_no_overlap, IsWritten, IsUnwritten};
+ghost use Rattle.capnp_records.specs.Claims.{claim_in, claims_in, claims_are_apart, areas_claimed, groups_have_no_overlap, IsWritten, IsUnwritten};
 
 use crate::area::{Area, Span};
 use crate::marks::Marks;
@@ -15,13 +15,6 @@ use crate::node::{FieldBody, FieldRecord, NO_DISCRIMINANT, NodeBody, NodeRecord,
 use crate::nodes::Nodes;
 use crate::storage::area_of;
 use std::alloc::{AllocError, Global};
-
-/// What a field of a struct or its discriminant takes, and whether the field is a union member.
-#[derive(Drop)]
-pub(crate) struct Claim {
-    is_member: bool,
-    areas: Vec<Area>,
-}
 
 // ---- what fields take
 
@@ -117,54 +110,11 @@ fn push_union_area(areas: &mut Vec<Area>, holder: &StructRecord) -> Result<(), A
     Ok(())
 }
 
-/// What a field takes.
-fn claim_of(
-    alloc: Global,
-    nodes: Nodes<'_>,
-    levels: usize,
-    field: &FieldRecord,
-) -> Result<Claim, AllocError>
-    ensures { IfOk result (λ c. claim_of c ≡ claim_in (λ id. shape_in
-        (listed nodes.entry) levels id) (field_of field.now)) }
+/// Whether a field is a union member.
+fn is_member(field: &FieldRecord) -> bool
+    ensures { result ≡ is_some (member_of field.now.discriminant_value) }
 {
-    let mut areas = Vec::new(alloc);
-    push_areas_of_body(&mut areas, nodes, levels, &field.body)?;
-    let is_member = field.discriminant_value != NO_DISCRIMINANT;
-    Ok(Claim { is_member, areas })
-}
-
-/// What a struct's discriminant and its fields take.
-fn claims_of(
-    alloc: Global,
-    nodes: Nodes<'_>,
-    levels: usize,
-    holder: &StructRecord,
-) -> Result<Vec<Claim>, AllocError>
-    ensures { IfOk result (λ v. map claim_of v.items
-        ≡ claims_in (λ id. shape_in (listed nodes.entry) levels id) (struct_of holder.now)) }
-{
-    let mut claims = Vec::new(alloc);
-    claims.push(discriminant(alloc, holder)?)?;
-    for field in &holder.fields {
-        claims.push(claim_of(alloc, nodes, levels, field)?)?;
-    }
-    Ok(claims)
-}
-
-/// What a struct's discriminant takes.
-fn discriminant(alloc: Global, holder: &StructRecord) -> Result<Claim, AllocError>
-    ensures { IfOk result (λ c. claim_of c ≡ (
-      false,
-      union_area (union_place
-          (struct_of holder.now)),
-    )) }
-{
-    let mut areas = Vec::new(alloc);
-    push_union_area(&mut areas, holder)?;
-    Ok(Claim {
-        is_member: false,
-        areas,
-    })
+    field.discriminant_value != NO_DISCRIMINANT
 }
 
 // ---- what they share
@@ -206,16 +156,29 @@ fn level_mark(is_member: bool) -> u8
     if is_member { 1 } else { 2 }
 }
 
-/// Whether two claims share only where both are members'.
-fn are_claims_apart(alloc: Global, claims: &[Claim]) -> Result<bool, AllocError>
-    ensures { IfOk result (λ b. b ≡ claims_are_apart (map claim_of claims.now)) }
+/// Whether a struct's discriminant and its fields share only where both are members.
+fn are_claims_apart(
+    alloc: Global,
+    nodes: Nodes<'_>,
+    levels: usize,
+    holder: &StructRecord,
+) -> Result<bool, AllocError>
+    ensures { IfOk result (λ b. b ≡ claims_are_apart (claims_in (λ id. shape_in
+        (listed nodes.entry) levels id) (struct_of holder.now))) }
 {
     let mut marks = Marks::new(alloc);
-    for claim in claims {
-        if !allows_all(&marks, &claim.areas, most_mark(claim.is_member)) {
+    // One list takes the areas of each field in turn.
+    let mut areas = Vec::new(alloc);
+    push_union_area(&mut areas, holder)?;
+    put_all(&mut marks, &areas, level_mark(false))?;
+    for field in &holder.fields {
+        areas.clear();
+        push_areas_of_body(&mut areas, nodes, levels, &field.body)?;
+        let member = is_member(field);
+        if !allows_all(&marks, &areas, most_mark(member)) {
             return Ok(false);
         }
-        put_all(&mut marks, &claim.areas, level_mark(claim.is_member))?;
+        put_all(&mut marks, &areas, level_mark(member))?;
     }
     Ok(true)
 }
@@ -235,8 +198,7 @@ pub(crate) fn has_no_overlap(
     match struct_at(nodes, levels, id) {
         None => Ok(true),
         Some(holder) => {
-            let claims = claims_of(alloc, nodes, levels - 1, holder)?;
-            if !are_claims_apart(alloc, &claims)? {
+            if !are_claims_apart(alloc, nodes, levels - 1, holder)? {
                 return Ok(false);
             }
             have_no_overlap(alloc, nodes, levels - 1, &holder.fields)

@@ -68,19 +68,21 @@ fn push_enumerant_types(
 pub(crate) fn types_of(alloc: Global, node: &NodeRecord) -> Result<Vec<TypeRecord>, AllocError>
     ensures { IfOk result (λ v. map type_record_of v.items ≡ types_in (node_of node.now)) }
 {
-    let mut types = Vec::new(alloc);
     match &node.body {
         NodeBody::Struct(record) => {
+            let mut types = Vec::with_capacity(alloc, record.fields.len())?;
             push_slot_types(&mut types, &record.fields)?;
             push_types(&mut types, &node.annotations)?;
             push_field_types(&mut types, &record.fields)?;
+            Ok(types)
         }
         NodeBody::Enum(enumerants) => {
+            let mut types = Vec::new(alloc);
             push_types(&mut types, &node.annotations)?;
             push_enumerant_types(&mut types, enumerants)?;
+            Ok(types)
         }
     }
-    Ok(types)
 }
 
 // ---- groups
@@ -150,10 +152,16 @@ pub(crate) fn names_of(alloc: Global, node: &NodeRecord) -> Result<Vec<&str>, Al
     ensures { IfOk result
         (λ v. map (λ s. s.now) v.items ≡ names_of_kind (node_kind node.now.body)) }
 {
-    let mut names = Vec::new(alloc);
     match &node.body {
-        NodeBody::Struct(record) => push_field_names(&mut names, &record.fields)?,
-        NodeBody::Enum(enumerants) => push_enumerant_names(&mut names, enumerants)?,
+        NodeBody::Struct(record) => {
+            let mut names = Vec::with_capacity(alloc, record.fields.len())?;
+            push_field_names(&mut names, &record.fields)?;
+            Ok(names)
+        }
+        NodeBody::Enum(enumerants) => {
+            let mut names = Vec::with_capacity(alloc, enumerants.len())?;
+            push_enumerant_names(&mut names, enumerants)?;
+            Ok(names)
+        }
     }
-    Ok(names)
 }

@@ -43,7 +43,7 @@ fn others_of(alloc: Global, fields: &[FieldRecord]) -> Result<Vec<u16>, AllocErr
     requires { length fields.now ≤ 65535 }
     ensures { IfOk result (λ v. v.items ≡ others_from 0 (map field_of fields.now)) }
 {
-    let mut others = Vec::new(alloc);
+    let mut others = Vec::with_capacity(alloc, fields.len())?;
     for i in 0..fields.len() {
         if fields[i].discriminant_value == NO_DISCRIMINANT {
             others.push(i as u16)?;
@@ -82,7 +82,7 @@ pub(crate) fn tables_of(alloc: Global, nodes: &[NodeRecord]) -> Result<Vec<Field
         ≡ map (λ n. others_in n.kind) (map node_of nodes.now)) }
     ensures by_name { IfOk result (λ v. AreNodesByName (map node_of nodes.now) v.items) }
 {
-    let mut tables = Vec::new(alloc);
+    let mut tables = Vec::with_capacity(alloc, nodes.len())?;
     for node in nodes {
         tables.push(tables_of_node(alloc, node)?)?;
     }
@@ -97,7 +97,7 @@ pub(crate) fn places_of(
     ensures { IfOk result (λ m. (id : ℕ) → get nat_eq m id
         ≡ node_place id 0 (map node_of nodes.now)) }
 {
-    let mut places = HashMap::new(alloc);
+    let mut places = HashMap::with_capacity(alloc, nodes.len())?;
     let mut left = nodes.len();
     while left > 0 {
         left -= 1;

@@ -2,16 +2,18 @@
 #![tactic(auto)]
 
 pub mod laws;
+pub mod runs;
+pub mod versions;
 
+pub use crate::runs::run;
+pub use crate::versions::{admitted, admitted_with, compatible, compatible_with};
 pub use capnp_between::between::{
     BetweenFault, relay_between, relay_between_pausing, relay_between_with,
 };
 pub use capnp_calls::reply::Reply;
 pub use capnp_calls::{Action, Call, CallFault, CallValue, SlotValue, Step, Verb};
-pub use capnp_compatible::admitted::{Admission, admitted, admitted_with};
-pub use capnp_compatible::compatible::{compatible, compatible_with};
+pub use capnp_compatible::admitted::Admission;
 pub use capnp_compatible::renamings::{Renaming, RenamingFault, Renamings};
-pub use capnp_compatible::root::Root;
 pub use capnp_files::calls_file::{CallsFile, calls_file};
 pub use capnp_files::fault::FileFault;
 pub use capnp_files::renames_file::renames_file;
@@ -21,6 +23,4 @@ pub use capnp_relay_streams::ends::{Counts, Fault, RelayFault};
 pub use capnp_relay_streams::options::{Form, OptionsFault, ReaderOptions, RelayOptions};
 pub use capnp_relay_streams::pauses::{NoPause, Pause};
 pub use capnp_relay_streams::relay::{relay, relay_pausing};
-pub use capnp_run::builder::run;
-pub use capnp_run::fault::RunFault;
 pub use capnp_show::show::{ShowFault, show};

@@ -1,6 +1,6 @@
 //! Calls at the roots of messages.
 
-use crate::message::Message;
+use crate::message::{Message, indexed};
 use capnp_answers::answer::{MessageAnswer, Want, answer_in_place};
 use capnp_answers::as_built::answer_plain_in_place;
 use capnp_answers::bounds::Bounds;
@@ -40,7 +40,11 @@ impl<'a> Answers for CallsAtRoot<'a> {
         records_of_written_values();
         calls_are_given();
         roots_are_no_groups();
-        let arena = Message { segments: message };
+        let indexed = indexed(alloc, message);
+        let arena = Message {
+            segments: message,
+            indexed: &indexed,
+        };
         answer_in_place(alloc, &arena, self.bounds, &self.calls, region, words)
     }
 }
@@ -74,7 +78,11 @@ impl<'a> Answers for PlainCallsAtRoot<'a> {
         records_of_trimmed_values();
         calls_are_given();
         roots_are_no_groups();
-        let arena = Message { segments: message };
+        let indexed = indexed(alloc, message);
+        let arena = Message {
+            segments: message,
+            indexed: &indexed,
+        };
         answer_plain_in_place(alloc, &arena, self.bounds, &self.calls, region, words)
     }
 }

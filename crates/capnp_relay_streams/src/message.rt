@@ -1,16 +1,49 @@
 //! A message of a run, as an arena.
 ghost use Rattle.std.specs.Prelude.{◌≡◌, slice_get, option_copied};
-ghost use Rattle.capnp_stream.specs.Buffers.{found_segments};
+ghost use Rattle.std.specs.Option.{ForSome};
+ghost use Rattle.capnp_stream.specs.Buffers.{buffer_segments, found_segments};
 
 use capnp_object::arena::{ReaderArena, ReaderArenaImpl};
-use capnp_stream::buffers::NoAllocSliceSegments;
+use capnp_stream::buffers::{NoAllocSliceSegments, SliceSegments};
 use capnp_units::segments::ReaderSegments;
 use capnp_units::sizes::SegmentId;
+use std::alloc::Global;
 
-/// The segments of a message that lie in a buffer. The bounds tell how deep the message is followed.
-#[derive(Clone, Copy, Drop)]
+/// The most segments of a message that are looked up in its table.
+const FEW_SEGMENTS: usize = 16;
+
+/// The segments of a message of many, found by where each lies; none where they are few, or where the memory for that was refused.
+// A look-up in the table sums the lengths in front of the segment: 511 segments would cost a message of far pointers three times the rest.
+#[inline(always)]
+pub(crate) fn indexed<'a>(
+    alloc: Global,
+    message: &NoAllocSliceSegments<'a>,
+) -> Option<SliceSegments<'a>>
+    ensures { ForSome result (λ s. buffer_segments s ≡ found_segments message.now) }
+{
+    if message.len() <= FEW_SEGMENTS {
+        return None;
+    }
+    indexed_many(alloc, message)
+}
+
+/// The segments of a message, found by where each lies; none where the memory for that was refused.
+#[inline(never)]
+fn indexed_many<'a>(alloc: Global, message: &NoAllocSliceSegments<'a>) -> Option<SliceSegments<'a>>
+    ensures { ForSome result (λ s. buffer_segments s ≡ found_segments message.now) }
+{
+    match message.to_slice_segments(alloc) {
+        Ok(indexed) => Some(indexed),
+        Err(_) => None,
+    }
+}
+
+/// The segments of a message that lie in a buffer, and the same found by where each lies, where it has many. The bounds tell how deep the message is followed.
+#[derive(Drop)]
 pub(crate) struct Message<'a> {
     pub(crate) segments: &'a NoAllocSliceSegments<'a>,
+    pub(crate) indexed: &'a Option<SliceSegments<'a>>,
+    ghost same: { ForSome indexed.now (λ s. buffer_segments s ≡ found_segments segments.now) },
 }
 
 impl Message<'_> {
@@ -19,7 +52,10 @@ impl Message<'_> {
     fn other_segment(&self, id: SegmentId) -> Option<&[u8]>
         ensures { option_copied result ≡ slice_get (found_segments self.now.segments.now) id }
     {
-        self.segments.get_segment(id)
+        match self.indexed {
+            Some(indexed) => indexed.get_segment(id),
+            None => self.segments.get_segment(id),
+        }
     }
 }
 
@@ -46,6 +82,9 @@ impl ReaderArena for Message<'_> {
     }
 
     fn size_in_words(&self) -> usize {
-        ReaderArenaImpl::new(self.segments, i32::MAX).size_in_words()
+        match self.indexed {
+            Some(indexed) => ReaderArenaImpl::new(indexed, i32::MAX).size_in_words(),
+            None => ReaderArenaImpl::new(self.segments, i32::MAX).size_in_words(),
+        }
     }
 }

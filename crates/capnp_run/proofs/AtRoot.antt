@@ -1,11 +1,11 @@
 -- Calls at the root of a message, from those at its struct.
-use Rattle.std.proofs.Common.{◌≡◌, ℕ, suc, ◌^◌, ◌≤◌, ◌<◌, List, Ok, refl, ap, sym, ◌∙◌, subst, arith}
+use Rattle.std.proofs.Common.{◌≡◌, inl, inr, ℕ, suc, ◌^◌, ◌≤◌, ◌<◌, List, Ok, refl, ap, sym, ◌∙◌, subst, arith}
 use Rattle.capnp_model.specs.Segments.{Segments, Place, root}
 use Rattle.capnp_model.specs.Pointers.{Found, found_at}
 use Rattle.capnp_model.specs.Trees.{Tree, Trees, structure, widened, depth}
 use Rattle.capnp_model.specs.Schemas.{Shape, shape, words_of_shape, pointers_of_shape}
 use Rattle.capnp_model.specs.Calls.{Call}
-use Rattle.capnp_model.specs.Answers.{Reply, widened_root}
+use Rattle.capnp_model.specs.Answers.{Reply, edits, widened_root}
 use Rattle.capnp_wire.specs.Places.{place_view}
 use Rattle.capnp_footprints.specs.Footprints.{Owns, OwnsObject}
 use Rattle.capnp_footprints.specs.Changes.{Replaces, ReplacesObject}
@@ -13,12 +13,16 @@ use Rattle.capnp_footprints.proofs.lemmas.Turns.{struct_shape}
 use Rattle.capnp_copy.specs.Structs.{struct_at}
 use Rattle.capnp_copy.specs.Values.{LeadsTo}
 use Rattle.capnp_copy.specs.declared.fields.StructPlace.{StructPlace}
-use Rattle.capnp_widening.specs.Widened.{Widens}
-use Rattle.capnp_queries.specs.Structs.{shape_of_struct}
+use Rattle.capnp_object.specs.Objects.{object_at}
+use Rattle.capnp_units.specs.declared.errors.Error.{Error}
+use Rattle.capnp_run.specs.declared.fault.RunFault.{RunFault}
+use Rattle.capnp_run.specs.declared.fault.RunFault.TheVariants as faults
+use Rattle.capnp_widening.specs.Widened.{Widens, StructRefused, IsStructOrNull}
+use Rattle.capnp_queries.specs.Structs.{schema_around, shape_of_struct, id_of}
 use Rattle.capnp_queries.specs.declared.structs.StructSchema.{StructSchema}
 use Rattle.capnp_footprints.specs.Totals.{words_of_segments}
 use Rattle.capnp_calls.specs.LongLists.{LongInTurn}
-use Rattle.capnp_run.specs.Runs.{RunsAll, RunsAt, RunsRoot, EndsLongAt, EndsLongRoot}
+use Rattle.capnp_run.specs.Runs.{RunsAll, RunsAt, RunsRoot, EndsLongAt, EndsLongRoot, StopsBy, StopsAt, StopsRoot}
 
 opened : (g : Shape) (t : Tree) → widened (words_of_shape g) (pointers_of_shape g) t ≡ widened_root g t
 opened (shape nid w p u fs) t = refl
@@ -81,3 +85,26 @@ module _ (values : ValueLaws) (s u : Segments) (few : words_of_segments s < 2 ^ 
   long_at_root calls long n t most owns =
       let a = opened_at n t most owns in
       subst (LongInTurn schema calls) (sym a.is) (long n a.section a.kids most a.object)
+
+  pub stops_at_root : (told : Error → Type 0) (v : Segments) (calls : List Call) (fault : RunFault) → StopsAt told u v o schema calls fault → StopsRoot told s v schema calls fault
+  stops_at_root told v calls fault stops n t most owns =
+      let w : Tree = widened_root (shape_of_struct schema) t in
+      let a = opened_at n t most owns in
+      let x = stops n a.section a.kids most a.object in
+      let T : Tree = edits (schema_around schema) (id_of schema) x.before (structure o.data_words a.section a.kids) in
+      let same : structure o.data_words a.section a.kids ≡ w = sym a.is in
+      let lifted : Replaces (suc n) u x.mid root T = values.up n u x.mid root found w T leads.1 a.now x.made in
+      let whole : Replaces (suc n) s x.mid root T = values.again (suc n) s u x.mid root w T a.changed lifted in
+      inr (record {
+        before = x.before;
+        behind = x.behind;
+        split = x.split;
+        mid = x.mid;
+        made = subst (λ (y : Tree). Replaces (suc n) s x.mid root (edits (schema_around schema) (id_of schema) x.before y)) same whole;
+        grows = x.grows;
+        why = subst (λ (y : Tree). StopsBy told schema x.behind (edits (schema_around schema) (id_of schema) x.before y) fault) same x.why;
+      })
+
+-- the root isn't got
+pub root_refused : (told : Error → Type 0) (s u : Segments) (schema : StructSchema) (d k : ℕ) → d ≡ words_of_shape (shape_of_struct schema) → k ≡ pointers_of_shape (shape_of_struct schema) → (calls : List Call) (e : Error) → u ≡ s → StructRefused s (object_at s root) d k e → (IsStructOrNull (object_at s root) → told e) → StopsRoot told s u schema calls (faults.Refused e)
+root_refused told s u schema d k dw kp calls e stands why cause n t most owns = inl (stands, subst (λ j. StructRefused s (object_at s root) (words_of_shape (shape_of_struct schema)) j e) kp (subst (λ j. StructRefused s (object_at s root) j k e) dw why), cause)

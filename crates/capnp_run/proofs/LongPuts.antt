@@ -1,5 +1,5 @@
 -- Texts, data and lists of structs that are too long.
-use Rattle.std.proofs.Common.{◌≡◌, ℕ, ◌+◌, ◌*◌, ◌^◌, ◌≤◌, max, Bool, true, false, if◌then◌else◌, refl, ap, sym, ◌∙◌, subst}
+use Rattle.std.proofs.Common.{◌≡◌, ℕ, ◌+◌, ◌*◌, ◌^◌, ◌≤◌, ◌↔◌, max, Bool, true, false, if◌then◌else◌, refl, ap, sym, ◌∙◌, subst}
 use Rattle.std.specs.Prelude.{◌==◌}
 use Rattle.capnp_model.specs.Kinds.{Kind}
 use Rattle.capnp_model.specs.Schemas.{Ty, void, plain, text, blob, untyped, interface, struct, list, Schema}
@@ -34,5 +34,5 @@ element_len s n (struct id) k = refl
 element_len s n (list ty) k = refl
 
 -- what is put by the verb and at the end that these are
-pub long_at : (s : Schema) (v w : Verb) (a b : PathEnd) → v ≡ w → a ≡ b → 2 ^ 29 ≤ content_len (end_content s w b) → 2 ^ 29 ≤ content_len (end_content s v a)
-long_at s v w a b verb at long = subst (λ x. 2 ^ 29 ≤ content_len (end_content s x a)) (sym verb) (subst (λ x. 2 ^ 29 ≤ content_len (end_content s w x)) (sym at) long)
+pub long_at : (s : Schema) (v w : Verb) (a b : PathEnd) → v ≡ w → a ≡ b → (x : Bool) → (x ≡ true) ↔ (2 ^ 29 ≤ content_len (end_content s w b)) → (x ≡ true) ↔ (2 ^ 29 ≤ content_len (end_content s v a))
+long_at s v w a b verb at x long = subst (λ y. (x ≡ true) ↔ (2 ^ 29 ≤ content_len (end_content s y a))) (sym verb) (subst (λ y. (x ≡ true) ↔ (2 ^ 29 ≤ content_len (end_content s w y))) (sym at) long)

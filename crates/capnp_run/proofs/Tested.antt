@@ -1,5 +1,5 @@
 -- A call at a struct that is owned: tested where it is read, and written.
-use Rattle.std.proofs.Common.{◌≡◌, ℕ, ℤ, ◌^◌, ◌≤◌, ◌<◌, List, Some, Result, Ok, Err, IfOk, refl, sym, subst, arith}
+use Rattle.std.proofs.Common.{◌≡◌, ℕ, ℤ, ◌^◌, ◌≤◌, ◌<◌, List, Some, Result, Ok, Err, IfOk, IfErr, refl, sym, subst, arith}
 use Rattle.capnp_model.specs.Segments.{Segments}
 use Rattle.capnp_model.specs.Trees.{Tree, structure}
 use Rattle.capnp_model.specs.Readings.{Record, record_as, record_of, record_by_shape, shape_record, whole_words, read_child}
@@ -38,6 +38,10 @@ use Rattle.capnp_run.proofs.OneCall.{told_done, outcome, outcome_is, stays, edit
 pub over_ok : {X E : Type 0} {P Q : X → Type 0} (r : Result X E) → ((x : X) → P x → Q x) → IfOk r P → IfOk r Q
 over_ok (Ok x) f h = f x h
 over_ok (Err e) f h = h
+
+pub over_err : {X E : Type 0} {P Q : E → Type 0} (r : Result X E) → ((e : E) → P e → Q e) → IfErr r P → IfErr r Q
+over_err (Ok x) f h = h
+over_err (Err e) f h = f e h
 
 pub other_reply : (r : Own) → (r ≡ reply.Done → ⊥) → reply_view r ≡ reply_done → ⊥
 other_reply (reply.Text bytes) other h = cc h

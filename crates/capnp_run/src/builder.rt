@@ -1,6 +1,7 @@
 //! Calls in turn at the struct of a builder.
 ghost use Rattle.std.specs.Prelude.{◌≡◌, map, Err, IfOk, IfErr};
 ghost use Rattle.capnp_copy.specs.Deep.{IsDeep};
+ghost use Rattle.capnp_copy.specs.Refusals.{IsSizeOrRefusal};
 ghost use Rattle.capnp_dynamic.specs.Builders.{IsReady, words_around};
 ghost use Rattle.capnp_calls.specs.CallViews.{call_view};
 ghost use Rattle.capnp_calls.specs.Replies.{reply_view};
@@ -30,7 +31,7 @@ pub fn run<A: BuilderArena>(
     ensures all { let words = words_around A.segments in IfOk result (λ told.
         RunsAt (words root.old) (words root.new) root.old.place root.old.schema
         (map call_view calls.now) (map reply_view told.items)) }
-    ensures stops { let words = words_around A.segments in IfErr result (StopsAt (words root.old)
+    ensures stops { let words = words_around A.segments in IfErr result (StopsAt (IsSizeOrRefusal A.refuses) (words root.old)
         (words root.new) root.old.place root.old.schema (map call_view calls.now)) }
     ensures size { result ≡ Err RunFault.Size → EndsLongAt (words_around A.segments root.old)
         root.old.place root.old.schema (map call_view calls.now) }

@@ -1,5 +1,5 @@
 //! Calls that put lists which are too long for a message.
-ghost use Rattle.std.specs.Prelude.{◌≡◌, ◌^◌, ◌≤◌, true, map};
+ghost use Rattle.std.specs.Prelude.{◌≡◌, ◌↔◌, ◌^◌, ◌≤◌, true, false, map};
 ghost use Rattle.capnp_model.specs.Accepted.{schema_of};
 ghost use Rattle.capnp_model.specs.Schemas.{Schema, struct};
 ghost use Rattle.capnp_model.specs.Calls.{set_to, initn_content, value_content, element_content};
@@ -14,6 +14,7 @@ ghost use Rattle.capnp_calls.specs.CallViews.{call_view, step_view, action_view,
 ghost use Rattle.capnp_calls.specs.LongLists.{content_put};
 ghost use Rattle.capnp_calls.specs.Sizes.{list_len, content_len, end_content};
 ghost use Rattle.capnp_run.specs.Ends.{end_view, IsEndOf};
+ghost use Rattle.capnp_run.specs.Runs.{is_message, sets_message};
 
 use capnp_calls::{Action, Call, SlotValue, Step};
 use capnp_copy::segments::MOST_WORDS;
@@ -105,8 +106,8 @@ fn list_len(list: NewList, count: u32) -> u64
 /// Whether what `initn` makes of a type is too long.
 fn is_long_list(set: &SchemaSet, ty: Type, count: u32) -> bool
     requires known { is_type_of (nodes_of set.now) ty ≡ true }
-    ensures { (k : Kind) → result ≡ true
-        → 2 ^ 29 ≤ content_len (initn_content (schema_of (nodes_of set.now)) count (ty_of ty) k) }
+    ensures { (k : Kind) → (result ≡ true) ↔ (2 ^ 29
+        ≤ content_len (initn_content (schema_of (nodes_of set.now)) count (ty_of ty) k)) }
 {
     match list_for(set, ty) {
         Some(list) => list_len(list, count) > MOST_WORDS as u64,
@@ -116,8 +117,9 @@ fn is_long_list(set: &SchemaSet, ty: Type, count: u32) -> bool
 
 /// Whether a value is a text or data that a slot of a type can be set to, and is too long.
 fn is_long_value(value: &SlotValue, ty: Type) -> bool
-    ensures { result ≡ true
-        → 2 ^ 29 ≤ content_len (value_content (slot_value_view value.now) (ty_of ty)) }
+    ensures long { is_message (slot_value_view value.now) ≡ false → (result ≡ true)
+        ↔ (2 ^ 29 ≤ content_len (value_content (slot_value_view value.now) (ty_of ty))) }
+    ensures message { is_message (slot_value_view value.now) ≡ true → result ≡ false }
 {
     match value {
         SlotValue::Text(text) => match ty.which() {
@@ -134,8 +136,9 @@ fn is_long_value(value: &SlotValue, ty: Type) -> bool
 
 /// Whether a value is a text or data that an element of a type can be set to, and is too long.
 fn is_long_element(value: &SlotValue, ty: Type) -> bool
-    ensures { (s : Schema) → result ≡ true
-        → 2 ^ 29 ≤ content_len (element_content s (set_to (slot_value_view value.now)) (ty_of ty)) }
+    ensures long { (s : Schema) → is_message (slot_value_view value.now) ≡ false → (result ≡ true) ↔ (2 ^ 29
+        ≤ content_len (element_content s (set_to (slot_value_view value.now)) (ty_of ty))) }
+    ensures message { is_message (slot_value_view value.now) ≡ true → result ≡ false }
 {
     match ty.which() {
         TypeVariant::AnyPointer => false,
@@ -146,8 +149,9 @@ fn is_long_element(value: &SlotValue, ty: Type) -> bool
 /// Whether an action puts a list that is too long where a path ends.
 fn puts_long_at(set: &SchemaSet, end: End<'_>, action: &Action) -> bool
     requires known { IsEndOf (nodes_of set.now) end }
-    ensures { result ≡ true → 2 ^ 29 ≤ content_len
-        (end_content (schema_of (nodes_of set.now)) (action_view action.now) (end_view end.entry)) }
+    ensures long { sets_message (action_view action.now) ≡ false → (result ≡ true) ↔ (2 ^ 29 ≤ content_len
+        (end_content (schema_of (nodes_of set.now)) (action_view action.now) (end_view end.entry))) }
+    ensures message { sets_message (action_view action.now) ≡ true → result ≡ false }
 {
     match action {
         Action::Initn(count) => match end {
@@ -166,8 +170,9 @@ fn puts_long_at(set: &SchemaSet, end: End<'_>, action: &Action) -> bool
 
 /// Whether a call puts a text or data of 2^29 bytes or more with its last zero, or a list of structs of 2^29 words or more, if it is done. It looks at the schema and the call alone.
 pub(crate) fn puts_long(schema: StructSchema<'_>, call: &Call) -> bool
-    ensures { result ≡ true
-        → 2 ^ 29 ≤ content_len (content_put schema.entry (call_view call.now)) }
+    ensures long { sets_message (call_view call.now).verb ≡ false → (result ≡ true)
+        ↔ (2 ^ 29 ≤ content_len (content_put schema.entry (call_view call.now))) }
+    ensures message { sets_message (call_view call.now).verb ≡ true → result ≡ false }
 {
     let end = end_of(schema, call.path());
     puts_long_at(schema.set(), end, call.action())

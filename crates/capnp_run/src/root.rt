@@ -1,16 +1,17 @@
 //! Calls in turn at the root of a message.
-ghost use Rattle.std.specs.Prelude.{◌≡◌, map, true, Err, IfOk};
+ghost use Rattle.std.specs.Prelude.{◌≡◌, map, true, Err, IfOk, IfErr};
 ghost use Rattle.std.specs.Option.{is_some};
 ghost use Rattle.capnp_model.specs.Segments.{root, words_at};
 ghost use Rattle.capnp_units.specs.Segments.{words_in};
 ghost use Rattle.capnp_copy.specs.Deep.{IsDeep};
+ghost use Rattle.capnp_copy.specs.Refusals.{IsSizeOrRefusal};
 ghost use Rattle.capnp_queries.specs.Structs.{schema_around};
 ghost use Rattle.capnp_calls.specs.CallViews.{call_view};
 ghost use Rattle.capnp_calls.specs.Replies.{reply_view};
 ghost use Rattle.capnp_calls.specs.Roots.{IsRoot};
 ghost use Rattle.capnp_ways.specs.Ways.{AreWays};
 ghost use Rattle.capnp_run.specs.declared.fault.RunFault.{RunFault};
-ghost use Rattle.capnp_run.specs.Runs.{RunsRoot, EndsLongRoot};
+ghost use Rattle.capnp_run.specs.Runs.{RunsRoot, EndsLongRoot, StopsRoot};
 
 use crate::fault::RunFault;
 use crate::run::run_at;
@@ -45,6 +46,9 @@ pub fn run_root<A: BuilderArena>(
         (map reply_view told.items)) }
     ensures size { result ≡ Err RunFault.Size → EndsLongRoot (words_in (A.segments arena.old))
         schema.entry (map call_view calls.now) }
+    ensures stops { IfErr result (StopsRoot (IsSizeOrRefusal A.refuses)
+        (words_in (A.segments arena.old)) (words_in (A.segments arena.new)) schema.entry
+        (map call_view calls.now)) }
     ensures books { A.books arena.new ≡ A.books arena.old }
 {
     changes_of_values();

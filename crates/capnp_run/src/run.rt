@@ -6,6 +6,7 @@ ghost use Rattle.capnp_model.specs.Steps.{step};
 ghost use Rattle.capnp_units.specs.Segments.{words_in};
 ghost use Rattle.capnp_footprints.specs.Footprints.{OwnsObject};
 ghost use Rattle.capnp_copy.specs.Deep.{IsDeep};
+ghost use Rattle.capnp_copy.specs.Refusals.{IsSizeOrRefusal};
 ghost use Rattle.capnp_copy.specs.Structs.{struct_at};
 ghost use Rattle.capnp_wire.specs.Places.{place_view};
 ghost use Rattle.capnp_wire.specs.Views as views;
@@ -14,14 +15,12 @@ ghost use Rattle.capnp_queries.specs.Structs.{schema_around, shape_of_struct, id
 ghost use Rattle.capnp_dynamic.specs.Edits.{IsThere, IsWide};
 ghost use Rattle.capnp_calls.specs.CallViews.{call_view};
 ghost use Rattle.capnp_calls.specs.Replies.{reply_view};
-ghost use Rattle.capnp_calls.specs.LongLists.{content_put};
-ghost use Rattle.capnp_calls.specs.Sizes.{content_len};
 ghost use Rattle.capnp_calls.specs.Roots.{IsRoot};
 ghost use Rattle.capnp_model.specs.Printing.{as_it_is};
 ghost use Rattle.capnp_ways.specs.Ways.{IsWay, AreWays};
 ghost use Rattle.capnp_units.specs.declared.kinds.ErrorKind.{ErrorKind};
 ghost use Rattle.capnp_run.specs.declared.fault.RunFault.{RunFault};
-ghost use Rattle.capnp_run.specs.Runs.{TestsAt, AnswersAt, PutsLongAt, FailsAt, RunsAt, EndsLongAt, StopsAt};
+ghost use Rattle.capnp_run.specs.Runs.{TestsAt, AnswersAt, PutsLongAt, TellsWhy, FailsAt, RunsAt, EndsLongAt, StopsAt};
 
 use crate::fault::RunFault;
 use crate::long::puts_long;
@@ -84,8 +83,7 @@ fn test<A: ReaderArena>(
 
 /// Why a call that is done at the struct wasn't written there.
 fn fault_of(schema: StructSchema<'_>, call: &Call, error: Error) -> RunFault
-    ensures { result ≡ RunFault.Size
-        → 2 ^ 29 ≤ content_len (content_put schema.entry (call_view call.now)) }
+    ensures { TellsWhy schema.entry (call_view call.now) error result }
 {
     match error.kind {
         ErrorKind::SizeOverflow if puts_long(schema, call) => RunFault::Size,
@@ -109,7 +107,7 @@ fn answer<A: BuilderArena>(
     ensures answer { IfOk result (λ r. AnswersAt (words_in (A.segments arena.old))
         (words_in (A.segments arena.new)) object schema.entry (call_view call.now)
         (reply_view r)) }
-    ensures stops { IfErr result (FailsAt (words_in (A.segments arena.old))
+    ensures stops { IfErr result (FailsAt (IsSizeOrRefusal A.refuses) (words_in (A.segments arena.old))
         (words_in (A.segments arena.new)) object schema.entry (call_view call.now)) }
     ensures size { result ≡ Err RunFault.Size
         → PutsLongAt (words_in (A.segments arena.old)) object schema.entry (call_view call.now) }
@@ -151,7 +149,7 @@ pub fn run_at<A: BuilderArena>(
     ensures all { IfOk result (λ told. RunsAt (words_in (A.segments arena.old))
         (words_in (A.segments arena.new)) object schema.entry (map call_view calls.now)
         (map reply_view told.items)) }
-    ensures stops { IfErr result (StopsAt (words_in (A.segments arena.old))
+    ensures stops { IfErr result (StopsAt (IsSizeOrRefusal A.refuses) (words_in (A.segments arena.old))
         (words_in (A.segments arena.new)) object schema.entry (map call_view calls.now)) }
     ensures size { result ≡ Err RunFault.Size → EndsLongAt (words_in (A.segments arena.old))
         object schema.entry (map call_view calls.now) }

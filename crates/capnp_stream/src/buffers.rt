@@ -170,7 +170,7 @@ impl<T: AsSlice<u8> + Drop> NoAllocBufferSegments<T> {
 }
 
 impl<'a> NoAllocBufferSegments<&'a [u8]> {
-    ghost use Rattle.capnp_stream.specs.Buffers.{found_segments};
+    ghost use Rattle.capnp_stream.specs.Buffers.{buffer_segments, found_segments};
 
     /// The segments of the framed message at the front of the slice, which then begins behind it.
     ///
@@ -188,6 +188,14 @@ impl<'a> NoAllocBufferSegments<&'a [u8]> {
         let info = info_at(all, limit)?;
         *slice = &all[info.segment_table_length_bytes + info.total_segments_length_bytes..];
         Ok(NoAllocBufferSegments::from_segment_table_info(all, info))
+    }
+
+    /// The same segments. Where they lie is told once, in memory of 16 bytes for each: so a look-up reads two numbers, where one here sums the lengths in front. `OutOfMemory`: it was refused.
+    pub fn to_slice_segments(&self, alloc: Global) -> Result<SliceSegments<'a>>
+        ensures segments { IfOk result (λ s. buffer_segments s ≡ found_segments self.now) }
+        ensures refusal { IfErr result (λ e. e.kind ≡ ErrorKind.OutOfMemory) }
+    {
+        BufferSegments::described(alloc, self.buffer, self.info)
     }
 }
 

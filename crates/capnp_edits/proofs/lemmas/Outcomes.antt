@@ -94,7 +94,7 @@ active_done s path verb body true r h = h
 active_done s [] verb body false r h = any_end s verb body inactive r h
 active_done s (st ∷ path) verb body false r h = absurd h
 
-behind_within : (s : Schema) (g : Shape) (n : List ℕ) (rest : List Step) (verb : Verb) (member : Option ℕ) (body : Body) (c : Cell) (x : Extent) → target_of n (fields_in g) ≡ target member body
+pub behind_within : (s : Schema) (g : Shape) (n : List ℕ) (rest : List Step) (verb : Verb) (member : Option ℕ) (body : Body) (c : Cell) (x : Extent) → target_of n (fields_in g) ≡ target member body
     → IsDone (step_path s (fields_in g) (name n ∷ rest) verb (shape_record g x c.section (read_child s c.kids))) → IsDone (step_field s rest verb body (body_of body x c.section (read_child s c.kids)))
 unfolding shape_record
 behind_within s (shape nid w p u fs) n rest verb member body c x found h =
@@ -135,7 +135,7 @@ path_within s u p g path verb h =
     edits_alike s u p (IsDoneWithin around own path verb) (λ c. IsDone (shape_outcome around own path verb c)) (shape_edit around own path verb) (shape_edit around own path verb) (λ c all. (whole_within around own path verb c all, refl)) h
 
 -- at the end
-end_at : (f : Field) (verb : Verb) (o : Option Entry) (c : Cell) → IsFieldDone f [] verb o c → IsDoneAt f [] verb o c
+pub end_at : (f : Field) (verb : Verb) (o : Option Entry) (c : Cell) → IsFieldDone f [] verb o c → IsDoneAt f [] verb o c
 unfolding step_field field_outcome
 end_at f verb None c h = h
 end_at f verb (Some e) c h =

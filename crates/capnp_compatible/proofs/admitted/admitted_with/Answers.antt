@@ -7,19 +7,19 @@ use Rattle.capnp_records.specs.Sets.{nodes_of}
 use Rattle.capnp_calls.specs.CallViews.{call_view}
 use Rattle.capnp_calls.specs.declared.call.Call.{Call}
 use Rattle.capnp_model.proofs.lemmas.Lists.{take-all}
-use Rattle.capnp_compatible.specs.Renamed.{names_in, renamings_of}
+use Rattle.capnp_compatible.specs.Renamed.{names_in}
 use Rattle.capnp_model.specs.Partners.{Renaming}
 use Rattle.capnp_compatible.specs.Holders.{schema_in}
 use Rattle.capnp_compatible.specs.Ways.{IsFirstRefused}
 use Rattle.capnp_compatible.proofs.FirstRefused.{first_refused, next_tested}
 use Rattle.capnp_compatible.proofs.admitted.admitted_with.Goals as goal
 
-pub returns-then-not-branch-clause-answer : goal.returns-then-not-branch-clause-answer
-returns-then-not-branch-clause-answer c =
+pub returns-then-not-is_admitted-clause-answer : goal.returns-then-not-is_admitted-clause-answer
+returns-then-not-is_admitted-clause-answer c =
     let v = c.in_ok-versions.versions in
     let i = c.args.older.id in
     let j = c.args.newer.id in
-    let e : false ≡ is_admitted_with (names_in v.names) (schema_in v.older) (schema_in v.newer) i j (call_view c.index-calls-i.result) = sym c.if-not-branch.true ∙ c.in_ok-is_admitted.ensures in
+    let e : false ≡ is_admitted_with (names_in v.names) (schema_in v.older) (schema_in v.newer) i j (call_view c.index-calls-i.result) = sym c.if-not-is_admitted.true ∙ c.is_admitted.ensures in
     subst (λ (rs : List Renaming). IsFirstRefused (is_admitted_with rs (schema_of (nodes_of c.args.older.set.now)) (schema_of (nodes_of c.args.newer.set.now)) i j) (map call_view c.args.calls.now) (c.loop-i.i + 1)) c.in_ok-versions.ensures.names
     (subst (λ (ns : List Node). IsFirstRefused (is_admitted_with (names_in v.names) (schema_of ns) (schema_of (nodes_of c.args.newer.set.now)) i j) (map call_view c.args.calls.now) (c.loop-i.i + 1)) c.in_ok-versions.ensures.older
     (subst (λ (ns : List Node). IsFirstRefused (is_admitted_with (names_in v.names) (schema_in v.older) (schema_of ns) i j) (map call_view c.args.calls.now) (c.loop-i.i + 1)) c.in_ok-versions.ensures.newer
@@ -28,7 +28,7 @@ returns-then-not-branch-clause-answer c =
 pub loop-i-preserved : goal.loop-i-preserved
 loop-i-preserved c =
     let v = c.in_ok-versions.versions in
-    let e : true ≡ is_admitted_with (names_in v.names) (schema_in v.older) (schema_in v.newer) c.args.older.id c.args.newer.id (call_view c.index-calls-i.result) = sym c.if-not-branch.false ∙ c.in_ok-is_admitted.ensures in
+    let e : true ≡ is_admitted_with (names_in v.names) (schema_in v.older) (schema_in v.newer) c.args.older.id c.args.newer.id (call_view c.index-calls-i.result) = sym c.if-not-is_admitted.false ∙ c.is_admitted.ensures in
     next_tested (is_admitted_with (names_in v.names) (schema_in v.older) (schema_in v.newer) c.args.older.id c.args.newer.id) call_view c.args.calls.now c.loop-i.i c.index-calls-i.result true c.loop-i-test.true c.index-calls-i.is c.loop-i.invariant e
 
 pub returns-clause-answer : goal.returns-clause-answer

@@ -26,12 +26,12 @@ returns-in-None c = λ path verb.
     = c.holder-b.ensures.shape ∙ ap (λ (k : ℕ). shape_by (λ g. shape_in (nodes_in c.args.versions.now.newer) k g) c.holder-b.result) (sym c.saturating_sub-2.ensures) in
     named c.args.versions.now c.args.levels below c.args.older c.args.newer c.holder-a.result c.holder-b.result first second c.args.name.now (goes_on c.args.versions.now path verb) (Some c.in-Some.field.now) None (sym c.in-Some.ensures) (ap (λ (n : List ℕ). first_named n c.holder-b.result.fields.now) (sym c.partner.ensures) ∙ sym c.in-None.ensures)
 
-pub returns-in-Some-find_field : goal.returns-in-Some-find_field
-returns-in-Some-find_field c = λ path verb.
+pub returns-in-Some-field : goal.returns-in-Some-field
+returns-in-Some-field c = λ path verb.
     let below : Levels = record { older = c.saturating_sub.result; newer = c.saturating_sub-2.result } in
     let first : shape_in (nodes_in c.args.versions.now.older) c.args.levels.older c.args.older ≡ shape_by (λ g. shape_in (nodes_in c.args.versions.now.older) c.saturating_sub.result g) c.holder-a.result
     = c.holder-a.ensures.shape ∙ ap (λ (k : ℕ). shape_by (λ g. shape_in (nodes_in c.args.versions.now.older) k g) c.holder-a.result) (sym c.saturating_sub.ensures) in
     let second : shape_in (nodes_in c.args.versions.now.newer) c.args.levels.newer c.args.newer ≡ shape_by (λ g. shape_in (nodes_in c.args.versions.now.newer) c.saturating_sub-2.result g) c.holder-b.result
     = c.holder-b.ensures.shape ∙ ap (λ (k : ℕ). shape_by (λ g. shape_in (nodes_in c.args.versions.now.newer) k g) c.holder-b.result) (sym c.saturating_sub-2.ensures) in
-    named c.args.versions.now c.args.levels below c.args.older c.args.newer c.holder-a.result c.holder-b.result first second c.args.name.now (goes_on c.args.versions.now path verb) (Some c.in-Some.field.now) (Some c.in-Some-find_field.other.now) (sym c.in-Some.ensures) (ap (λ (n : List ℕ). first_named n c.holder-b.result.fields.now) (sym c.partner.ensures) ∙ sym c.in-Some-find_field.ensures)
+    named c.args.versions.now c.args.levels below c.args.older c.args.newer c.holder-a.result c.holder-b.result first second c.args.name.now (goes_on c.args.versions.now path verb) (Some c.in-Some.field.now) (Some c.in-Some-field.other.now) (sym c.in-Some.ensures) (ap (λ (n : List ℕ). first_named n c.holder-b.result.fields.now) (sym c.partner.ensures) ∙ sym c.in-Some-field.ensures)
     ∙ c.at_fields.ensures c.args.versions.now path verb

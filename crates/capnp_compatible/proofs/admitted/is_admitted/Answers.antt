@@ -1,5 +1,4 @@
 use Rattle.std.proofs.Common.{◌≡◌, ◌-◌, List, ◌∷◌, map, length, take, drop, sym, ◌∙◌, ap}
-use Rattle.std.proofs.lemmas.Result.{IfOk-weaker}
 use Rattle.capnp_records.proofs.lemmas.ListTests.{first_and_rest, no_more}
 use Rattle.capnp_calls.specs.CallViews.{step_view, call_view}
 use Rattle.capnp_calls.specs.declared.call.Step.{Step}
@@ -52,7 +51,7 @@ pub returns : goal.returns
 returns c =
     let v = c.args.versions.now in
     let verb = (call_view c.args.call.now).verb in
-    IfOk-weaker c.is_admitted_end.result _ _ (λ b h.
-    h ∙ sym (no_step (names_in v.names) (schema_in v.older) (schema_in v.newer) verb (at_seen v c.loop-rest.at))
+    c.is_admitted_end.ensures
+    ∙ sym (no_step (names_in v.names) (schema_in v.older) (schema_in v.newer) verb (at_seen v c.loop-rest.at))
     ∙ ap (λ (xs : List Step). goes_on v (map step_view xs) verb (at_seen v c.loop-rest.at)) (sym (no_more c.loop-rest.rest.now c.in_default.len_below))
-    ∙ c.loop-rest.invariant) c.is_admitted_end.ensures
+    ∙ c.loop-rest.invariant

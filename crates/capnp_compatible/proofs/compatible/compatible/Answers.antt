@@ -1,4 +1,4 @@
-use Rattle.std.proofs.Common.{Bool, List, IfOk, subst}
+use Rattle.std.proofs.Common.{List, IfOk, subst}
 use Rattle.std.specs.Bool.{MatchBool}
 use Rattle.capnp_model.specs.Partners.{Renaming}
 use Rattle.capnp_compatible.specs.Roots.{AreCompatibleWith}

@@ -1,6 +1,5 @@
 use Rattle.std.proofs.Common.{◌≡◌, ◌-◌, ℕ, true, false, List, ◌∷◌, option_map, length, take, drop, string_bytes, sym, ◌∙◌, ap}
 use Rattle.std.specs.Option.{option_copied}
-use Rattle.std.proofs.lemmas.Result.{IfOk-weaker}
 use Rattle.capnp_model.specs.Schemas.{type_of, Shape}
 use Rattle.capnp_model.specs.Accepted.{shape_in}
 use Rattle.capnp_model.specs.Steps.{target}
@@ -40,33 +39,33 @@ pub extends_field-returns-in-Group-body : goal.extends_field-returns-in-Group-bo
 extends_field-returns-in-Group-body t c =
     let v = c.args.versions.now in
     let member = member_of c.args.older.now.discriminant_value in
-    IfOk-weaker c.is_extended.result _ _ (λ b h. h ∙ ap (λ (g : Shape). is_extended g (newer_shape v c.args.levels c.in-Group.other)) (newer-words (names_in v.names) (older_shape v c.args.levels c.in-Group-body.node)) ∙ sym (ap (λ (x : FieldBody). extends_field (target member (kept_body v c.args.levels c.args.older.now.body)) (newer_body v c.args.levels x)) c.in-Group.is
+    c.is_extended.ensures ∙ ap (λ (g : Shape). is_extended g (newer_shape v c.args.levels c.in-Group.other)) (newer-words (names_in v.names) (older_shape v c.args.levels c.in-Group-body.node)) ∙ sym (ap (λ (x : FieldBody). extends_field (target member (kept_body v c.args.levels c.args.older.now.body)) (newer_body v c.args.levels x)) c.in-Group.is
     ∙ ap (λ (x : FieldBody). extends_field (target member (kept_body v c.args.levels x)) (newer_body v c.args.levels (B.Group c.in-Group.other))) c.in-Group-body.is
-    ∙ group_for_group member (kept_shape v c.args.levels c.in-Group-body.node) (newer_shape v c.args.levels c.in-Group.other))) c.is_extended.ensures
+    ∙ group_for_group member (kept_shape v c.args.levels c.in-Group-body.node) (newer_shape v c.args.levels c.in-Group.other))
 
-pub extends_fields-returns-in_default-find : goal.extends_fields-returns-in_default-find
-extends_fields-returns-in_default-find t c =
+pub extends_fields-returns-in_default-find_partner : goal.extends_fields-returns-in_default-find_partner
+extends_fields-returns-in_default-find_partner t c =
     let v = c.args.versions.now in
     let rest = c.loop-rest.rest.now in
     let first = c.first-item.result in
     let more = take (length rest - 1) (drop 1 rest) in
     let split : rest ≡ first ∷ more = first_and_rest rest first c.in-len1-up.len_at_least c.first-item.is in
-    let whole : extends_fields (older_fields v c.args.levels c.args.node c.args.older.now) (newer_fields v c.args.levels (first ∷ more)) ≡ extends_fields (older_fields v c.args.levels c.args.node c.args.older.now) (newer_fields v c.args.levels c.args.newer.now)
-    = ap (λ (xs : List FieldRecord). extends_fields (older_fields v c.args.levels c.args.node c.args.older.now) (newer_fields v c.args.levels xs)) (sym split) ∙ c.loop-rest.invariant in
-    let found : option_copied c.find.result ≡ first_partner (names_in v.names) c.args.node (string_bytes first.name) c.args.older.now = c.find.ensures ∙ c.in_ok-partners.ensures c.as_str.result.now ∙ ap (λ (n : List ℕ). first_partner (names_in v.names) c.args.node n c.args.older.now) c.as_str.ensures.value in
-    sym (lacking v c.args.levels c.args.node c.args.older.now first more (sym found ∙ ap option_copied c.in_default-find.is)) ∙ whole
+    let whole : extends_fields (older_fields v c.args.levels c.args.older.id c.args.older.fields.now) (newer_fields v c.args.levels (first ∷ more)) ≡ extends_fields (older_fields v c.args.levels c.args.older.id c.args.older.fields.now) (newer_fields v c.args.levels c.args.newer.now)
+    = ap (λ (xs : List FieldRecord). extends_fields (older_fields v c.args.levels c.args.older.id c.args.older.fields.now) (newer_fields v c.args.levels xs)) (sym split) ∙ c.loop-rest.invariant in
+    let found : option_copied c.find_partner.result ≡ first_partner (names_in v.names) c.args.older.id (string_bytes first.name) c.args.older.fields.now = c.find_partner.ensures ∙ ap (λ (n : List ℕ). first_partner (names_in v.names) c.args.older.id n c.args.older.fields.now) c.as_str.ensures.value in
+    sym (lacking v c.args.levels c.args.older.id c.args.older.fields.now first more (sym found ∙ ap option_copied c.in_default-find_partner.is)) ∙ whole
 
-pub extends_fields-returns-then-branch : goal.extends_fields-returns-then-branch
-extends_fields-returns-then-branch t c =
+pub extends_fields-returns-then-extends_field : goal.extends_fields-returns-then-extends_field
+extends_fields-returns-then-extends_field t c =
     let v = c.args.versions.now in
     let rest = c.loop-rest.rest.now in
     let first = c.first-item.result in
     let more = take (length rest - 1) (drop 1 rest) in
     let split : rest ≡ first ∷ more = first_and_rest rest first c.in-len1-up.len_at_least c.first-item.is in
-    let whole : extends_fields (older_fields v c.args.levels c.args.node c.args.older.now) (newer_fields v c.args.levels (first ∷ more)) ≡ extends_fields (older_fields v c.args.levels c.args.node c.args.older.now) (newer_fields v c.args.levels c.args.newer.now)
-    = ap (λ (xs : List FieldRecord). extends_fields (older_fields v c.args.levels c.args.node c.args.older.now) (newer_fields v c.args.levels xs)) (sym split) ∙ c.loop-rest.invariant in
-    let found : option_copied c.find.result ≡ first_partner (names_in v.names) c.args.node (string_bytes first.name) c.args.older.now = c.find.ensures ∙ c.in_ok-partners.ensures c.as_str.result.now ∙ ap (λ (n : List ℕ). first_partner (names_in v.names) c.args.node n c.args.older.now) c.as_str.ensures.value in
-    sym (with_partner v c.args.levels c.args.node c.args.older.now first more c.in-Some.partner.now (sym found ∙ ap option_copied c.in-Some.is) true (sym c.if-branch.true ∙ c.in_ok-extends_field.ensures)) ∙ whole
+    let whole : extends_fields (older_fields v c.args.levels c.args.older.id c.args.older.fields.now) (newer_fields v c.args.levels (first ∷ more)) ≡ extends_fields (older_fields v c.args.levels c.args.older.id c.args.older.fields.now) (newer_fields v c.args.levels c.args.newer.now)
+    = ap (λ (xs : List FieldRecord). extends_fields (older_fields v c.args.levels c.args.older.id c.args.older.fields.now) (newer_fields v c.args.levels xs)) (sym split) ∙ c.loop-rest.invariant in
+    let found : option_copied c.find_partner.result ≡ first_partner (names_in v.names) c.args.older.id (string_bytes first.name) c.args.older.fields.now = c.find_partner.ensures ∙ ap (λ (n : List ℕ). first_partner (names_in v.names) c.args.older.id n c.args.older.fields.now) c.as_str.ensures.value in
+    sym (with_partner v c.args.levels c.args.older.id c.args.older.fields.now first more c.in-Some.partner.now (sym found ∙ ap option_copied c.in-Some.is) true (sym c.if-extends_field.true ∙ c.extends_field.ensures)) ∙ whole
 
 pub extends_fields-loop-rest-preserved : goal.extends_fields-loop-rest-preserved
 extends_fields-loop-rest-preserved t c =
@@ -75,15 +74,15 @@ extends_fields-loop-rest-preserved t c =
     let first = c.first-item.result in
     let more = take (length rest - 1) (drop 1 rest) in
     let split : rest ≡ first ∷ more = first_and_rest rest first c.in-len1-up.len_at_least c.first-item.is in
-    let whole : extends_fields (older_fields v c.args.levels c.args.node c.args.older.now) (newer_fields v c.args.levels (first ∷ more)) ≡ extends_fields (older_fields v c.args.levels c.args.node c.args.older.now) (newer_fields v c.args.levels c.args.newer.now)
-    = ap (λ (xs : List FieldRecord). extends_fields (older_fields v c.args.levels c.args.node c.args.older.now) (newer_fields v c.args.levels xs)) (sym split) ∙ c.loop-rest.invariant in
-    let found : option_copied c.find.result ≡ first_partner (names_in v.names) c.args.node (string_bytes first.name) c.args.older.now = c.find.ensures ∙ c.in_ok-partners.ensures c.as_str.result.now ∙ ap (λ (n : List ℕ). first_partner (names_in v.names) c.args.node n c.args.older.now) c.as_str.ensures.value in
-    sym (with_partner v c.args.levels c.args.node c.args.older.now first more c.in-Some.partner.now (sym found ∙ ap option_copied c.in-Some.is) false (sym c.if-branch.false ∙ c.in_ok-extends_field.ensures)) ∙ whole
+    let whole : extends_fields (older_fields v c.args.levels c.args.older.id c.args.older.fields.now) (newer_fields v c.args.levels (first ∷ more)) ≡ extends_fields (older_fields v c.args.levels c.args.older.id c.args.older.fields.now) (newer_fields v c.args.levels c.args.newer.now)
+    = ap (λ (xs : List FieldRecord). extends_fields (older_fields v c.args.levels c.args.older.id c.args.older.fields.now) (newer_fields v c.args.levels xs)) (sym split) ∙ c.loop-rest.invariant in
+    let found : option_copied c.find_partner.result ≡ first_partner (names_in v.names) c.args.older.id (string_bytes first.name) c.args.older.fields.now = c.find_partner.ensures ∙ ap (λ (n : List ℕ). first_partner (names_in v.names) c.args.older.id n c.args.older.fields.now) c.as_str.ensures.value in
+    sym (with_partner v c.args.levels c.args.older.id c.args.older.fields.now first more c.in-Some.partner.now (sym found ∙ ap option_copied c.in-Some.is) false (sym c.if-extends_field.false ∙ c.extends_field.ensures)) ∙ whole
 
 pub extends_fields-returns : goal.extends_fields-returns
 extends_fields-returns t c =
     let v = c.args.versions.now in
-    let older = older_fields v c.args.levels c.args.node c.args.older.now in
+    let older = older_fields v c.args.levels c.args.older.id c.args.older.fields.now in
     sym (none_left older) ∙ ap (λ (xs : List FieldRecord). extends_fields older (newer_fields v c.args.levels xs)) (sym (no_more c.loop-rest.rest.now c.in_default.len_below)) ∙ c.loop-rest.invariant
 
 pub is_extended-returns-then-levels-eq0 : goal.is_extended-returns-then-levels-eq0
@@ -98,4 +97,4 @@ is_extended-returns t c =
     let below : Levels = record { older = c.saturating_sub.result; newer = c.args.levels.newer - 1 } in
     let first : shape_in (nodes_in v.older) c.args.levels.older c.args.older ≡ shape_by (λ g. shape_in (nodes_in v.older) c.saturating_sub.result g) c.holder-a.result
     = c.holder-a.ensures.shape ∙ ap (λ (k : ℕ). shape_by (λ g. shape_in (nodes_in v.older) k g) c.holder-a.result) (sym c.saturating_sub.ensures) in
-    IfOk-weaker c.extends_fields.result _ _ (λ b h. h ∙ sym (ap (λ (g : Shape). is_extended g (newer_shape v c.args.levels c.args.newer)) (newer-words (names_in v.names) (older_shape v c.args.levels c.args.older)) ∙ groups_extended v c.args.levels below c.args.older c.args.newer c.holder-a.result c.holder-b.result first c.holder-b.ensures.shape)) c.extends_fields.ensures
+    c.extends_fields.ensures ∙ sym (ap (λ (g : Shape). is_extended g (newer_shape v c.args.levels c.args.newer)) (newer-words (names_in v.names) (older_shape v c.args.levels c.args.older)) ∙ groups_extended v c.args.levels below c.args.older c.args.newer c.holder-a.result c.holder-b.result first c.holder-b.ensures.shape)

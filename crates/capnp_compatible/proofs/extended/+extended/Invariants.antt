@@ -14,7 +14,7 @@ decreases-extends_fields l = 3 * l.levels.newer + 2
 
 -- the rest decides
 abbrev pub invariant-extends_fields-loop-rest : goal.invariant-extends_fields-loop-rest
-invariant-extends_fields-loop-rest l = extends_fields (older_fields l.fn.versions l.fn.levels l.fn.node l.fn.older) (newer_fields l.fn.versions l.fn.levels l.rest) ≡ extends_fields (older_fields l.fn.versions l.fn.levels l.fn.node l.fn.older) (newer_fields l.fn.versions l.fn.levels l.fn.newer)
+invariant-extends_fields-loop-rest l = extends_fields (older_fields l.fn.versions l.fn.levels l.fn.older.id l.fn.older.fields.now) (newer_fields l.fn.versions l.fn.levels l.rest) ≡ extends_fields (older_fields l.fn.versions l.fn.levels l.fn.older.id l.fn.older.fields.now) (newer_fields l.fn.versions l.fn.levels l.fn.newer)
 
 abbrev pub decreases-extends_fields-loop-rest : goal.decreases-extends_fields-loop-rest
 decreases-extends_fields-loop-rest l = length l.rest

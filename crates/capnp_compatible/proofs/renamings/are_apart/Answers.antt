@@ -1,10 +1,10 @@
-use Rattle.std.proofs.Common.{◌≡◌, ◌-◌, ◌<◌, suc, ◌∷◌, ℕ, Bool, true, false, not, ◌&&◌, ◌||◌, ◌==◌, List, map, length, drop, drop-cons, refl, sym, ◌∙◌, ap, arith}
+use Rattle.std.proofs.Common.{◌≡◌, ◌-◌, ◌<◌, suc, ◌∷◌, ℕ, true, false, not, ◌&&◌, ◌||◌, ◌==◌, List, map, length, drop, drop-cons, sym, ◌∙◌, ap, arith}
 use Rattle.std.specs.List.{list_any}
 use Rattle.std.specs.Str.{bytes_eq}
 use Rattle.capnp_model.specs.Partners.{same_key, are_apart}
 use Rattle.capnp_model.proofs.lemmas.Tests.{not_is_false, not_is_true}
 use Rattle.capnp_compatible.specs.declared.renamings.Renaming.{Renaming}
-use Rattle.capnp_compatible.specs.Renamed.{name_in, key_in}
+use Rattle.capnp_compatible.specs.Renamings.{name_in, key_in}
 use Rattle.capnp_compatible.proofs.Known.{either}
 use Rattle.capnp_compatible.proofs.RenamedLists.{behind}
 use Rattle.capnp_compatible.proofs.renamings.are_apart.Goals as goal

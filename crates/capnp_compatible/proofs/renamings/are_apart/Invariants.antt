@@ -3,7 +3,7 @@ use Rattle.std.proofs.Common.{◌≡◌, ◌≤◌, ◌==◌, ◌&&◌, true, �
 use Rattle.std.specs.List.{list_any}
 use Rattle.std.specs.Str.{bytes_eq}
 use Rattle.capnp_model.specs.Partners.{same_key, are_apart}
-use Rattle.capnp_compatible.specs.Renamed.{key_in}
+use Rattle.capnp_compatible.specs.Renamings.{key_in}
 use Rattle.capnp_compatible.proofs.renamings.are_apart.Given as goal
 
 abbrev pub invariant-loop-left : goal.invariant-loop-left

@@ -13,6 +13,12 @@ use Rattle.capnp_model.specs.Schemas.{words_of_shape, pointers_of_shape}
 use Rattle.capnp_builders.proofs.lemmas.Begun.{Laws, made_then}
 use Rattle.capnp_widening.specs.MovedElements.{as_structs}
 use Rattle.capnp_dynamic.proofs.lemmas.Grown.{begin_grows, gets_grow}
+use Rattle.std.proofs.lemmas.Result.{err_from_is_err_and}
+use Rattle.capnp_units.specs.declared.errors.Error.{Error}
+use Rattle.capnp_copy.specs.Refusals.{IsSizeOrRefusal}
+use Rattle.capnp_copy.specs.States.{state_in}
+use Rattle.capnp_edits.proofs.ClaimsBehind.{begun_told}
+use Rattle.capnp_edits.proofs.ClaimsLists.{no_structs_claimed}
 use Rattle.capnp_edits.proofs.BegunLists.{structs_value, other_value}
 use Rattle.capnp_edits.proofs.lists.begin_list.Goals as goal
 
@@ -71,3 +77,18 @@ returns-in-None-clause-value g c =
 pub returns-in-None-clause-grows : goal.returns-in-None-clause-grows
 returns-in-None-clause-grows g c = λ n t own.
     begin_grows (option_copied c.args.default) (words_in (g.A.ReaderArena.segments c.args.arena.now)) (words_in (g.A.ReaderArena.segments c.begin.new.arena)) (place_view c.args.slot) (Ok tt) c.in_ok-begin.ensures.begins
+
+pub returns-in_err-begin-clause-cause : goal.returns-in_err-begin-clause-cause
+returns-in_err-begin-clause-cause g c d holds =
+    let at = state_in g.A.ReaderArena.segments g.A.BuilderArena.room g.A.BuilderArena.books in
+    let told : Error → Type 0 = IsSizeOrRefusal g.A.BuilderArena.refuses in
+    let h = err_from_is_err_and c.from_residual.result c.from_residual.ensures.1 in
+    rw (h.1, h.2) (λ n t own sound. begun_told (option_copied c.args.default) d holds (at c.args.arena.now) (at c.begin.new.arena) (place_view c.args.slot) told c.in_err-begin.field-0.0 c.in_err-begin.ensures.told)
+
+pub returns-in_err-get_struct_list-in-Some-clause-cause : goal.returns-in_err-get_struct_list-in-Some-clause-cause
+returns-in_err-get_struct_list-in-Some-clause-cause g c d holds =
+    let at = state_in g.A.ReaderArena.segments g.A.BuilderArena.room g.A.BuilderArena.books in
+    let told : Error → Type 0 = IsSizeOrRefusal g.A.BuilderArena.refuses in
+    let h = err_from_is_err_and c.from_residual-in_err-get_struct_list-in-Some.result c.from_residual-in_err-get_struct_list-in-Some.ensures.1 in
+    rw (h.1, h.2) (no_structs_claimed (option_copied c.args.default) d holds c.args.slot (schema_of (nodes_of c.args.set.now)) (ty_of c.args.ty) c.gets_are_readings.ensures.lists (at c.args.arena.now) (at c.begin.new.arena) told c.in_err-get_struct_list-in-Some.field-0.0 (id_of c.in-Some.schema) (sym c.in-Some.ensures.named)
+    (record { begins = c.in_ok-begin.ensures.begins; tells = c.in_ok-begin.ensures.told }) c.in_err-get_struct_list-in-Some.ensures.cause)

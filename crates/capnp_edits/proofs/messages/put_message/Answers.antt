@@ -8,6 +8,9 @@ use Rattle.capnp_wire.specs.Places.{place_view}
 use Rattle.capnp_copy_from.specs.Defaults.{default_segments, is_null_at}
 use Rattle.capnp_call_messages.specs.Messages.{tree_of_message}
 use Rattle.capnp_dynamic.specs.GroupSets.{HoldsDefault}
+use Rattle.std.proofs.lemmas.Result.{err_from_is_err_and}
+use Rattle.capnp_copy.specs.Refusals.{IsSizeOrRefusal}
+use Rattle.capnp_edits.proofs.ClaimsMessages.{root_told}
 use Rattle.capnp_edits.proofs.SetMessages.{emptied, root_put}
 use Rattle.capnp_edits.proofs.messages.put_message.Goals as goal
 
@@ -26,3 +29,15 @@ returns-clause-puts g c =
     let holds = subst (λ bs. IsSome (decode bs) → HoldsDefault ws (default_or_null (decode bs))) c.segment.ensures c.words_of-words.ensures.value c.args.message.now.readable in
     let some : is_null_at (default_segments ws) root ≡ false = sym c.has_null_root.ensures ∙ c.if-has_null_root.false in
     root_put (default_segments ws) (words_in (g.A.ReaderArena.segments c.args.arena.now)) (words_in (g.A.ReaderArena.segments c.copy_root.new.arena)) (place_view c.args.slot) c.copy_root.result t holds some (c.copy_root.ensures.puts t holds)
+
+pub returns-in_err-init_struct-clause-cause : goal.returns-in_err-init_struct-clause-cause
+returns-in_err-init_struct-clause-cause g c =
+    let h = err_from_is_err_and c.from_residual.result c.from_residual.ensures.1 in
+    rw (h.1, h.2) c.in_err-init_struct.ensures.cause
+
+pub returns-clause-cause : goal.returns-clause-cause
+returns-clause-cause g c =
+    let ws = c.words_of-words.result.now in
+    let t = tree_of_message c.args.message.now in
+    let holds = subst (λ bs. IsSome (decode bs) → HoldsDefault ws (default_or_null (decode bs))) c.segment.ensures c.words_of-words.ensures.value c.args.message.now.readable in
+    root_told (IsSizeOrRefusal g.A.BuilderArena.refuses) ws t (words_in (g.A.ReaderArena.segments c.copy_root.new.arena)) c.copy_root.result holds c.copy_root.ensures.why

@@ -1,4 +1,4 @@
-use Rattle.std.proofs.Common.{◌≡◌, true, refl, sym, ◌∙◌}
+use Rattle.std.proofs.Common.{◌≡◌, ◌*◌, true, false, refl, sym, ◌∙◌}
 use Rattle.std.specs.Prelude.{option_map, option_copied}
 use Rattle.capnp_model.specs.Accepted.{default_tree}
 use Rattle.capnp_model.specs.Schemas.{void_slot}
@@ -9,13 +9,16 @@ use Rattle.capnp_records.specs.NodeViews.{field_of, value_of}
 use Rattle.capnp_call_messages.specs.Messages.{tree_of_message}
 use Rattle.capnp_queries.specs.Structs.{shape_of_struct}
 use Rattle.capnp_queries.specs.Types.{ty_of}
-use Rattle.capnp_queries.specs.declared.slots.FieldPlace.TheVariants as F
 use Rattle.capnp_calls.proofs.lemmas.OneStep.{is_void}
 use Rattle.capnp_dynamic.proofs.lemmas.Ready.{areas_inside, slot_there}
 use Rattle.capnp_dynamic.proofs.lemmas.Grown.{there_grown}
 use Rattle.capnp_dynamic.proofs.lemmas.GroupFields.{slot_inside}
 use Rattle.capnp_edits.specs.Written.{takes_message}
 use Rattle.capnp_edits.proofs.Ends.{bits_end}
+use Rattle.std.proofs.lemmas.Result.{err_from_is_err_and}
+use Rattle.capnp_model.specs.Schemas.{width}
+use Rattle.capnp_queries.specs.Handles.{plain_of}
+use Rattle.capnp_edits.proofs.ClaimsEnds.{message_never, no_plain_message}
 use Rattle.capnp_edits.proofs.SetMessages.{message_end}
 use Rattle.capnp_edits.proofs.messages.set_message.Goals as goal
 
@@ -61,3 +64,17 @@ returns-in_ok-put_message-in-Pointer-clause-writes g c =
 
 pub set_group-requires-clause-group : goal.set_group-requires-clause-group
 set_group-requires-clause-group g c = (shape_of_struct c.in-Group.schema, c.in-Group.ensures.body)
+
+pub returns-then-not-takes_message-clause-cause : goal.returns-then-not-takes_message-clause-cause
+returns-then-not-takes_message-clause-cause g c =
+    let no : takes_message (ty_of c.in-Pointer.ty) ≡ false = sym c.takes_message.ensures ∙ c.if-not-takes_message.true in
+    message_never c.args.field (field_of c.get_proto-said.result.now) c.get_proto-said.ensures _ c.in-Pointer.ensures.body (tree_of_message c.args.value.now) c.in-Pointer.index (ty_of c.in-Pointer.ty) (default_tree (option_map value_of (option_copied c.in-Pointer.default))) refl no _
+
+pub returns-in_err-put_message-in-Pointer-clause-cause : goal.returns-in_err-put_message-in-Pointer-clause-cause
+returns-in_err-put_message-in-Pointer-clause-cause g c =
+    let h = err_from_is_err_and c.from_residual.result c.from_residual.ensures.1 in
+    rw (h.1, h.2) (λ cell is_done. c.in_err-put_message-in-Pointer.ensures.cause)
+
+pub returns-in-Plain-clause-cause : goal.returns-in-Plain-clause-cause
+returns-in-Plain-clause-cause g c =
+    no_plain_message c.args.field (field_of c.get_proto-said.result.now) c.get_proto-said.ensures _ c.in-Plain.ensures.body (tree_of_message c.args.value.now) (plain_of c.in-Plain.ty) (width (plain_of c.in-Plain.ty) * c.in-Plain.offset) c.in-Plain.default_bits refl _

@@ -1,4 +1,7 @@
-use Rattle.std.proofs.Common.{◌*◌, refl, sym, ◌∙◌}
+use Rattle.std.proofs.Common.{inl, inr, ◌*◌, refl, ap, sym, ◌∙◌}
+use Rattle.capnp_calls.specs.Contents.{bits_content}
+use Rattle.capnp_edits.proofs.Claims.{none_of}
+use Rattle.capnp_edits.proofs.ClaimsEnds.{plain_never, place_claimed}
 use Rattle.capnp_model.specs.Schemas.{width, void_slot}
 use Rattle.capnp_model.specs.Calls.{set_to}
 use Rattle.capnp_units.specs.Segments.{words_in}
@@ -57,3 +60,15 @@ returns-in-Some-clause-writes g c =
 pub returns-in-Some-clause-grows : goal.returns-in-Some-clause-grows
 returns-in-Some-clause-grows g c =
     sizes_grow (words_in (g.A.ReaderArena.segments c.args.arena.now)) (words_in (g.A.ReaderArena.segments c.set_bits.new.arena)) (c.set_bits.ensures.sizes ∙ c.mark-in-Plain.ensures.sizes)
+
+pub returns-in_default-clause-cause : goal.returns-in_default-clause-cause
+returns-in_default-clause-cause g c single =
+    let q = plain_of c.in-Plain.ty in
+    let none = none_of c.bits_for.result c.in_default.not-Some in
+    plain_never c.args.field (field_of c.get_proto-said.result.now) c.get_proto-said.ensures _ c.in-Plain.ensures.body (slot_value_view c.args.value.now) q (width q * c.in-Plain.offset) c.in-Plain.default_bits refl _ (sym c.bits_for.ensures.content ∙ ap bits_content none) _
+
+pub returns-in-Pointer-clause-cause : goal.returns-in-Pointer-clause-cause
+returns-in-Pointer-clause-cause g c single =
+    place_claimed c.args.field (field_of c.get_proto-said.result.now) c.get_proto-said.ensures (slot_value_view c.args.value.now) single c.place.result c.place.ensures.body
+    (λ o e. elim c.in-Pointer.is [ inl x ↦ (let z = sym e ∙ x.3 in cc z) | inr x ↦ (let z = sym e ∙ x.1 in cc z) ])
+    (λ ty o d e. elim c.in-Pointer.is [ inl x ↦ (let z = sym e ∙ x.3 in cc z) | inr x ↦ (let z = sym e ∙ x.1 in cc z) ]) _

@@ -1,6 +1,7 @@
 use Rattle.std.proofs.Common.{◌+◌, ◌-◌, ◌/◌, ◌<◌, ◌≤◌, ℕ, Less, Equal, Greater, map, length, get_or, arith}
 use Rattle.capnp_records.specs.NodeViews.{field_of}
-use Rattle.capnp_queries.proofs.NameSearch.{place_inside, rank_there, below_middle, above_middle, halved, found_there, found_nowhere, nothing_left}
+use Rattle.capnp_records.proofs.lemmas.FieldPlaces.{length_mapped}
+use Rattle.capnp_queries.proofs.NameSearch.{place_inside, rank_there, below_middle, above_middle, halved, some_compared, found_there, found_nowhere, nothing_left}
 use Rattle.capnp_queries.proofs.names.place_of.Goals as goal
 
 in_range : (low high n : ℕ) → low < high → high ≤ n → low + (high - low) / 2 < n
@@ -23,6 +24,7 @@ loop-low-preserved-in-Less c =
           (rank_there fields places (low + (high - low) / 2) c.index-fields-place.result c.deref.result.now name Less c.requires.by_name lower c.index-fields-place.is c.deref.ensures c.in-Less.ensures.ordering);
       above = c.loop-low.invariant.above;
       few = λ digits fits. halved (high - low) (high - (low + (high - low) / 2 + 1)) c.loop-low.names.count c.compare.new.self.count digits (omega (arith, some)) (c.loop-low.invariant.few digits fits) (omega (arith, some)) (omega (arith, compared));
+      begun = λ none. absurd (omega (arith, none, compared));
     }
 
 pub returns-in-Equal-clause-place : goal.returns-in-Equal-clause-place
@@ -54,6 +56,7 @@ loop-low-preserved c =
       above = above_middle (map field_of fields) name places (low + (high - low) / 2) c.requires.by_name
           (rank_there fields places (low + (high - low) / 2) c.index-fields-place.result c.deref.result.now name Greater c.requires.by_name lower c.index-fields-place.is c.deref.ensures c.in-Greater.ensures.ordering);
       few = λ digits fits. halved (high - low) (low + (high - low) / 2 - low) c.loop-low.names.count c.compare.new.self.count digits (omega (arith, some)) (c.loop-low.invariant.few digits fits) (omega (arith, some)) (omega (arith, compared));
+      begun = λ none. absurd (omega (arith, none, compared));
     }
 
 pub returns-clause-place : goal.returns-clause-place
@@ -61,3 +64,11 @@ returns-clause-place c =
     let fs = map field_of c.args.fields.now in
     found_nowhere fs c.args.name.now c.args.by_name.now c.requires.by_name
     (nothing_left fs c.args.name.now c.args.by_name.now c.loop-low.low c.loop-low.high c.loop-low-test.false c.loop-low.invariant.below c.loop-low.invariant.above)
+
+pub returns-clause-some : goal.returns-clause-some
+returns-clause-some c some =
+    let long = length_mapped field_of c.args.fields.now in
+    let more = some_compared c.loop-low.names.count c.loop-low.low c.loop-low.high (length c.args.by_name.now) (length (map field_of c.args.fields.now))
+    c.loop-low.invariant.begun c.loop-low-test.false c.requires.by_name.count (omega (arith, long, some)) in
+    let told = c.count-2.ensures in
+    omega (arith, more, told)

@@ -11,6 +11,7 @@ invariant-loop-low l = record {
   below : (k : ℕ) → k < l.low → rank (map field_of l.fn.fields) l.fn.name (get_or l.fn.by_name k 0) ≡ 0;
   above : (k : ℕ) → l.high ≤ k → k < length l.fn.by_name → rank (map field_of l.fn.fields) l.fn.name (get_or l.fn.by_name k 0) ≡ 2;
   few : (digits : ℕ) → length l.fn.by_name < 2 ^ digits → (l.names.count ≤ digits) × (l.high - l.low < 2 ^ (digits - l.names.count));
+  begun : l.names.count ≡ 0 → (l.low ≡ 0) × (l.high ≡ length l.fn.by_name);
 }
 
 abbrev pub decreases-loop-low : goal.decreases-loop-low

@@ -1,4 +1,4 @@
-use Rattle.std.proofs.Common.{◌≡◌, ◌∷◌, ◌++◌, [], ℕ, true, false, List, sym, ◌∙◌, subst, ◌==◌}
+use Rattle.std.proofs.Common.{◌≡◌, ◌∷◌, ◌++◌, [], ℕ, true, List, sym, ◌∙◌, subst, ◌==◌}
 use Rattle.std.specs.List.{list_any}
 use Rattle.std.specs.HashSet.{PutsKey}
 use Rattle.std.specs.List.Sorted.{IsPermutation}

@@ -1,5 +1,5 @@
 -- The struct of a raw schema is found by its id.
-use Rattle.std.proofs.Common.{◌≡◌, ℕ, Bool, true, false, ◌&&◌, ◌==◌, Option, Some, None, List, slice_get, refl, sym, ◌∙◌, ap, arith}
+use Rattle.std.proofs.Common.{◌≡◌, ℕ, Bool, true, false, ◌&&◌, ◌==◌, Option, Some, None, List, slice_get, refl, sym, ◌∙◌, ap}
 use Rattle.capnp_model.specs.Schemas.{Node}
 use Rattle.capnp_model.specs.Accepted.{find_node, is_struct_node, names_a, IsAccepted}
 use Rattle.capnp_model.proofs.lemmas.Tests.{same_number, and_left, and_right}

@@ -17,7 +17,7 @@ text s = s.now
 pub loop-name-init : goal.loop-name-init
 loop-name-init c = record {
   decides = from_the_front (map (λ s. s.now) c.args.names.now);
-  seen = λ q. ap (list_any (λ k. bytes_eq q k.now)) c.new-seen.ensures.empty;
+  seen = λ q. ap (list_any (λ k. bytes_eq q k.now)) c.in_ok-seen.ensures.empty;
 }
 
 pub loop-name-preserved : goal.loop-name-preserved

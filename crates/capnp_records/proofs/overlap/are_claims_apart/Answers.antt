@@ -1,49 +1,80 @@
-use Rattle.std.proofs.Common.{◌≡◌, ℕ, Bool, true, false, ◌&&◌, ◌+◌, ◌++◌, ◌∷◌, [], not, List, map, take, drop, sym, ◌∙◌, ap, subst}
-use Rattle.std.proofs.lemmas.List.{map_more}
-use Rattle.std.specs.List.{list_any}
-use Rattle.capnp_model.specs.Accepted.{Area as ModelArea}
+use Rattle.std.proofs.Common.{◌≡◌, ℕ, ◌+◌, ◌<◌, ◌≤◌, Bool, false, List, [], ◌∷◌, ◌++◌, map, length, take, drop, get_or, sym, ◌∙◌, ap, subst}
+use Rattle.capnp_model.specs.Schemas.{Shape}
+use Rattle.capnp_model.specs.Accepted.{Area as ModelArea, union_place, union_area, shape_in}
 use Rattle.capnp_records.specs.declared.area.Area.{Area}
+use Rattle.capnp_records.specs.declared.node.FieldRecord.{FieldRecord}
+use Rattle.capnp_records.specs.Listed.{listed}
+use Rattle.capnp_records.specs.NodeViews.{field_of, struct_of}
 use Rattle.capnp_records.specs.Storage.{areas_seen}
-use Rattle.capnp_records.specs.Claims.{claim_of}
+use Rattle.capnp_records.specs.Claims.{claim_in, claims_in}
 use Rattle.capnp_records.specs.Marks.{AllowsAll, Refuses, Puts, most_mark, level_mark}
-use Rattle.capnp_records.proofs.Forward.{forward, forward_all, forward_step}
-use Rattle.capnp_records.proofs.Marked.{clash, IsMarked, apart_is_pairs, allowed, refused, marked_more, nothing_marked, wide_claim, wide_claims}
+use Rattle.capnp_records.proofs.Forward.{forward}
+use Rattle.capnp_records.proofs.Marked.{clash}
+use Rattle.capnp_records.proofs.Claimed.{IsWalked, begun, all_allowed, walked_on, walked_out, next_is, grown, map_twice, none_left}
 use Rattle.capnp_records.proofs.overlap.are_claims_apart.Goals as goal
 
-pub loop-claim-init : goal.loop-claim-init
-loop-claim-init c = record {
-  decides = forward_all clash (map claim_of c.args.claims.now) ∙ sym (apart_is_pairs (map claim_of c.args.claims.now));
-  marked = nothing_marked c.new-marks.result c.new-marks.ensures;
-}
+pub loop-field-init : goal.loop-field-init
+loop-field-init c =
+    let g : ℕ → Shape = λ id. shape_in (listed c.args.nodes) c.args.levels id in
+    let f : FieldRecord → Bool × List ModelArea = λ y. claim_in g (field_of y) in
+    let fs = c.args.holder.now.fields.items in
+    let all : List (Bool × List ModelArea) = claims_in g (struct_of c.args.holder.now) in
+    let d : Bool × List ModelArea = (false, union_area (union_place (struct_of c.args.holder.now))) in
+    let here : areas_seen c.push_union_area.new.areas.items ≡ d.1 = c.in_ok-push_union_area.ensures ∙ ap (λ (as' : List Area). areas_seen as' ++ d.1) c.new-areas.ensures.items in
+    let put : Puts c.new-marks.result c.put_all.new.marks (areas_seen c.deref.result.now) c.level_mark.result = c.in_ok-put_all.ensures in
+    let put_level : Puts c.new-marks.result c.put_all.new.marks (areas_seen c.deref.result.now) (level_mark false) = subst (λ (n : ℕ). Puts c.new-marks.result c.put_all.new.marks (areas_seen c.deref.result.now) n) c.level_mark.ensures put in
+    let p : Puts c.new-marks.result c.put_all.new.marks (areas_seen c.push_union_area.new.areas.items) (level_mark false) = subst (λ (as' : List Area). Puts c.new-marks.result c.put_all.new.marks (areas_seen as') (level_mark false)) c.deref.ensures.value put_level in
+    let walked : IsWalked c.new-marks.result [] (d ∷ map f fs) all = subst (λ (rest : List (Bool × List ModelArea)). IsWalked c.new-marks.result [] (d ∷ rest) all) (map_twice (claim_in g) field_of fs) (begun c.new-marks.result all c.new-marks.ensures) in
+    walked_on c.new-marks.result [] (map f fs) all d c.push_union_area.new.areas.items here walked c.put_all.new.marks (all_allowed c.new-marks.result (areas_seen c.push_union_area.new.areas.items) 0 c.new-marks.ensures) p
 
 pub returns-then-not-allows_all : goal.returns-then-not-allows_all
 returns-then-not-allows_all c =
-    let claims = c.args.claims.now in
-    let i = c.loop-claim.claim-index in
-    let x = claim_of c.claim-item.result in
-    let r : Refuses c.loop-claim.marks x.1 (most_mark x.0) = rw (c.deref.ensures.value, c.most_mark.ensures) at c.if-not-allows_all.ensures in
-    let clashes : list_any (λ d. clash d x) (map claim_of (take i claims)) ≡ true = refused c.loop-claim.marks x (map claim_of (take i claims)) c.loop-claim.invariant.marked r in
-    sym (forward_step clash claim_of claims i c.claim-item.result c.loop-claim-test.true c.claim-item.is
-    ∙ ap (λ b. not b && forward clash (map claim_of (take (i + 1) claims)) (map claim_of (drop (i + 1) claims))) clashes)
-    ∙ c.loop-claim.invariant.decides
+    let g : ℕ → Shape = λ id. shape_in (listed c.args.nodes) c.args.levels id in
+    let f : FieldRecord → Bool × List ModelArea = λ y. claim_in g (field_of y) in
+    let fs = c.args.holder.now.fields.items in
+    let all : List (Bool × List ModelArea) = claims_in g (struct_of c.args.holder.now) in
+    let d : Bool × List ModelArea = (false, union_area (union_place (struct_of c.args.holder.now))) in
+    let i = c.loop-field.field-index in
+    let x = c.field-item.result in
+    let same = c.deref-field-items.ensures.value in
+    let lt : i < length fs = subst (λ (ys : List FieldRecord). i < length ys) same c.loop-field-test.true in
+    let is : x ≡ get_or fs i x = c.field-item.is ∙ ap (λ (ys : List FieldRecord). get_or ys i x) same in
+    let here : areas_seen c.push_areas_of_body.new.areas.items ≡ (f x).1 = c.in_ok-push_areas_of_body.ensures ∙ ap (λ (as' : List Area). areas_seen as' ++ (f x).1) c.clear.ensures.items in
+    let walked : IsWalked c.loop-field.marks (d ∷ map f (take i fs)) (f x ∷ map f (drop (i + 1) fs)) all = subst (λ (rest : List (Bool × List ModelArea)). IsWalked c.loop-field.marks (d ∷ map f (take i fs)) rest all) (next_is f fs i x lt is) c.loop-field.invariant in
+    let r : Refuses c.loop-field.marks (areas_seen c.push_areas_of_body.new.areas.items) (most_mark (f x).0) = rw (c.deref-in-loop-field.ensures.value, c.most_mark.ensures, c.is_member-member.ensures) at c.if-not-allows_all.ensures in
+    walked_out c.loop-field.marks (d ∷ map f (take i fs)) (map f (drop (i + 1) fs)) all (f x) c.push_areas_of_body.new.areas.items here walked r
 
-pub loop-claim-preserved : goal.loop-claim-preserved
-loop-claim-preserved c =
-    let claims = c.args.claims.now in
-    let i = c.loop-claim.claim-index in
-    let x = claim_of c.claim-item.result in
-    let done : List (Bool × List ModelArea) = map claim_of (take i claims) in
-    let a : AllowsAll c.loop-claim.marks x.1 (most_mark x.0) = rw (c.deref.ensures.value, c.most_mark.ensures) at c.if-not-allows_all.ensures in
-    let here = c.deref-in-loop-claim.result.now in
-    let put : Puts c.loop-claim.marks c.put_all.new.marks (areas_seen here) c.level_mark.result = c.in_ok-put_all.ensures in
-    let put_level : Puts c.loop-claim.marks c.put_all.new.marks (areas_seen here) (level_mark x.0) = subst (λ (n : ℕ). Puts c.loop-claim.marks c.put_all.new.marks (areas_seen here) n) c.level_mark.ensures put in
-    let p : Puts c.loop-claim.marks c.put_all.new.marks x.1 (level_mark x.0) = subst (λ (as' : List Area). Puts c.loop-claim.marks c.put_all.new.marks (areas_seen as') (level_mark x.0)) c.deref-in-loop-claim.ensures.value put_level in
-    let clashes : list_any (λ d. clash d x) done ≡ false = allowed c.loop-claim.marks x done c.loop-claim.invariant.marked (wide_claims (take i claims)) (wide_claim c.claim-item.result) a in
-    let grown : done ++ x ∷ [] ≡ map claim_of (take (i + 1) claims) = ap (λ y. done ++ claim_of y ∷ []) c.claim-item.is ∙ sym (map_more claim_of claims i c.claim-item.result c.loop-claim-test.true) in
-    record {
-      decides =
-          sym (forward_step clash claim_of claims i c.claim-item.result c.loop-claim-test.true c.claim-item.is
-          ∙ ap (λ b. not b && forward clash (map claim_of (take (i + 1) claims)) (map claim_of (drop (i + 1) claims))) clashes)
-          ∙ c.loop-claim.invariant.decides;
-      marked = subst (IsMarked c.put_all.new.marks) grown (marked_more c.loop-claim.marks c.put_all.new.marks done x c.loop-claim.invariant.marked p);
-    }
+pub loop-field-preserved : goal.loop-field-preserved
+loop-field-preserved c =
+    let g : ℕ → Shape = λ id. shape_in (listed c.args.nodes) c.args.levels id in
+    let f : FieldRecord → Bool × List ModelArea = λ y. claim_in g (field_of y) in
+    let fs = c.args.holder.now.fields.items in
+    let all : List (Bool × List ModelArea) = claims_in g (struct_of c.args.holder.now) in
+    let d : Bool × List ModelArea = (false, union_area (union_place (struct_of c.args.holder.now))) in
+    let i = c.loop-field.field-index in
+    let x = c.field-item.result in
+    let same = c.deref-field-items.ensures.value in
+    let lt : i < length fs = subst (λ (ys : List FieldRecord). i < length ys) same c.loop-field-test.true in
+    let is : x ≡ get_or fs i x = c.field-item.is ∙ ap (λ (ys : List FieldRecord). get_or ys i x) same in
+    let here : areas_seen c.push_areas_of_body.new.areas.items ≡ (f x).1 = c.in_ok-push_areas_of_body.ensures ∙ ap (λ (as' : List Area). areas_seen as' ++ (f x).1) c.clear.ensures.items in
+    let walked : IsWalked c.loop-field.marks (d ∷ map f (take i fs)) (f x ∷ map f (drop (i + 1) fs)) all = subst (λ (rest : List (Bool × List ModelArea)). IsWalked c.loop-field.marks (d ∷ map f (take i fs)) rest all) (next_is f fs i x lt is) c.loop-field.invariant in
+    let a : AllowsAll c.loop-field.marks (areas_seen c.push_areas_of_body.new.areas.items) (most_mark (f x).0) = rw (c.deref-in-loop-field.ensures.value, c.most_mark.ensures, c.is_member-member.ensures) at c.if-not-allows_all.ensures in
+    let m = c.loop-field.marks in
+    let n = c.put_all-in-loop-field.new.marks in
+    let put : Puts m n (areas_seen c.deref-in-loop-field-2.result.now) c.level_mark-in-loop-field.result = c.in_ok-put_all-2.ensures in
+    let put_level : Puts m n (areas_seen c.deref-in-loop-field-2.result.now) (level_mark (f x).0) = subst (λ (k : ℕ). Puts m n (areas_seen c.deref-in-loop-field-2.result.now) k) (c.level_mark-in-loop-field.ensures ∙ ap level_mark c.is_member-member.ensures) put in
+    let p : Puts m n (areas_seen c.push_areas_of_body.new.areas.items) (level_mark (f x).0) = subst (λ (as' : List Area). Puts m n (areas_seen as') (level_mark (f x).0)) c.deref-in-loop-field-2.ensures.value put_level in
+    subst (λ (done : List (Bool × List ModelArea)). IsWalked n (d ∷ done) (map f (drop (i + 1) fs)) all) (grown f fs i x lt is)
+    (walked_on m (d ∷ map f (take i fs)) (map f (drop (i + 1) fs)) all (f x) c.push_areas_of_body.new.areas.items here walked n a p)
+
+pub returns : goal.returns
+returns c =
+    let g : ℕ → Shape = λ id. shape_in (listed c.args.nodes) c.args.levels id in
+    let f : FieldRecord → Bool × List ModelArea = λ y. claim_in g (field_of y) in
+    let fs = c.args.holder.now.fields.items in
+    let all : List (Bool × List ModelArea) = claims_in g (struct_of c.args.holder.now) in
+    let d : Bool × List ModelArea = (false, union_area (union_place (struct_of c.args.holder.now))) in
+    let i = c.loop-field.field-index in
+    let done : List (Bool × List ModelArea) = d ∷ map f (take i fs) in
+    let over : length fs ≤ i = subst (λ (ys : List FieldRecord). length ys ≤ i) c.deref-field-items.ensures.value c.loop-field-test.false in
+    sym (ap (forward clash done) (none_left f fs i over)) ∙ c.loop-field.invariant.decides

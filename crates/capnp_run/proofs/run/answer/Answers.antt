@@ -7,9 +7,11 @@ use Rattle.capnp_units.specs.Segments.{words_in}
 use Rattle.capnp_calls.specs.CallViews.{call_view, action_view}
 use Rattle.capnp_calls.specs.declared.reply.Reply.{Reply as Own}
 use Rattle.capnp_calls.specs.Replies.{reply_view}
-use Rattle.capnp_edits.specs.Written.{WritesPath}
+use Rattle.capnp_copy.specs.Refusals.{IsSizeOrRefusal}
+use Rattle.capnp_units.specs.declared.errors.Error.{Error}
+use Rattle.capnp_edits.specs.Written.{WritesPath, WhereDone}
 use Rattle.capnp_run.proofs.Levels.{DepthLaws}
-use Rattle.capnp_run.specs.Runs.{TestsAt}
+use Rattle.capnp_run.specs.Runs.{TestsAt, TellsWhy}
 use Rattle.capnp_run.specs.declared.fault.RunFault.TheVariants as faults
 use Rattle.capnp_run.proofs.Tested.{written, left_alone, other_reply, puts_long}
 use Rattle.capnp_run.proofs.Stopped.{fails_nowhere, fails_before, fails_written}
@@ -46,7 +48,7 @@ returns-in-Err-clause-size g c err =
     let T : Own → Type 0 = λ r. TestsAt s c.args.object c.args.schema call (reply_view r) in
     let tests : TestsAt s c.args.object c.args.schema call reply_done = subst T c.in-Done.is c.in_ok-reply.ensures.replied in
     let is : c.fault_of.result ≡ faults.Size = cc err in
-    puts_long s c.args.object c.args.schema call tests (c.fault_of.ensures is)
+    puts_long s c.args.object c.args.schema call tests (subst (TellsWhy c.args.schema call c.in-Err.error) is c.fault_of.ensures)
 
 pub returns-in-Err-clause-stops : goal.returns-in-Err-clause-stops
 returns-in-Err-clause-stops g c =
@@ -54,17 +56,21 @@ returns-in-Err-clause-stops g c =
     let s = words_in (seg c.args.arena.now) in
     let u = words_in (seg c.write_path.new.arena) in
     let call = call_view c.args.call.now in
+    let told : Error → Type 0 = IsSizeOrRefusal g.A.BuilderArena.refuses in
+    let e : Error = c.in-Err.error in
     let T : Own → Type 0 = λ r. TestsAt s c.args.object c.args.schema call (reply_view r) in
     let tests : TestsAt s c.args.object c.args.schema call reply_done = subst T c.in-Done.is c.in_ok-reply.ensures.replied in
-    fails_written s u c.args.object c.args.schema call c.fault_of.result tests c.in-Err.ensures.grows c.fault_of.ensures
+    let W : List Step → Verb → Type 0 = λ path verb. WhereDone s c.args.object c.args.schema path verb (told e) in
+    let cause = subst (W call.path) c.action.ensures.action (subst (λ path. W path (action_view c.action.result.now)) c.path.ensures c.in-Err.ensures.cause) in
+    fails_written told s u c.args.object c.args.schema call c.fault_of.result tests c.in-Err.ensures.grows e cause c.fault_of.ensures
 
 pub returns-then-not-has_words-clause-stops : goal.returns-then-not-has_words-clause-stops
 returns-then-not-has_words-clause-stops g c =
     let s = words_in (g.A.ReaderArena.segments c.args.arena.now) in
-    fails_nowhere s c.args.object c.args.schema (call_view c.args.call.now) (faults.Refused c.from.result) (sym c.has_words.ensures.there ∙ c.if-not-has_words.true)
+    fails_nowhere (IsSizeOrRefusal g.A.BuilderArena.refuses) s c.args.object c.args.schema (call_view c.args.call.now) (faults.Refused c.from.result) (sym c.has_words.ensures.there ∙ c.if-not-has_words.true)
 
 pub returns-in_err-reply-clause-stops : goal.returns-in_err-reply-clause-stops
 returns-in_err-reply-clause-stops g c =
     let s = words_in (g.A.ReaderArena.segments c.args.arena.now) in
     let r = err_from_is_err_and c.from_residual.result c.from_residual.ensures.1 in
-    rw (r.1, r.2) (fails_before s c.args.object c.args.schema (call_view c.args.call.now) _ c.in_err-reply.ensures.memory)
+    rw (r.1, r.2) (fails_before (IsSizeOrRefusal g.A.BuilderArena.refuses) s c.args.object c.args.schema (call_view c.args.call.now) _ c.in_err-reply.ensures.memory)

@@ -17,6 +17,7 @@ use Rattle.capnp_run.proofs.CallWays.{way_of_this}
 use Rattle.capnp_run.specs.declared.fault.RunFault.{RunFault}
 use Rattle.capnp_run.specs.declared.fault.RunFault.TheVariants as faults
 use Rattle.capnp_calls.specs.Roots.{record_at}
+use Rattle.capnp_copy.specs.Refusals.{IsSizeOrRefusal}
 use Rattle.capnp_run.specs.Runs.{PutsLongAt}
 use Rattle.capnp_run.proofs.InTurn.{SoFar, at_first, one_more, none_behind, ends_long, size_kept}
 use Rattle.capnp_run.proofs.Stopped.{stops_behind, stops_next}
@@ -146,7 +147,7 @@ returns-in_err-answer-clause-stops g c =
     let told = map reply_view c.loop-call.replies.items in
     let so_far : SoFar s u p root (map call_view (take i calls)) (call_view this ∷ map call_view behind) all told = subst (λ rest. SoFar s u p root (map call_view (take i calls)) rest all told) (ap (map call_view) split) c.loop-call.invariant.so_far in
     let r = err_from_is_err_and c.from_residual.result c.from_residual.ensures.1 in
-    rw (r.1, r.2) (stops_next c.changes_of_objects.ensures.owned s u v p root (map call_view (take i calls)) (call_view this) (map call_view behind) all told c.in_err-answer.field-0.0 parts so_far c.in_err-answer.ensures.stops)
+    rw (r.1, r.2) (stops_next (IsSizeOrRefusal g.A.BuilderArena.refuses) c.changes_of_objects.ensures.owned s u v p root (map call_view (take i calls)) (call_view this) (map call_view behind) all told c.in_err-answer.field-0.0 parts so_far c.in_err-answer.ensures.stops)
 
 pub returns-in_err-push-clause-stops : goal.returns-in_err-push-clause-stops
 returns-in_err-push-clause-stops g c =
@@ -170,4 +171,4 @@ returns-in_err-push-clause-stops g c =
     let so_far : SoFar s u p root front (call_view this ∷ map call_view behind) all told = subst (λ rest. SoFar s u p root front rest all told) (ap (map call_view) split) c.loop-call.invariant.so_far in
     let next = one_more c.changes_of_objects.ensures.owned c.changes_of_objects.ensures.again s u v p root front (call_view this) (map call_view behind) all told (reply_view c.in_ok-answer.field-0) so_far c.in_ok-answer.ensures.answer in
     let r = err_from_is_err_and c.from_residual-in_err-push.result c.from_residual-in_err-push.ensures.1 in
-    rw (r.1, r.2) (stops_behind s v p root (front ++ call_view this ∷ []) (map call_view behind) all (told ++ reply_view c.in_ok-answer.field-0 ∷ []) _ (parts ∙ sym (append_assoc front (call_view this ∷ []) (map call_view behind))) refl next)
+    rw (r.1, r.2) (stops_behind (IsSizeOrRefusal g.A.BuilderArena.refuses) s v p root (front ++ call_view this ∷ []) (map call_view behind) all (told ++ reply_view c.in_ok-answer.field-0 ∷ []) _ (parts ∙ sym (append_assoc front (call_view this ∷ []) (map call_view behind))) refl next)

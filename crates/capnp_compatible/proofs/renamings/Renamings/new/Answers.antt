@@ -4,7 +4,7 @@ use Rattle.capnp_model.specs.Partners.{are_apart}
 use Rattle.capnp_model.proofs.lemmas.Tests.{and_false}
 use Rattle.capnp_compatible.specs.declared.renamings.Renaming.{Renaming}
 use Rattle.capnp_compatible.specs.declared.renamings.Version.TheVariants as version
-use Rattle.capnp_compatible.specs.Renamed.{key_in}
+use Rattle.capnp_compatible.specs.Renamings.{key_in}
 use Rattle.capnp_compatible.proofs.RenamedLists.{one_to_one}
 use Rattle.capnp_compatible.proofs.renamings.Renamings.new.Goals as goal
 
@@ -18,8 +18,8 @@ returns-then-not-branch-2-clause-refused c =
     let newer : are_apart (map (key_in version.Newer) c.args.list.items) ≡ false = ap (λ (xs : List Renaming). are_apart (map (key_in version.Newer) xs)) (sym c.deref-2.ensures.value) ∙ sym c.in_ok-are_apart-2.ensures ∙ c.if-not-branch-2.true in
     one_to_one c.args.list.items ∙ ap (λ b. are_apart (map (key_in version.Older) c.args.list.items) && b) newer ∙ and_false (are_apart (map (key_in version.Older) c.args.list.items))
 
-pub returns-clause-distinct : goal.returns-clause-distinct
-returns-clause-distinct c =
+pub invariant_of-result : goal.invariant_of-result
+invariant_of-result c =
     let older : are_apart (map (key_in version.Older) c.args.list.items) ≡ true = ap (λ (xs : List Renaming). are_apart (map (key_in version.Older) xs)) (sym c.deref.ensures.value) ∙ sym c.in_ok-are_apart.ensures ∙ c.if-not-branch.false in
     let newer : are_apart (map (key_in version.Newer) c.args.list.items) ≡ true = ap (λ (xs : List Renaming). are_apart (map (key_in version.Newer) xs)) (sym c.deref-2.ensures.value) ∙ sym c.in_ok-are_apart-2.ensures ∙ c.if-not-branch-2.false in
-    one_to_one c.args.list.items ∙ both_true older newer
+    record { distinct = one_to_one c.args.list.items ∙ both_true older newer }

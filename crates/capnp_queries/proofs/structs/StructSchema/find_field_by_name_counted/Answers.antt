@@ -12,7 +12,7 @@ use Rattle.capnp_queries.specs.Structs.{nodes_around, id_of, fields_of_struct, i
 use Rattle.capnp_queries.specs.declared.structs.StructSchema.{StructSchema}
 use Rattle.capnp_queries.proofs.lemmas.Records.{count_is}
 use Rattle.capnp_queries.proofs.lemmas.Places.{name_found, index_inside}
-use Rattle.capnp_queries.proofs.NameSearch.{names_differ}
+use Rattle.capnp_queries.proofs.lemmas.Names.{names_differ}
 use Rattle.capnp_queries.proofs.structs.StructSchema.find_field_by_name_counted.Goals as goal
 
 -- the place among the records is the index among the shape's fields
@@ -25,6 +25,13 @@ as_many s r fs digits known same fits =
     let long = length_mapped field_of r.fields.items in
     let size : length fs ≡ length r.fields.items = ap length same in
     omega (arith, fits, count, long, size)
+
+has_some : (s : StructSchema) (r : StructRecord) (fs : List FieldRecord) → IsRecordOf (nodes_around s) (id_of s) (struct_of r) → fs ≡ r.fields.items → 0 < field_count (fields_of_struct s) → 0 < length fs
+has_some s r fs known same some =
+    let count = count_is (nodes_around s) (id_of s) (struct_of r) known in
+    let long = length_mapped field_of r.fields.items in
+    let size : length fs ≡ length r.fields.items = ap length same in
+    omega (arith, some, count, long, size)
 
 pub place_of-place-requires-clause-by_name : goal.place_of-place-requires-clause-by_name
 place_of-place-requires-clause-by_name c =
@@ -50,6 +57,9 @@ returns-in-None-clause-found c =
 pub returns-in-None-clause-few : goal.returns-in-None-clause-few
 returns-in-None-clause-few c digits fits = c.place_of-place.ensures.few digits (as_many c.args.self.now c.record.result.now c.deref.result.now digits c.record.ensures c.deref.ensures.value fits)
 
+pub returns-in-None-clause-some : goal.returns-in-None-clause-some
+returns-in-None-clause-some c some = c.place_of-place.ensures.some (has_some c.args.self.now c.record.result.now c.deref.result.now c.record.ensures c.deref.ensures.value some)
+
 pub returns-in-Some-clause-found : goal.returns-in-Some-clause-found
 returns-in-Some-clause-found c =
     let at = index_is c.args.self.now c.record.result.now c.deref.result.now c.args.name.now c.place_of-place.result.0 c.record.ensures c.deref.ensures.value c.place_of-place.ensures.place in
@@ -57,3 +67,6 @@ returns-in-Some-clause-found c =
 
 pub returns-in-Some-clause-few : goal.returns-in-Some-clause-few
 returns-in-Some-clause-few c digits fits = c.place_of-place.ensures.few digits (as_many c.args.self.now c.record.result.now c.deref.result.now digits c.record.ensures c.deref.ensures.value fits)
+
+pub returns-in-Some-clause-some : goal.returns-in-Some-clause-some
+returns-in-Some-clause-some c some = c.place_of-place.ensures.some (has_some c.args.self.now c.record.result.now c.deref.result.now c.record.ensures c.deref.ensures.value some)

@@ -1,0 +1,88 @@
+"""Compares what docs/TOOL.md says with what the built program prints.
+
+    python3 .ci/tool_walk.py [PROGRAM]
+
+Each block of the document that begins with ```console is a walk of commands: a line '$ COMMAND' and what the command prints, standard output before standard error. A command is `hagzimot` with its words, `cat FILE` or a pipe
+of such commands; its files are those of crates/hagzimot/data, and what it writes lies beside them in a folder of its own. A last line '[status N]' tells a status that isn't 0. A command whose output differs is shown, and the
+status is 1. Nothing is written below the repository.
+"""
+import pathlib
+import re
+import shlex
+import shutil
+import subprocess
+import sys
+import tempfile
+
+TOP = pathlib.Path(__file__).resolve().parent.parent
+DOCUMENT = TOP / "docs" / "TOOL.md"
+DATA = TOP / "crates" / "hagzimot" / "data"
+PROGRAM = TOP / "crates" / "hagzimot" / "out" / "hagzimot"
+BLOCK = re.compile(r"^```console\n(.*?)^```$", re.MULTILINE | re.DOTALL)
+ALLOWED = ("hagzimot", "cat", "ls", "xxd")
+
+
+def commands(text):
+    """The commands of the document's walks, each with what it should print."""
+    for block in BLOCK.findall(text):
+        command, said = None, []
+        for line in block.splitlines():
+            if line.startswith("$ "):
+                if command is not None:
+                    yield command, said
+                command, said = line[2:], []
+            elif command is None:
+                raise SystemExit(f"a walk begins without a command: {line}")
+            else:
+                said.append(line)
+        if command is not None:
+            yield command, said
+
+
+def is_allowed(command):
+    """Whether a command runs nothing but the program and a few readers of files."""
+    words = shlex.split(command, comments=False)
+    firsts, at_start = [], True
+    for word in words:
+        if at_start:
+            firsts.append(word)
+        at_start = word == "|"
+    return all(first in ALLOWED for first in firsts) and ";" not in command and "&" not in command
+
+
+def said_by(command, folder, program):
+    """What a command prints, as the document shows it."""
+    shell = f'hagzimot() {{ {shlex.quote(str(program))} "$@"; }}\nset -o pipefail\n{command}'
+    run = subprocess.run(["bash", "-c", shell], cwd=folder, capture_output=True, timeout=120, check=False)
+    text = run.stdout.decode("utf-8", "backslashreplace") + run.stderr.decode("utf-8", "backslashreplace")
+    lines = [line.rstrip() for line in text.splitlines()]
+    if run.returncode != 0:
+        lines.append(f"[status {run.returncode}]")
+    return lines
+
+
+def main():
+    program = pathlib.Path(sys.argv[1]).resolve() if len(sys.argv) > 1 else PROGRAM
+    if not program.exists():
+        raise SystemExit(f"{program} is not built")
+    walks = list(commands(DOCUMENT.read_text()))
+    if not walks:
+        raise SystemExit("docs/TOOL.md has no walk")
+    differing = 0
+    with tempfile.TemporaryDirectory() as folder:
+        folder = pathlib.Path(folder) / "walk"
+        shutil.copytree(DATA, folder)
+        for command, wanted in walks:
+            if not is_allowed(command):
+                raise SystemExit(f"the walk runs another command: {command}")
+            got = said_by(command, folder, program)
+            wanted = [line.rstrip() for line in wanted]
+            if got != wanted:
+                differing += 1
+                print(f"$ {command}\n--- docs/TOOL.md\n" + "\n".join(wanted) + "\n--- printed\n" + "\n".join(got) + "\n")
+    print(f"tool walk: {len(walks)} commands, {differing} differ")
+    return 1 if differing else 0
+
+
+if __name__ == "__main__":
+    sys.exit(main())

@@ -1,0 +1,87 @@
+//! Versions of a schema, from the structs at their roots on.
+ghost use Rattle.std.specs.Prelude.{◌≡◌, true, map, IfOk, IfErr};
+ghost use Rattle.std.specs.Bool.{MatchBool};
+ghost use Rattle.capnp_units.specs.declared.kinds.ErrorKind.TheVariants.{OutOfMemory};
+ghost use Rattle.capnp_records.specs.Sets.{nodes_of};
+ghost use Rattle.capnp_queries.specs.Structs.{nodes_around, id_of};
+ghost use Rattle.capnp_calls.specs.CallViews.{call_view};
+ghost use Rattle.capnp_compatible.specs.Renamed.{renamings_of};
+ghost use Rattle.capnp_compatible.specs.Ways.{IsAdmissionOf};
+ghost use Rattle.capnp_relay.specs.Versions.{AreVersions, AreVersionsWith, ReadsAsOlder, ReadsAsOlderWith, is_admitted_beside, is_admitted_beside_with};
+
+use capnp_calls::Call;
+use capnp_compatible::admitted::Admission;
+use capnp_compatible::renamings::Renamings;
+use capnp_compatible::root::Root;
+use capnp_compatible::{admitted as admissions, compatible as versions};
+use capnp_queries::structs::StructSchema;
+use capnp_units::errors::Result;
+use std::alloc::Global;
+
+/// Where a version begins.
+fn root_of(schema: StructSchema<'_>) -> Root<'_>
+    ensures set { nodes_of result.set.now ≡ nodes_around schema.entry }
+    ensures id { result.id ≡ id_of schema.entry }
+{
+    Root {
+        set: schema.set(),
+        id: schema.raw().id,
+    }
+}
+
+/// Whether the newer schema is compatible with the older: whatever is written under the older reads the same under the newer, field by field. Where it says yes, the older record of each value is the older view of its newer record. Takes time linear in the pairs of structs that are reached times their fields. `OutOfMemory` is the one error. (Schema language, "Evolving Your Protocol")
+pub fn compatible(alloc: Global, older: StructSchema<'_>, newer: StructSchema<'_>) -> Result<bool>
+    ensures answer { IfOk result (λ b. MatchBool b (AreVersions older.entry newer.entry)
+        (AreVersions older.entry newer.entry → ⊥)) }
+    ensures view { IfOk result (λ b. b ≡ true → ReadsAsOlder older.entry newer.entry) }
+    ensures refusal { IfErr result (λ e. e.kind ≡ OutOfMemory) }
+{
+    versions::compatible(alloc, root_of(older), root_of(newer))
+}
+
+/// The same where fields are renamed: each older field is kept by its partner, the newer field of its renamed name, and no two have one partner. A renaming of a node or field that isn't reached has no effect.
+pub fn compatible_with(
+    alloc: Global,
+    older: StructSchema<'_>,
+    newer: StructSchema<'_>,
+    renamings: &Renamings,
+) -> Result<bool>
+    ensures answer { let rs = renamings_of renamings.now in
+        IfOk result (λ b. MatchBool b (AreVersionsWith rs older.entry newer.entry)
+        (AreVersionsWith rs older.entry newer.entry → ⊥)) }
+    ensures view { IfOk result (λ b.
+        b ≡ true → ReadsAsOlderWith (renamings_of renamings.now) older.entry newer.entry) }
+    ensures refusal { IfErr result (λ e. e.kind ≡ OutOfMemory) }
+{
+    versions::compatible_with(alloc, root_of(older), root_of(newer), renamings)
+}
+
+/// Whether each call under the older schema is admitted beside the newer, else which is the first that isn't, counted from 1. A call that is admitted goes by fields that the older has, writes no group as a whole that the newer extends, and sets no list element of struct type. Takes time linear in the steps of the calls times the fields of the structs on their ways, and of the groups that they write. `OutOfMemory` is the one error.
+pub fn admitted(
+    alloc: Global,
+    calls: &[Call],
+    older: StructSchema<'_>,
+    newer: StructSchema<'_>,
+) -> Result<Admission>
+    ensures answer { IfOk result (IsAdmissionOf (is_admitted_beside older.entry newer.entry)
+        (map call_view calls.now)) }
+    ensures refusal { IfErr result (λ e. e.kind ≡ OutOfMemory) }
+{
+    admissions::admitted(alloc, calls, root_of(older), root_of(newer))
+}
+
+/// The same where fields are renamed; calls keep the older names.
+pub fn admitted_with(
+    alloc: Global,
+    calls: &[Call],
+    older: StructSchema<'_>,
+    newer: StructSchema<'_>,
+    renamings: &Renamings,
+) -> Result<Admission>
+    ensures answer { IfOk result (IsAdmissionOf
+        (is_admitted_beside_with (renamings_of renamings.now) older.entry newer.entry)
+        (map call_view calls.now)) }
+    ensures refusal { IfErr result (λ e. e.kind ≡ OutOfMemory) }
+{
+    admissions::admitted_with(alloc, calls, root_of(older), root_of(newer), renamings)
+}

@@ -1,0 +1,9 @@
+mod Colons
+mod Declared
+mod FloatFields
+mod Gathered
+mod Messages
+mod NodesRead
+mod Texts
+mod TypesRead
+mod Unlimited

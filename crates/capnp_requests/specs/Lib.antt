@@ -1,0 +1,10 @@
+pub mod Steps
+pub mod Places
+pub mod Names
+pub mod Types
+pub mod Values
+pub mod Floats
+pub mod Annotations
+pub mod Fields
+pub mod Nodes
+pub mod Requests

@@ -1,0 +1,271 @@
+//! The words that the command takes.
+
+use clap::{Arg, ArgAction, Command, value_parser};
+use std::alloc::{AllocError, Global};
+
+/// The forms of streams.
+static FORMS: [&str; 2] = ["framed", "packed"];
+
+/// An option that names the form of a stream.
+fn form<'a>(alloc: Global, id: &'a str, help: &'a str) -> Arg<'a> {
+    Arg::new(alloc, id)
+        .long(id)
+        .value_name("FORM")
+        .value_parser(FORMS.as_slice())
+        .default_value("framed")
+        .help(help)
+}
+
+/// The files that are read, `-` for standard input, which is read where none is named.
+fn files<'a>(alloc: Global) -> Arg<'a> {
+    Arg::new(alloc, "files")
+        .value_name("FILE")
+        .action(ArgAction::Append)
+        .num_args(0..)
+        .help("Files of messages, one after the other; - or none for standard input")
+}
+
+/// The file that is written.
+fn output<'a>(alloc: Global) -> Arg<'a> {
+    Arg::new(alloc, "output")
+        .short('o')
+        .long("output")
+        .value_name("FILE")
+        .help(
+            "Writes to FILE in place of standard output: to FILE.part, which is renamed once all is written",
+        )
+}
+
+/// The limit of words.
+fn limit_of_words<'a>(alloc: Global) -> Arg<'a> {
+    Arg::new(alloc, "words")
+        .long("words")
+        .value_name("N")
+        .value_parser(value_parser!(u32).range(0..536_870_911))
+        .help(
+            "The most words of 8 bytes that a message may have, and that following its pointers may cost; 8388608 if absent",
+        )
+}
+
+/// The limit of levels.
+fn nesting<'a>(alloc: Global) -> Arg<'a> {
+    Arg::new(alloc, "nesting")
+        .long("nesting")
+        .value_name("N")
+        .value_parser(value_parser!(u32).range(0..1025))
+        .help("The most levels of pointers that a message may have; 64 if absent")
+}
+
+/// What is logged.
+fn log<'a>(alloc: Global) -> Arg<'a> {
+    Arg::new(alloc, "log")
+        .long("log")
+        .value_name("WHICH")
+        .value_parser(LOGS.as_slice())
+        .default_value("refused")
+        .help("Which messages get a line on standard error")
+}
+
+static LOGS: [&str; 3] = ["lines", "refused", "none"];
+
+fn convert<'a>(alloc: Global) -> Result<Command<'a>, AllocError> {
+    Command::new(alloc, "convert")
+        .about("Writes the same messages in another form, each with the same segments")
+        .arg(form(alloc, "in", "The form of the input"))?
+        .arg(form(alloc, "out", "The form of the output"))?
+        .arg(limit_of_words(alloc))?
+        .arg(output(alloc))?
+        .arg(files(alloc))
+}
+
+fn canonical<'a>(alloc: Global) -> Result<Command<'a>, AllocError> {
+    Command::new(alloc, "canonical")
+        .about(
+            "Writes each message in canonical form, which needs no schema; one without a value is skipped",
+        )
+        .arg(form(alloc, "in", "The form of the input"))?
+        .arg(form(alloc, "out", "The form of the output"))?
+        .arg(limit_of_words(alloc))?
+        .arg(nesting(alloc))?
+        .arg(log(alloc))?
+        .arg(output(alloc))?
+        .arg(files(alloc))
+}
+
+/// The schema file.
+fn schema<'a>(alloc: Global) -> Arg<'a> {
+    Arg::new(alloc, "schema")
+        .long("schema")
+        .value_name("SCHEMA")
+        .required(true)
+        .help("The schema: a JSON file of nodes")
+}
+
+/// The struct at the root of messages.
+fn root<'a>(alloc: Global) -> Arg<'a> {
+    Arg::new(alloc, "root")
+        .long("root")
+        .value_name("NAME|ID")
+        .required(true)
+        .help(
+            "The struct that messages have at their root, by its name or its id in decimal digits",
+        )
+}
+
+/// An argument that is a file.
+fn file<'a>(alloc: Global, id: &'a str, value_name: &'a str, help: &'a str) -> Arg<'a> {
+    Arg::new(alloc, id)
+        .value_name(value_name)
+        .required(true)
+        .help(help)
+}
+
+/// The file of renamed fields.
+fn renames<'a>(alloc: Global) -> Arg<'a> {
+    Arg::new(alloc, "renames")
+        .long("renames")
+        .value_name("FILE")
+        .help("A JSON file of the fields that the newer schema has by other names")
+}
+
+/// A number of messages.
+fn number<'a>(alloc: Global, id: &'a str, help: &'a str) -> Arg<'a> {
+    Arg::new(alloc, id)
+        .long(id)
+        .value_name("N")
+        .value_parser(value_parser!(u64).range(1..))
+        .help(help)
+}
+
+fn show<'a>(alloc: Global) -> Result<Command<'a>, AllocError> {
+    Command::new(alloc, "show")
+        .about("Prints each message as text, one a line")
+        .arg(schema(alloc))?
+        .arg(root(alloc))?
+        .arg(form(alloc, "in", "The form of the input"))?
+        .arg(number(
+            alloc,
+            "from",
+            "The first message that is shown, counted from 1",
+        ))?
+        .arg(number(alloc, "to", "The last message that is read"))?
+        .arg(
+            Arg::new(alloc, "count")
+                .long("count")
+                .action(ArgAction::SetTrue)
+                .help("Prints how many these messages are alone"),
+        )?
+        .arg(limit_of_words(alloc))?
+        .arg(nesting(alloc))?
+        .arg(files(alloc))
+}
+
+fn check<'a>(alloc: Global) -> Result<Command<'a>, AllocError> {
+    Command::new(alloc, "check")
+        .about(
+            "Says whether a schema keeps the twelve rules of schemas, or which node breaks which",
+        )
+        .arg(file(
+            alloc,
+            "schema",
+            "SCHEMA",
+            "The schema: a JSON file of nodes",
+        ))
+}
+
+fn compatible<'a>(alloc: Global) -> Result<Command<'a>, AllocError> {
+    Command::new(alloc, "compatible")
+        .about(
+            "Says whether what is written under one schema reads the same under a newer one; status 1 where it doesn't",
+        )
+        .arg(file(alloc, "older", "OLD", "The older schema"))?
+        .arg(file(alloc, "newer", "NEW", "The newer schema"))?
+        .arg(root(alloc))?
+        .arg(renames(alloc))
+}
+
+/// An option that makes a call.
+fn call<'a>(alloc: Global, id: &'a str, value_name: &'a str, help: &'a str) -> Arg<'a> {
+    Arg::new(alloc, id)
+        .long(id)
+        .value_name(value_name)
+        .action(ArgAction::Append)
+        .allow_hyphen_values(true)
+        .help(help)
+}
+
+fn relay<'a>(alloc: Global) -> Result<Command<'a>, AllocError> {
+    Command::new(alloc, "relay")
+        .about(
+            "Edits each message and writes it; calls run in the order in which they stand, those of a file first",
+        )
+        .arg(schema(alloc))?
+        .arg(root(alloc))?
+        .arg(
+            Arg::new(alloc, "calls")
+                .long("calls")
+                .value_name("FILE")
+                .help("A JSON file of calls"),
+        )?
+        .arg(call(
+            alloc,
+            "set",
+            "PATH=VALUE",
+            "Sets a field, as customer.name=Ada or lines[0].count=3",
+        ))?
+        .arg(call(alloc, "get", "PATH", "Prints a field in the log"))?
+        .arg(call(alloc, "clear", "PATH", "Gives a field its default"))?
+        .arg(call(alloc, "init", "PATH", "Makes a new struct in a field"))?
+        .arg(call(
+            alloc,
+            "initn",
+            "PATH=N",
+            "Makes a new list, text or data of N elements or bytes in a field",
+        ))?
+        .arg(
+            Arg::new(alloc, "lenient")
+                .long("lenient")
+                .action(ArgAction::SetTrue)
+                .help(
+                    "Takes calls that no message could take; each then tells so in its line of the log",
+                ),
+        )?
+        .arg(form(alloc, "in", "The form of the input"))?
+        .arg(form(alloc, "out", "The form of the output"))?
+        .arg(
+            Arg::new(alloc, "plain")
+                .long("plain")
+                .action(ArgAction::SetTrue)
+                .help("Writes messages as they were built, not in canonical form"),
+        )?
+        .arg(
+            Arg::new(alloc, "newer")
+                .long("newer")
+                .value_name("SCHEMA")
+                .help("The newer schema under which messages are written and read"),
+        )?
+        .arg(renames(alloc))?
+        .arg(limit_of_words(alloc))?
+        .arg(nesting(alloc))?
+        .arg(log(alloc).default_value("lines"))?
+        .arg(output(alloc))?
+        .arg(files(alloc))
+}
+
+/// The command with its subcommands.
+pub fn command_line<'a>(alloc: Global) -> Result<Command<'a>, AllocError> {
+    Command::new(alloc, "hagzimot")
+        .bin_name("hagzimot")?
+        .version("0.1.0")
+        .about("Reads, checks and edits streams of Cap'n Proto messages")
+        .after_help(
+            "Status: 0 all was done and written, 3 messages were skipped, 1 a fault, 2 wrong words",
+        )
+        .subcommand_required(true)
+        .subcommand(show(alloc)?)?
+        .subcommand(relay(alloc)?)?
+        .subcommand(check(alloc)?)?
+        .subcommand(compatible(alloc)?)?
+        .subcommand(canonical(alloc)?)?
+        .subcommand(convert(alloc)?)
+}

@@ -1,0 +1,103 @@
+//! What is said of a fault.
+
+use capnp_loop::ends::Fault;
+use capnp_tool::schemas::SchemaTrouble;
+use capnp_units::kinds::ErrorKind;
+use std::alloc::{AllocError, AllocFailed, Global};
+use std::fmt::{Display, Formatter, Write};
+use std::{fmt, io};
+
+/// Why a run ends with status 1.
+#[derive(Debug, Drop)]
+pub enum Failure {
+    /// A growth was refused.
+    Memory,
+    /// The output can't be written.
+    Output,
+    /// Anything else, in words.
+    Text(String),
+}
+
+impl From<AllocError> for Failure {
+    fn from(_e: AllocError) -> Failure {
+        Failure::Memory
+    }
+}
+
+impl<T: Drop> From<AllocFailed<T>> for Failure {
+    fn from(_e: AllocFailed<T>) -> Failure {
+        Failure::Memory
+    }
+}
+
+impl From<fmt::Error> for Failure {
+    fn from(_e: fmt::Error) -> Failure {
+        Failure::Memory
+    }
+}
+
+/// What the kind of a framing fault says.
+fn framing(kind: ErrorKind) -> &'static str {
+    match kind {
+        ErrorKind::InvalidNumberOfSegments =>
+            "no message: the count of segments is not 1 to 511 (is the input in the other form?)",
+        ErrorKind::FailedToFillTheWholeBuffer => "the input ends within a message",
+        ErrorKind::MessageTooLarge =>
+            "it has more words than --words allows (is the input in the other form?)",
+        ErrorKind::PrematureEndOfPackedInput => "the packed input ends within a message",
+        ErrorKind::PackedInputDidNotEndCleanlyOnASegmentBoundary =>
+            "a packed run passes the end of its segment (is the input framed?)",
+        _ => "no message",
+    }
+}
+
+/// What a fault of a stream says.
+fn reason(fault: Fault) -> &'static str {
+    match fault {
+        Fault::Source => "the input can't be read",
+        Fault::Framing(kind) => framing(kind),
+        Fault::Out => "the output can't be written",
+        Fault::Log => "the log can't be written",
+        Fault::Memory => "there is no memory for it",
+        Fault::Size => "what would be written is too large for a message",
+    }
+}
+
+impl Failure {
+    /// The failure of a file.
+    pub fn file(alloc: Global, name: &str, why: io::Error) -> Failure {
+        Failure::about(alloc, name, &why)
+    }
+
+    /// What is said of a file or a word.
+    pub fn about<T: Display>(alloc: Global, name: &str, why: &T) -> Failure {
+        match format!(in alloc; "{name}: {why}") {
+            Ok(text) => Failure::Text(text),
+            Err(_) => Failure::Memory,
+        }
+    }
+
+    /// The failure of a schema file.
+    pub fn schema(alloc: Global, name: &str, why: &SchemaTrouble) -> Failure {
+        Failure::about(alloc, name, why)
+    }
+
+    /// The failure of the message of a number of an input.
+    pub fn stream(alloc: Global, name: &str, number: u64, fault: Fault) -> Failure {
+        let why = reason(fault);
+        match format!(in alloc; "{name}: message {number}: {why}") {
+            Ok(text) => Failure::Text(text),
+            Err(_) => Failure::Memory,
+        }
+    }
+}
+
+impl Display for Failure {
+    fn fmt<W: Write>(&self, f: &mut Formatter<W>) -> fmt::Result {
+        match self {
+            Failure::Memory => write!(f, "there is no memory left"),
+            Failure::Output => write!(f, "the output can't be written"),
+            Failure::Text(text) => write!(f, "{text}"),
+        }
+    }
+}

@@ -1,0 +1,115 @@
+//! `hagzimot show`.
+
+use crate::faults::Failure;
+use crate::files::{Input, OutSink, Output, open_sink, open_source};
+use crate::log::{Lines, Log};
+use crate::words;
+use capnp_io::adapters::Source;
+use capnp_io::traits::Write;
+use capnp_message::options::ReaderOptions;
+use capnp_packing::form::Packed;
+use capnp_program::ahead::BoundedForm;
+use capnp_program::sinks::Flush;
+use capnp_program::sources::FlushBeforeWait;
+use capnp_queries::structs::StructSchema;
+use capnp_relay_streams::options::Form;
+use capnp_stream::forms::Framed;
+use capnp_tool::show::{Chosen, ShownCounts, StreamFault, show_all};
+use clap::ArgMatches;
+use std::alloc::Global;
+
+/// What is shown, and how.
+#[derive(Clone, Copy)]
+struct Showing<'a> {
+    root: StructSchema<'a>,
+    options: ReaderOptions,
+    chosen: Chosen,
+    form: Form,
+}
+
+impl Showing<'_> {
+    /// Shows the messages of a source in one form.
+    fn run_in<I: BoundedForm>(
+        self,
+        alloc: Global,
+        source: &mut Source<Input>,
+        out: &mut OutSink,
+        log: &mut Log,
+    ) -> Result<ShownCounts, StreamFault> {
+        show_all::<I, Source<Input>, OutSink, Log, FlushBeforeWait<I>>(
+            alloc,
+            source,
+            out,
+            log,
+            self.root,
+            self.options,
+            self.chosen,
+        )
+    }
+
+    /// Shows the messages of one input, and flushes the sinks.
+    fn show_one(
+        self,
+        rt: &HostRuntime,
+        name: &str,
+        out: &mut OutSink,
+        log: &mut Log,
+    ) -> Result<ShownCounts, Failure> {
+        let alloc = rt.alloc();
+        let mut source = open_source(rt, name)?;
+        let end = match self.form {
+            Form::Framed => self.run_in::<Framed>(alloc, &mut source, out, log),
+            Form::Packed => self.run_in::<Packed>(alloc, &mut source, out, log),
+        };
+        let flushed = out.flush();
+        // A log that fails now has nowhere to say so.
+        let _flushed_log = log.flush();
+        match (end, flushed) {
+            (Err(e), _) => Err(Failure::stream(alloc, name, e.number, e.fault)),
+            (Ok(_), Err(_)) => Err(Failure::Output),
+            (Ok(counts), Ok(())) => Ok(counts),
+        }
+    }
+}
+
+/// Writes a number and a line feed.
+fn put_number(alloc: Global, out: &mut OutSink, number: u64) -> Result<(), Failure> {
+    let line = format!(in alloc; "{number}\n")?;
+    if out.write_all(line.as_bytes()).is_err() || out.flush().is_err() {
+        return Err(Failure::Output);
+    }
+    Ok(())
+}
+
+/// `hagzimot show`.
+pub fn show(rt: &HostRuntime, matches: &ArgMatches<'_>) -> Result<u8, Failure> {
+    let alloc = rt.alloc();
+    let schema = words::rooted(rt, matches, "schema")?;
+    let showing = Showing {
+        root: schema.root(),
+        options: ReaderOptions {
+            traversal_limit_in_words: Some(words::limit_of_words(matches) as usize),
+            nesting_limit: words::nesting_limit(matches),
+        },
+        chosen: Chosen {
+            first: matches.get_one::<u64>("from").unwrap_or(1),
+            last: matches.get_one::<u64>("to").unwrap_or(u64::MAX),
+            count_alone: matches.get_flag("count"),
+        },
+        form: words::form(matches, "in"),
+    };
+    let mut out = open_sink(alloc, Output::Standard(rt.stdout()))?;
+    let mut log = Log::new(rt, Lines::All)?;
+    let names = words::inputs(alloc, matches)?;
+    let mut all_shown = true;
+    let mut shown: u64 = 0;
+    for name in names.iter() {
+        let counts = showing.show_one(rt, name.as_str(), &mut out, &mut log)?;
+        all_shown &= counts.not_shown == 0;
+        shown = shown.saturating_add(counts.shown);
+    }
+    if showing.chosen.count_alone {
+        put_number(alloc, &mut out, shown)?;
+    }
+    Ok(if all_shown { 0 } else { 3 })
+}

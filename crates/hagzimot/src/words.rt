@@ -1,0 +1,98 @@
+//! What the words of a subcommand say.
+
+use crate::faults::Failure;
+use crate::files::read_file;
+use capnp_compatible::renamings::{RenamingFault, Renamings};
+use capnp_files::fault::FileFault;
+use capnp_files::renames_file::renames_file;
+use capnp_relay_streams::options::Form;
+use capnp_tool::schemas::RootedSchema;
+use clap::ArgMatches;
+use std::alloc::Global;
+
+/// The most words of a message, and the most that following it may cost, where no word says otherwise.
+const WORDS: u32 = 8_388_608;
+
+/// The most levels of pointers, where no word says otherwise.
+const NESTING: u32 = 64;
+
+/// The form that an option names.
+pub fn form(words: &ArgMatches<'_>, id: &str) -> Form {
+    match words.get_str(id) {
+        Some("packed") => Form::Packed,
+        _ => Form::Framed,
+    }
+}
+
+/// The limit of words.
+pub fn limit_of_words(words: &ArgMatches<'_>) -> u32 {
+    words.get_one::<u32>("words").unwrap_or(WORDS)
+}
+
+/// The limit of levels.
+pub fn nesting(words: &ArgMatches<'_>) -> u32 {
+    words.get_one::<u32>("nesting").unwrap_or(NESTING)
+}
+
+/// The limit of levels, as readers take it.
+pub fn nesting_limit(words: &ArgMatches<'_>) -> i32 {
+    match i32::try_from(nesting(words)) {
+        Ok(limit) => limit,
+        Err(_) => i32::MAX,
+    }
+}
+
+/// The text of a required argument.
+pub fn text<'a>(words: &ArgMatches<'a>, id: &str) -> &'a str {
+    words.get_str(id).unwrap_or("")
+}
+
+/// The names of the inputs, `-` where the words name none.
+pub fn inputs(alloc: Global, words: &ArgMatches<'_>) -> Result<Vec<String>, Failure> {
+    let mut names = Vec::new(alloc);
+    if let Some(files) = words.get_strs("files") {
+        for file in files {
+            names.push(String::from_str(alloc, file)?)?;
+        }
+    }
+    if names.is_empty() {
+        names.push(String::from_str(alloc, "-")?)?;
+    }
+    Ok(names)
+}
+
+/// The schema of the file that an argument names, with the root that the words name.
+pub fn rooted(rt: &HostRuntime, words: &ArgMatches<'_>, id: &str) -> Result<RootedSchema, Failure> {
+    let alloc = rt.alloc();
+    let name = text(words, id);
+    let bytes = read_file(rt, name)?;
+    match RootedSchema::new(alloc, &bytes, text(words, "root")) {
+        Ok(schema) => Ok(schema),
+        Err(why) => Err(Failure::schema(alloc, name, &why)),
+    }
+}
+
+/// The renamings of the file that the words name; none where they name none.
+pub fn renamings(rt: &HostRuntime, words: &ArgMatches<'_>) -> Result<Renamings, Failure> {
+    let alloc = rt.alloc();
+    let Some(name) = words.get_str("renames") else {
+        return Ok(Renamings::none(alloc));
+    };
+    let bytes = read_file(rt, name)?;
+    let list = match renames_file(alloc, &bytes) {
+        Ok(list) => list,
+        Err(FileFault::Memory) => return Err(Failure::Memory),
+        Err(FileFault::Form) => {
+            let why = "no JSON of the form of renames files: compare it with docs/FILES.md";
+            return Err(Failure::about(alloc, name, &why));
+        }
+    };
+    match Renamings::new(list) {
+        Ok(renamings) => Ok(renamings),
+        Err(RenamingFault::Memory) => Err(Failure::Memory),
+        Err(_) => {
+            let why = "two fields of a node are renamed to one, or one is renamed twice";
+            Err(Failure::about(alloc, name, &why))
+        }
+    }
+}
