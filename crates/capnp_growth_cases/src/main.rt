@@ -63,6 +63,7 @@ fn told_without_memory(rt: &HostRuntime, part: &str, call: &str) -> Result<Strin
         "read" => reading::lent(rt, call),
         "write" => writing::lent(rt),
         "record" => schema_reads::told(rt, call),
+        "versions" => shows::told(rt, call),
         _ => Err(Fault::NoCase),
     }
 }

@@ -76,8 +76,8 @@ impl<'a, A: ReaderArena> StructReader<'a, A> {
         }
     }
 
-    /// The struct without sections.
-    pub(crate) fn empty(backing: Backing<'a, A>, levels: Option<u32>) -> Self
+    /// The struct without sections, as which a null pointer reads: each field has its default. Its pointers are null.
+    pub fn empty(backing: Backing<'a, A>, levels: Option<u32>) -> Self
         ensures { seen_struct A.segments result
             ≡ empty_struct (ground_of A.segments backing.entry) levels }
     {
