@@ -1,5 +1,7 @@
 //! Messages that a function builds, whose roots are of each sort.
-use capnp_layout::{ElementSize, Error, ErrorKind, ReadLimiter, ReaderSegments, Result, data, text};
+use capnp_layout::{
+    ElementSize, Error, ErrorKind, ReadLimiter, ReaderSegments, Result, data, text,
+};
 use capnp_message::message::{
     Builder, DEFAULT_READER_OPTIONS, DataPlace, HeapAllocator, PointerPlace, TextPlace,
     TypedBuilder, root_of, with_message,
@@ -60,7 +62,13 @@ fn unwritten(message: &mut Builder<HeapAllocator>) -> Result<(usize, bool, bool,
     let text: text::Reader<'_> = message.get_root_as_reader(&mut limiter)?;
     let any: any_pointer::Reader<'_, _> = message.get_root_as_reader(&mut limiter)?;
     let (granted, followed) = (limiter.granted(), limiter.followed());
-    Ok((bytes.len(), text.eq_str(""), any.is_null(), granted, followed))
+    Ok((
+        bytes.len(),
+        text.eq_str(""),
+        any.is_null(),
+        granted,
+        followed,
+    ))
 }
 
 #[test]
