@@ -50,8 +50,8 @@ returns-then-is_untyped-clause-grows g c =
 pub clear_field-requires-clause-inside : goal.clear_field-requires-clause-inside
 clear_field-requires-clause-inside g c = areas_inside c.args.field.parent c.args.object c.requires.wide
 
-pub clear_field-then-is_untyped-requires-clause-inside : goal.clear_field-then-is_untyped-requires-clause-inside
-clear_field-then-is_untyped-requires-clause-inside g c = areas_inside c.args.field.parent c.args.object c.requires.wide
+pub clear_field-requires-then-is_untyped-clause-inside : goal.clear_field-requires-then-is_untyped-clause-inside
+clear_field-requires-then-is_untyped-clause-inside g c = areas_inside c.args.field.parent c.args.object c.requires.wide
 
-pub init_slot-part-requires-clause-inside : goal.init_slot-part-requires-clause-inside
-init_slot-part-requires-clause-inside g c = areas_inside c.args.field.parent c.args.object c.requires.wide
+pub init_slot-requires-clause-inside : goal.init_slot-requires-clause-inside
+init_slot-requires-clause-inside g c = areas_inside c.args.field.parent c.args.object c.requires.wide
