@@ -304,8 +304,8 @@ fn a_typed_root_is_set(rt: HostRuntime) -> std::result::Result<(), Fail> {
     Ok(())
 }
 
-/// Fields of the root of a message to which nothing was written: a number, one of default 5, a truth value of default true, and the text of a pointer.
-fn defaults<L: Allocator>(builder: &Builder<L>) -> Result<(u16, u16, bool, usize)> {
+/// Fields of the root of a message to which nothing was written: a number, one of default 5, a truth value of default true, and how many bytes the text of a pointer has.
+fn fields_unwritten<L: Allocator>(builder: &Builder<L>) -> Result<(u16, u16, bool, usize)> {
     let mut limiter = ReadLimiter::new(Some(0));
     let fields: Fields<'_, _> = builder.get_root_as_reader(&mut limiter)?;
     let text = fields.0.get_pointer_field(0).get_text(&mut limiter, None)?;
@@ -317,15 +317,24 @@ fn defaults<L: Allocator>(builder: &Builder<L>) -> Result<(u16, u16, bool, usize
     ))
 }
 
-/// The same over a slice, which takes no word of it. It comes back all zeros.
+/// The same of a new message.
+fn defaults<L: Allocator>(alloc: Global, allocator: &mut L) -> Result<(u16, u16, bool, usize)>
+    requires { length (L.loans allocator.old) ≤ 1 }
+    ensures loans { L.loans allocator.new ≡ L.loans allocator.old }
+    ensures place { L.place allocator.new ≡ L.place allocator.old }
+{
+    let builder = Builder::new(alloc, allocator);
+    let seen = fields_unwritten(&builder);
+    let _back = builder.into_allocator();
+    seen
+}
+
+/// The same over a slice, of which no word is taken.
 fn defaults_in(alloc: Global, region: &mut [u8]) -> Result<(u16, u16, bool, usize)>
     ensures { AllZero region.new }
 {
     let mut single = SingleSegmentAllocator::new(region);
-    let builder = Builder::new(alloc, &mut single);
-    let seen = defaults(&builder);
-    let _back = builder.into_allocator();
-    seen
+    defaults(alloc, &mut single)
 }
 
 #[test]
