@@ -5,6 +5,7 @@ pub mod Gets
 pub mod Lending
 pub mod Inputs
 pub mod Blobs
+pub mod Lent
 pub mod Copied
 pub mod Making
 pub mod Leaving

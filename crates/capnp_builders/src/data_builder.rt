@@ -1,8 +1,11 @@
 //! Data that are built.
-ghost use Rattle.std.specs.Prelude.{◌≡◌, ◌∷◌, [], ◌+◌, ◌<◌, ◌≤◌, ◌^◌, ◌==◌, length, map};
+ghost use Rattle.std.specs.Prelude.{◌≡◌, ◌∷◌, [], ◌+◌, ◌<◌, ◌≤◌, ◌^◌, ◌==◌, length, map, nat_eq};
 ghost use Rattle.std.specs.Borrow.{sem};
+ghost use Rattle.std.specs.Cmp.{partial_equiv_from_equiv, on_per};
+ghost use Rattle.std.specs.Cmp.Lexicographic.{pointwise, nat_list_eq_equiv};
 ghost use Rattle.capnp_units.specs.Segments.{words_in};
 ghost use Rattle.capnp_copy.specs.Bytes.{HasBytes, SetsBytes};
+ghost use Rattle.capnp_builders.specs.Lent.{data_lent};
 
 use capnp_copy::arena::{BuilderArena, Memory};
 use capnp_copy::bytes::{BlobPlace, get_bytes, set_bytes};
@@ -45,8 +48,9 @@ impl<'a, A: BuilderArena> DataBuilder<'a, A> {
 
     /// The bytes, lent in place.
     pub fn as_bytes(&self) -> &[u8]
-        ensures { HasBytes (words_in (A.segments self.now.memory.now.arena)) self.now.place
+        ensures has { HasBytes (words_in (A.segments self.now.memory.now.arena)) self.now.place
             result.now }
+        ensures lent { result.now ≡ data_lent A.segments self.now }
     {
         get_bytes(&self.memory.arena, self.place)
     }
@@ -91,6 +95,17 @@ impl<'a, A: BuilderArena> DataBuilder<'a, A> {
     {
         let place = self.place;
         set_bytes(&mut self.memory.arena, place, index, &[byte]);
+    }
+}
+
+/// Data that are built compare by their bytes, wherever they lie. Such whose words aren't there have none.
+impl<A: BuilderArena> PartialEq for DataBuilder<'_, A> {
+    ghost eq = { λ x y. pointwise nat_eq (data_lent A.segments x) (data_lent A.segments y) };
+
+    ghost laws = { on_per (data_lent A.segments) (partial_equiv_from_equiv nat_list_eq_equiv) };
+
+    fn eq(&self, other: &Self) -> bool {
+        self.as_bytes() == other.as_bytes()
     }
 }
 

@@ -1,12 +1,14 @@
 //! Texts that are built.
 ghost use Rattle.std.specs.Prelude.{◌≡◌, ◌∷◌, [], ◌+◌, ◌<◌, ◌≤◌, ◌^◌, ◌==◌, length, map, nat_eq, replicate, string_bytes, IfOk};
 ghost use Rattle.std.specs.Borrow.{sem};
-ghost use Rattle.std.specs.Cmp.Lexicographic.{pointwise, slice_cmp};
+ghost use Rattle.std.specs.Cmp.{partial_equiv_from_equiv, on_per};
+ghost use Rattle.std.specs.Cmp.Lexicographic.{pointwise, slice_cmp, nat_list_eq_equiv};
 ghost use Rattle.std.specs.Ordering.{nat_cmp};
 ghost use Rattle.capnp_units.specs.Segments.{words_in};
 ghost use Rattle.capnp_text.specs.Texts.{IsText, IsTextIfAny};
 ghost use Rattle.capnp_copy.specs.Bytes.{HasBytes, SetsBytes};
 ghost use Rattle.capnp_builders.specs.Blobs.{HoldsOfBytes};
+ghost use Rattle.capnp_builders.specs.Lent.{text_lent};
 
 use capnp_copy::arena::{BuilderArena, Memory};
 use capnp_copy::bytes::{BlobPlace, get_bytes, set_bytes, zero_bytes};
@@ -59,8 +61,9 @@ impl<'a, A: BuilderArena> TextBuilder<'a, A> {
 
     /// The bytes of the text, lent in place.
     pub fn as_bytes(&self) -> &[u8]
-        ensures { HasBytes (words_in (A.segments self.now.memory.now.arena)) self.now.place
+        ensures has { HasBytes (words_in (A.segments self.now.memory.now.arena)) self.now.place
             result.now }
+        ensures lent { result.now ≡ text_lent A.segments self.now }
     {
         get_bytes(&self.memory.arena, self.place)
     }
@@ -185,6 +188,17 @@ impl<'a, A: BuilderArena> TextBuilder<'a, A> {
         let place = self.place;
         zero_bytes(&mut self.memory.arena, place);
         self.position = 0;
+    }
+}
+
+/// Texts that are built compare by their bytes, wherever they lie and go on. One whose words aren't there has none.
+impl<A: BuilderArena> PartialEq for TextBuilder<'_, A> {
+    ghost eq = { λ x y. pointwise nat_eq (text_lent A.segments x) (text_lent A.segments y) };
+
+    ghost laws = { on_per (text_lent A.segments) (partial_equiv_from_equiv nat_list_eq_equiv) };
+
+    fn eq(&self, other: &Self) -> bool {
+        self.as_bytes() == other.as_bytes()
     }
 }
 

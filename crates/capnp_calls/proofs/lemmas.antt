@@ -3,6 +3,5 @@ pub mod OneStep
 pub mod ReadableSteps
 pub mod PathAnswers
 pub mod FieldSlots
-pub mod GroupSizes
 pub mod NamedFields
 pub mod ClearedGroups

@@ -2,7 +2,7 @@
 ghost use Rattle.std.specs.Prelude.{◌≡◌, ◌+◌, ◌*◌, ◌%◌, ◌<◌, ◌≤◌, ◌^◌, length, map, replicate};
 ghost use Rattle.capnp_model.specs.Sections.{number_of, numbers_in};
 ghost use Rattle.capnp_units.specs.Segments.{words_in};
-ghost use Rattle.capnp_copy.specs.Bytes.{HasBytes, SetsBytes};
+ghost use Rattle.capnp_copy.specs.Bytes.{HasBytes, SetsBytes, bytes_lent};
 
 use crate::allocator::write_in;
 use crate::arena::BuilderArena;
@@ -27,9 +27,10 @@ fn front_of(bytes: &[u8], count: usize) -> &[u8]
     &bytes[..count]
 }
 
-/// The bytes there, lent in place.
+/// The bytes there, lent in place; none where their words aren't there.
 pub fn get_bytes<A: ReaderArena>(arena: &A, blob: BlobPlace) -> &[u8]
-    ensures { HasBytes (words_in (A.segments arena.now)) blob result.now }
+    ensures has { HasBytes (words_in (A.segments arena.now)) blob result.now }
+    ensures lent { result.now ≡ bytes_lent (words_in (A.segments arena.now)) blob }
 {
     let words = (blob.count as usize + 7) / 8;
     if !has_words(arena, blob.start, words) {

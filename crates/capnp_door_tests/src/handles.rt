@@ -4,6 +4,7 @@ use capnp_layout::{
     StructBuilder, StructPlace, TextBuilder, has_words,
 };
 use capnp_message::message::{Builder, HeapAllocator, StructSize, root_of, with_message};
+use std::alloc::Global;
 use std::test::Fail;
 
 /// Positions that are too far for a handle.
@@ -123,5 +124,41 @@ fn data_root(message: &mut Builder<HeapAllocator>) -> Result<bool> {
 #[test]
 fn data_are_lent(rt: HostRuntime) -> std::result::Result<(), Fail> {
     assert!(rt; with_message(rt.alloc(), data_root)?);
+    Ok(())
+}
+
+/// Whether the texts that are the roots of two messages are equal, and whether the same bytes are as data. In the second message another text stands before it.
+fn roots_equal(
+    one: &mut Builder<HeapAllocator>,
+    two: &mut Builder<HeapAllocator>,
+    bytes: &[u8],
+    others: &[u8],
+) -> Result<(bool, bool)> {
+    root_of(&mut one.memory)?.set_text(bytes)?;
+    root_of(&mut two.memory)?.set_text(b"another")?;
+    root_of(&mut two.memory)?.set_text(others)?;
+    let text = root_of(&mut one.memory)?.get_text(None)?;
+    let texts = text == root_of(&mut two.memory)?.get_text(None)?;
+    root_of(&mut one.memory)?.set_data(bytes)?;
+    root_of(&mut two.memory)?.set_data(others)?;
+    let data = root_of(&mut one.memory)?.get_data(None)?;
+    Ok((texts, data == root_of(&mut two.memory)?.get_data(None)?))
+}
+
+/// The same in two new messages.
+fn equal_in_two(alloc: Global, bytes: &[u8], others: &[u8]) -> Result<(bool, bool)> {
+    let (mut one, mut two) = (Builder::new_default(alloc), Builder::new_default(alloc));
+    let equal = roots_equal(&mut one, &mut two, bytes, others);
+    let (_one, _two) = (one.into_allocator(), two.into_allocator());
+    equal
+}
+
+#[test]
+fn built_texts_and_data_compare(rt: HostRuntime) -> std::result::Result<(), Fail> {
+    let alloc = rt.alloc();
+    assert!(rt; equal_in_two(alloc, b"hi", b"hi")? == (true, true));
+    assert!(rt; equal_in_two(alloc, b"hi", b"ho")? == (false, false));
+    assert!(rt; equal_in_two(alloc, b"hi", b"hi!")? == (false, false));
+    assert!(rt; equal_in_two(alloc, b"", b"")? == (true, true));
     Ok(())
 }

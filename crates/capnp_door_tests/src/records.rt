@@ -92,16 +92,29 @@ fn begin_part<A: BuilderArena>(
     let Some(part) = record.init(field)? else {
         return missing();
     };
-    let (start, memory) = (part.place.start, &mut *record.memory);
-    let words = part.place.data_words as usize + part.place.pointers as usize;
-    let there = has_words(&memory.arena, start, words);
-    let begun = StructBuilder {
-        memory,
-        place: part.place,
-    };
-    if !there || !has_sizes(&begun, part.schema) {
+    record
+        .part(part)
+        .set_named(number.0, Given::UInt16(number.1))
+}
+
+/// The same by the field's name.
+fn begin_named<A: BuilderArena>(
+    memory: &mut Memory<A>,
+    place: StructPlace,
+    schema: StructSchema<'_>,
+    name: &str,
+    number: (&str, u16),
+) -> Result<()> {
+    let words = place.data_words as usize + place.pointers as usize;
+    let there = has_words(&memory.arena, place.start, words);
+    let fields = StructBuilder { memory, place };
+    if !there || !has_sizes(&fields, schema) {
         return missing();
     }
+    let mut record = dynamic_struct::Builder::new(fields, schema);
+    let Some(part) = record.init_named(name)? else {
+        return missing();
+    };
     record
         .part(part)
         .set_named(number.0, Given::UInt16(number.1))
@@ -144,7 +157,7 @@ fn shown<A: BuilderArena>(
     text_of(alloc, Reader::Struct(record.reborrow_as_reader()))
 }
 
-/// The text of a new R whose child and whose group are begun.
+/// The text of a new R whose child and whose group are begun, each twice.
 fn parts_in(
     alloc: Global,
     message: &mut Builder<HeapAllocator>,
@@ -152,8 +165,10 @@ fn parts_in(
 ) -> Result<String> {
     let place = begin(message, schema)?;
     let memory = &mut message.memory;
+    begin_part(memory, place, schema, "g", ("x", 3))?;
+    begin_named(memory, place, schema, "child", ("a", 6))?;
     begin_part(memory, place, schema, "child", ("a", 7))?;
-    begin_part(memory, place, schema, "g", ("x", 2))?;
+    begin_named(memory, place, schema, "g", ("x", 2))?;
     set_text(memory, place, schema)?;
     shown(alloc, memory, place, schema)
 }

@@ -1,5 +1,7 @@
 //! Messages that a function builds, whose roots are of each sort.
-use capnp_layout::{ElementSize, Error, ErrorKind, ReaderSegments, Result, data, text};
+use capnp_layout::{
+    ElementSize, Error, ErrorKind, ReadLimiter, ReaderSegments, Result, data, text,
+};
 use capnp_message::message::{
     Builder, DEFAULT_READER_OPTIONS, DataPlace, HeapAllocator, PointerPlace, TextPlace,
     TypedBuilder, root_of, with_message,
@@ -50,6 +52,54 @@ fn null_root(message: &mut Builder<HeapAllocator>) -> Result<(usize, usize)> {
 #[test]
 fn a_root_without_a_value_is_null(rt: HostRuntime) -> std::result::Result<(), Fail> {
     assert!(rt; with_message(rt.alloc(), null_root)? == (0, 1));
+    Ok(())
+}
+
+/// The root of a message to which nothing was written: how many bytes it has as data, whether it is the empty text and a null pointer, and the words granted and pointers followed by then.
+fn unwritten(message: &mut Builder<HeapAllocator>) -> Result<(usize, bool, bool, u64, u64)> {
+    let mut limiter = ReadLimiter::new(Some(0));
+    let bytes: &[u8] = message.get_root_as_reader(&mut limiter)?;
+    let text: text::Reader<'_> = message.get_root_as_reader(&mut limiter)?;
+    let any: any_pointer::Reader<'_, _> = message.get_root_as_reader(&mut limiter)?;
+    let (granted, followed) = (limiter.granted(), limiter.followed());
+    Ok((
+        bytes.len(),
+        text.eq_str(""),
+        any.is_null(),
+        granted,
+        followed,
+    ))
+}
+
+#[test]
+fn a_root_that_was_not_made_is_null(rt: HostRuntime) -> std::result::Result<(), Fail> {
+    assert!(rt; with_message(rt.alloc(), unwritten)? == (0, true, true, 0, 0));
+    Ok(())
+}
+
+/// The bytes of the text that is the root, where a segment was allocated by hand or none was; it has none in the one, and isn't there in the other.
+fn by_hand(alloc: Global, allocate: bool) -> (Result<()>, Result<usize>) {
+    let mut built: TypedBuilder<text::Owned, HeapAllocator> = TypedBuilder::new_default(alloc);
+    let allocated = if allocate {
+        built.message.memory.arena.allocate_segment(1)
+    } else {
+        Ok(())
+    };
+    let length = match built.get_root_as_reader(&mut ReadLimiter::new(None)) {
+        Ok(text) => Ok(text.len()),
+        Err(error) => Err(error),
+    };
+    let _heap = built.into_inner().into_allocator();
+    (allocated, length)
+}
+
+#[test]
+fn a_segment_without_words_has_no_root(rt: HostRuntime) -> std::result::Result<(), Fail> {
+    let (allocated, length) = by_hand(rt.alloc(), false);
+    assert!(rt; allocated.is_ok() && length? == 0);
+    let (allocated, length) = by_hand(rt.alloc(), true);
+    assert!(rt; allocated.is_ok());
+    assert!(rt; length.err() == Some(Error::from(ErrorKind::OutOfBounds)));
     Ok(())
 }
 

@@ -1,5 +1,5 @@
 -- Where nothing in what a group is set to has a fault, only memory is refused.
-use Rattle.std.proofs.Common.{◌≡◌, ◌⊎◌, inl, inr, ℕ, zero, suc, ◌+◌, ◌≤◌, Bool, true, false, nat_lt, if◌then◌else◌, Option, Some, None, Result, Ok, Err, IfErr, refl, sym, ap, subst, ◌∙◌, arith}
+use Rattle.std.proofs.Common.{◌≡◌, inl, inr, ℕ, zero, suc, ◌+◌, ◌≤◌, Bool, true, false, nat_lt, if◌then◌else◌, Option, Some, None, Result, Ok, Err, IfErr, refl, sym, ap, subst, ◌∙◌, arith}
 use Rattle.std.specs.Prelude.{⊤, option_map, not}
 use Rattle.capnp_model.specs.Kinds.{Kind}
 use Rattle.capnp_model.specs.Segments.{Segments, Place, after}
@@ -22,18 +22,16 @@ use Rattle.capnp_units.specs.declared.errors.Error.{Error}
 use Rattle.capnp_units.specs.declared.limiter.ReadLimiter.{ReadLimiter}
 use Rattle.capnp_object.specs.Walks.{Stopped}
 use Rattle.capnp_object.proofs.lemmas.Walks.{unstopped}
-use Rattle.capnp_footprints.proofs.lemmas.Zeros.{null_read}
 use Rattle.capnp_wire.specs.Laws.{reads_behind}
 use Rattle.capnp_wire.specs.Reads.{is_null_at, is_null}
 use Rattle.capnp_wire.specs.Views.{StructView, pointer_field}
 use Rattle.capnp_copy_from.specs.Copies.{IsStoppedOr}
 use Rattle.capnp_queries.specs.Fields.{Entry, field_at, union_in}
-use Rattle.capnp_queries.specs.Structs.{nodes_around, schema_around, shape_of_struct, fields_of_struct}
+use Rattle.capnp_queries.specs.Structs.{nodes_around, schema_around, shape_of_struct}
 use Rattle.capnp_queries.specs.Handles.{entry_of, IsFieldRecord}
 use Rattle.capnp_queries.specs.declared.structs.StructSchema.{StructSchema}
 use Rattle.capnp_queries.specs.declared.fields.Field.{Field}
 use Rattle.capnp_values.specs.Records.{is_live, is_there}
-use Rattle.capnp_values.specs.Standing as values
 use Rattle.capnp_values.specs.Standing.{Leads, Answers, or_empty, PointersAreRead, IsPointerType}
 use Rattle.capnp_values.specs.Shown.{opened}
 use Rattle.capnp_values.proofs.lemmas.RecordReadings.{pointer_live, pointer_there}

@@ -1,7 +1,7 @@
 -- What is read of a struct: its bits, and the values behind its pointers.
 use Rattle.std.proofs.Common.{◌≡◌, ℕ, ◌+◌, ◌*◌, ◌/◌, ◌%◌, ◌^◌, ◌<◌, ◌≤◌, ◌==◌, nat_lt, nat_le, Bool, true, false, not, ◌&&◌, if◌then◌else◌, List, length, Option, Some, None, Result, Ok, Err, OnOk, refl, sym, ap, subst, ◌∙◌, arith}
 use Rattle.std.specs.Prelude.{⊤, ◌≢◌}
-use Rattle.std.proofs.Math.Nat.{mod-eq_of_lt, div-eq_of_lt, mod-lt}
+use Rattle.std.proofs.Math.Nat.{mod-eq_of_lt, div-eq_of_lt}
 use Rattle.std.proofs.lemmas.Nat.{pow_pos}
 use Rattle.capnp_model.specs.Chains.{passes}
 use Rattle.capnp_model.specs.Sections.{bits_at, number_of}

@@ -5,6 +5,7 @@ pub mod Deeper
 pub mod Grown
 pub mod StructTypes
 pub mod GroupFields
+pub mod GroupSizes
 pub mod SetSlots
 pub mod SetPointers
 pub mod Sources

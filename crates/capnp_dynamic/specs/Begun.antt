@@ -1,6 +1,5 @@
 -- Fields that `init` begins. (Encoding, "Structs")
 use Rattle.std.specs.Prelude.{◌≡◌, Bool, true, false, Option, Some, None, IfSome, Result}
-use Rattle.capnp_model.specs.Accepted.{areas_of}
 use Rattle.capnp_model.specs.Kinds.{TypeMismatch}
 use Rattle.capnp_model.specs.Segments.{Segments}
 use Rattle.capnp_model.specs.Schemas.{Ty, void, plain, text, blob, untyped, interface, struct, list, Schema, Body, void_slot, plain_slot, pointer_slot, group_slot}
@@ -15,7 +14,6 @@ use Rattle.capnp_queries.specs.Structs.{schema_around, shape_of_struct}
 use Rattle.capnp_dynamic.specs.Calls.{edit_of}
 use Rattle.capnp_dynamic.specs.Puts.{PutsContent}
 use Rattle.capnp_dynamic.specs.Edits.{IsThere, IsWide}
-use Rattle.capnp_dynamic.specs.Inside.{LieIn}
 use Rattle.capnp_dynamic.specs.Inits.{LiesBehind}
 use Rattle.capnp_dynamic.specs.declared.init.Part.{Part}
 
@@ -66,10 +64,10 @@ abbrev pub TellsBegun : Segments → Segments → StructPlace → Schema → Opt
 TellsBegun s u p around None o = ⊥
 TellsBegun s u p around (Some e) o = TellsPart s u p around e.body o
 
--- The part is there, and all fields of its schema lie in it.
+-- The part is there, and has at least its schema's sizes.
 pub record IsPartThere (u : Segments) (part : Part) : Type 0 where
   pub there : IsThere u part.place
-  pub inside : LieIn part.place.data_words part.place.pointers (areas_of (shape_of_struct part.schema))
+  pub wide : IsWide part.place (shape_of_struct part.schema)
 
 -- ---- in a field
 

@@ -76,7 +76,7 @@ pub record IsPartOf {A : Type 0} (bytes : A → List (List ℕ)) (old new : Buil
   pub there : IsThere (words_around bytes new) part.place
   pub wide : IsWide part.place (shape_of_struct part.schema)
 
--- What is told of a field that `init` began: of a struct or a group, where it lies under which schema; it is there, and all fields of its schema lie in it.
+-- What is told of a field that `init` began: of a struct or a group, where it lies under which schema; it is there, and wide enough.
 pub record IsBegunBy {A : Type 0} (bytes : A → List (List ℕ)) (old new : Builder A) (f : Field) (part : Option Part) : Type 0 where
   pub tells : TellsBegun (words_around bytes old) (words_around bytes new) old.place (schema_around f.parent) (entry_of f) part
   pub there : IfSome part (IsPartThere (words_around bytes new))

@@ -1,13 +1,11 @@
 //! Fields that are begun.
 ghost use Rattle.std.specs.Prelude.{◌≡◌, IfOk, IfErr, OnErr};
-ghost use Rattle.capnp_model.specs.Accepted.{areas_of};
 ghost use Rattle.capnp_model.specs.Coverage.{Grows};
 ghost use Rattle.capnp_units.specs.Segments.{words_in};
 ghost use Rattle.capnp_queries.specs.Handles.{entry_of};
 ghost use Rattle.capnp_queries.specs.Structs.{schema_around, shape_of_struct};
 ghost use Rattle.capnp_queries.specs.Types.{ty_of};
-ghost use Rattle.capnp_dynamic.specs.Edits.{IsThere};
-ghost use Rattle.capnp_dynamic.specs.Inside.{LieIn};
+ghost use Rattle.capnp_dynamic.specs.Edits.{IsThere, IsWide};
 ghost use Rattle.capnp_dynamic.specs.Begun.{begun_field, PutsBegun, TellsField, IsThereIfTold, is_untyped};
 ghost use Rattle.capnp_copy.specs.Refusals.{IsSizeOrRefusal};
 ghost use Rattle.capnp_copy.specs.States.{state_in};
@@ -42,8 +40,7 @@ pub fn begin_field<'a, A: BuilderArena>(
     field: Field<'a>,
 ) -> Result<Option<Part<'a>>>
     requires there { IsThere (words_in (A.segments arena.old)) object }
-    requires inside { LieIn object.data_words object.pointers
-        (areas_of (shape_of_struct field.parent)) }
+    requires wide { IsWide object (shape_of_struct field.parent) }
     ensures puts { let at = state_in A.segments A.room A.books in
         PutsBegun (at arena.old) (at arena.new) object field.entry result }
     ensures tells { IfOk result (TellsField (words_in (A.segments arena.old))
@@ -55,6 +52,8 @@ pub fn begin_field<'a, A: BuilderArena>(
     ensures grows { Grows (words_in (A.segments arena.old)) (words_in (A.segments arena.new)) }
     ensures books { A.books arena.new ≡ A.books arena.old }
 {
+    let holder = field.parent().record();
+    let _words = holder.data_word_count;
     let _said = field.get_proto();
     match field.place() {
         FieldPlace::Group { schema } => {

@@ -7,7 +7,7 @@ ghost use Rattle.capnp_dynamic.specs.Calls.{edit_of};
 ghost use Rattle.capnp_dynamic.specs.Given.{is_flat};
 ghost use Rattle.capnp_dynamic.specs.Values.{value_given};
 ghost use Rattle.capnp_dynamic.specs.Edits.{IsThere, IsWide};
-ghost use Rattle.capnp_dynamic.specs.Begun.{begun_field};
+ghost use Rattle.capnp_dynamic.specs.Begun.{begun_field, IsThereIfTold};
 ghost use Rattle.capnp_dynamic.specs.Inits.{init_content, is_slot};
 ghost use Rattle.capnp_dynamic.specs.NewLists.{initn_field};
 ghost use Rattle.capnp_units.specs.Segments.{words_in};
@@ -112,7 +112,7 @@ impl<'a, A: BuilderArena> Builder<'a, A> {
         }
     }
 
-    /// A struct of the same message that is there and wide enough for its schema, lent: one that `init_struct` made, as long as nothing else was written.
+    /// A struct of the same message that is there and wide enough for its schema, lent: one that `init_struct`, `init` or `init_named` told, as long as nothing else was written.
     pub fn part<'b>(&'b mut self, part: Part<'b>) -> Builder<'b, A>
         requires there { IsThere (words_in (A.segments self.old.memory.now.arena)) part.place }
         requires wide { IsWide part.place (shape_of_struct part.schema) }
@@ -239,7 +239,7 @@ impl<'a, A: BuilderArena> Builder<'a, A> {
         init_slot(&mut self.memory.arena, place, field)
     }
 
-    /// Begins a field: `init`. A field of a struct's type gets a struct of zeros and nulls, as by `init_struct`; a group is cleared, as by `clear`; an untyped field becomes null. The old value is cleared. A union member becomes the active one. It tells where the struct or the group lies, which `part` lends, and nothing of an untyped field. A group and an untyped field take no memory.
+    /// Begins a field: `init`. A field of a struct's type gets a struct of zeros and nulls, as by `init_struct`; a group is cleared, as by `clear`; an untyped field becomes null. The old value is cleared. A union member becomes the active one. It tells where the struct or the group lies, which `part` lends as it stands, and nothing of an untyped field. A group and an untyped field take no memory.
     ///
     /// It is refused with `InitIsOnlyValidForStructAndAnyPointerFields` where the field is of another type; a struct with `SizeOverflow` just where the message's words, a pad counted, would pass 2^29 - 1, else as the allocator refuses. Then the struct is as it was, its union included.
     pub fn init<'b>(&mut self, field: Field<'b>) -> Result<Option<Part<'b>>>
@@ -283,6 +283,7 @@ impl<'a, A: BuilderArena> Builder<'a, A> {
         ensures puts { AnswersNamed self.old.schema name.now (λ f r. Puts A.segments A.room A.books
             (IsSizeOrRefusal A.refuses) self.old self.new (edit_of f init) (begun_field (schema_around f.parent) (entry_of f)) r
             × IfOk r (IsBegunBy A.segments self.old self.new f)) result }
+        ensures there { IfOk result (IsThereIfTold (words_in (A.segments self.new.memory.now.arena))) }
         ensures refused { OnErr result (Stays A.segments self.old self.new) }
         ensures books { A.books self.new.memory.now.arena ≡ A.books self.old.memory.now.arena }
         ensures ready { IsReady A.segments self.new }

@@ -10,11 +10,12 @@ ghost use Rattle.capnp_units.specs.declared.kinds.ErrorKind.TheVariants.{SizeOve
 ghost use Rattle.capnp_copy.specs.Allocations.{total_words};
 ghost use Rattle.capnp_copy.specs.States.{HasWords};
 ghost use Rattle.capnp_copy.specs.Values.{Becomes};
-ghost use Rattle.capnp_wire.specs.Reads.{root_of};
+ghost use Rattle.capnp_object.specs.Places.{seen};
+ghost use Rattle.capnp_wire.specs.Views.{seen_pointer};
 ghost use Rattle.capnp_message.specs.Built.{used_bytes, rooted, words_held, place_held, loans_held, HasNoRootWord, NoRootMade, IsSizeOrRefusalOf};
 ghost use Rattle.capnp_message.specs.Options.{boundless};
 ghost use Rattle.capnp_message.specs.Placed.{root_slot};
-ghost use Rattle.capnp_message.specs.Roots.{ReadsRoot};
+ghost use Rattle.capnp_message.specs.Roots.{ReadsRoot, built_root};
 
 use crate::builder::Builder;
 use crate::options::ReaderOptions;
@@ -27,8 +28,12 @@ use capnp_copy::segments::BuilderArenaImpl;
 use capnp_units::errors::{Error, Result};
 use capnp_units::kinds::ErrorKind;
 use capnp_units::limiter::ReadLimiter;
+use capnp_wire::arena::ReaderArena;
+use capnp_wire::backing::Backing;
+use capnp_wire::levels::levels_of;
 use capnp_wire::place::{ROOT, has_words};
 use capnp_wire::pointer::PointerReader;
+use capnp_wire::structs::StructReader;
 use capnp_wire::traits::FromPointerReader;
 
 /// What is built was made here: no limit of words, and as many levels as there can be.
@@ -90,6 +95,23 @@ pub fn root_of<A: BuilderArena>(memory: &mut Memory<A>) -> Result<PointerBuilder
     })
 }
 
+/// The root pointer to read: null where the arena has no segment. It is refused with `OutOfBounds` where the first segment has no word.
+fn root_to_read<A: Allocator>(
+    arena: &BuilderArenaImpl<A>,
+) -> Result<PointerReader<'_, BuilderArenaImpl<A>>>
+    ensures { seen (seen_pointer (λ a. used_bytes (λ h. h.used)
+        (λ h. A.Segment.bytes h.segment) a.segments.items)) result
+        ≡ built_root (used_bytes (λ h. h.used) (λ h. A.Segment.bytes h.segment)
+        arena.now.segments.items) boundless.nesting_limit }
+{
+    if arena.len() == 0 {
+        let levels = levels_of(arena.nesting_limit());
+        let nothing = StructReader::empty(Backing::Arena(arena), levels);
+        return Ok(nothing.get_pointer_field(0));
+    }
+    PointerReader::get_root_from_arena(arena)
+}
+
 impl<A: Allocator> Builder<A> {
     /// Sets the root to a value, in place of the one that it had, which is cleared. Texts and data are copied.
     ///
@@ -111,16 +133,18 @@ impl<A: Allocator> Builder<A> {
         V::set_pointer_builder(pointer, value, false)
     }
 
-    /// The root to read, as a caller's type, at any depth. It is refused with `OutOfBounds` where no root was made, at no cost; else as the type reads a pointer.
+    /// The root to read, as a caller's type, at any depth. Where nothing was written it is null, which costs nothing.
+    ///
+    /// It is refused with `OutOfBounds`, at no cost, where the first segment was allocated by hand and has no word; else as the type reads a pointer.
     pub fn get_root_as_reader<'a, T: FromPointerReader<'a, BuilderArenaImpl<A>>>(
         &'a self,
         limiter: &mut ReadLimiter,
     ) -> Result<T>
-        ensures { ReadsRoot T.reads (root_of (used_bytes (λ h. h.used)
+        ensures { ReadsRoot T.reads (built_root (used_bytes (λ h. h.used)
             (λ h. A.Segment.bytes h.segment) self.now.memory.arena.segments.items)
             boundless.nesting_limit) limiter.old result limiter.new }
     {
-        let pointer = PointerReader::get_root_from_arena(&self.memory.arena)?;
+        let pointer = root_to_read(&self.memory.arena)?;
         T::get_from_pointer(&pointer, limiter, None)
     }
 

@@ -6,11 +6,10 @@ ghost use Rattle.capnp_model.specs.Segments.{root};
 ghost use Rattle.capnp_units.specs.declared.kinds.ErrorKind.TheVariants.{SizeOverflow};
 ghost use Rattle.capnp_copy.specs.Allocations.{total_words};
 ghost use Rattle.capnp_copy.specs.Values.{Becomes};
-ghost use Rattle.capnp_wire.specs.Reads.{root_of};
 ghost use Rattle.capnp_message.specs.Built.{used_bytes, rooted, words_held, place_held, loans_held, NoRootMade, IsSizeOrRefusalOf};
 ghost use Rattle.capnp_allocators.specs.Growth.{suggested_growth};
 ghost use Rattle.capnp_message.specs.Options.{boundless};
-ghost use Rattle.capnp_message.specs.Roots.{ReadsRoot};
+ghost use Rattle.capnp_message.specs.Roots.{ReadsRoot, built_root};
 
 use crate::builder::Builder;
 use crate::typed::TypedReader;
@@ -62,11 +61,11 @@ impl<T, A: Allocator> TypedBuilder<T, A> {
         self.message.set_root(value)
     }
 
-    /// The root to read, at any depth. It is refused as by `Builder::get_root_as_reader`.
+    /// The root to read, at any depth, null where nothing was written. It is refused as by `Builder::get_root_as_reader`.
     pub fn get_root_as_reader<'a>(&'a self, limiter: &mut ReadLimiter) -> Result<T::Reader>
     where
         T: Owned<'a, BuilderArenaImpl<A>>,
-        ensures { ReadsRoot T.Reader.reads (root_of (used_bytes (λ h. h.used)
+        ensures { ReadsRoot T.Reader.reads (built_root (used_bytes (λ h. h.used)
             (λ h. A.Segment.bytes h.segment) self.now.message.memory.arena.segments.items)
             boundless.nesting_limit) limiter.old result limiter.new }
     {

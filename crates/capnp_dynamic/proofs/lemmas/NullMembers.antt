@@ -1,12 +1,11 @@
 -- What null pointers of active members count as.
-use Rattle.std.proofs.Common.{◌≡◌, ℕ, zero, suc, ◌*◌, ◌/◌, ◌^◌, ◌==◌, nat_lt, Bool, true, false, not, unwrap_or, List, [], ◌∷◌, ◌++◌, length, take, drop, slice_get, Option, Some, None, Ok, Vec, Global, refl, sym, ap, subst, ◌∙◌, arith, Bor}
+use Rattle.std.proofs.Common.{◌≡◌, ℕ, zero, suc, ◌*◌, ◌/◌, ◌==◌, Bool, true, false, not, unwrap_or, List, [], ◌∷◌, length, Option, Some, None, Ok, Vec, Global, refl, sym, ap, subst, ◌∙◌, arith, Bor}
 use Rattle.std.specs.Prelude.{option_map, option_copied, IsSome}
-use Rattle.std.specs.List.{flat_map, list_all}
+use Rattle.std.specs.List.{flat_map}
 use Rattle.std.specs.Option.{ok_or}
 use Rattle.std.specs.Simd.{first_chunks}
 use Rattle.std.specs.Str.{bytes_eq}
 use Rattle.std.proofs.lemmas.Slice.Eq.{bytes_eq-Decides}
-use Rattle.std.proofs.lemmas.List.{length-drop, take-append-drop}
 use Rattle.capnp_model.specs.Bytes.{bytes_of_words, words_in_bytes}
 use Rattle.capnp_model.specs.Segments.{Segments, Place, root, word_at}
 use Rattle.capnp_model.specs.Kinds.{OutOfBounds}
@@ -16,18 +15,16 @@ use Rattle.capnp_model.specs.Trimming.{trim}
 use Rattle.capnp_model.specs.Traversal.{tree_at}
 use Rattle.capnp_model.specs.Encoding.{canonical_words}
 use Rattle.capnp_model.specs.Decoding.{decode}
-use Rattle.capnp_model.specs.Accepted.{find_node, fields_of_kind, default_tree, slot_body, field_body, opens_as, is_good_segment, is_good_value, default_reads}
+use Rattle.capnp_model.specs.Accepted.{default_tree, slot_body, field_body, opens_as, is_good_value, default_reads}
 use Rattle.capnp_model.specs.Groups.{empty_tree, source_tree}
-use Rattle.capnp_model.specs.Schemas.{Ty, void, plain, text, blob, untyped, interface, struct, list, type_of, Value, no_value, bits, text_bytes, blob_bytes, list_segment, struct_segment, untyped_value, interface_value, FieldKind, slot, group, Field as FieldNode, StructNode, NodeKind, struct_node, enum_node, Node, Shape, pointer_slot, Schema, default_or_null}
+use Rattle.capnp_model.specs.Schemas.{Ty, void, plain, text, blob, untyped, interface, struct, list, type_of, Value, no_value, bits, text_bytes, blob_bytes, list_segment, struct_segment, untyped_value, interface_value, FieldKind, slot, group, Field as FieldNode, Shape, pointer_slot, Schema, default_or_null}
 use Rattle.capnp_model.proofs.lemmas.Chaining.{bind_some, bind_found, bind_ok, ok_or_some, some_is, provided_some}
-use Rattle.capnp_model.proofs.lemmas.KeptRules.{found_passes}
 use Rattle.capnp_model.proofs.lemmas.ByteWords.{bytes_length}
 use Rattle.capnp_units.specs.Segments.{words_in}
 use Rattle.capnp_footprints.proofs.lemmas.Zeros.{null_read}
 use Rattle.capnp_footprints.proofs.lemmas.Nulls.{null_word}
 use Rattle.capnp_records.proofs.lemmas.Segments.{segment_found}
 use Rattle.capnp_records.specs.NodeViews.{value_of}
-use Rattle.capnp_records.specs.Sets.{struct_in}
 use Rattle.capnp_records.specs.declared.node.Value.{Value as Said}
 use Rattle.capnp_records.specs.declared.node.Value.TheVariants as V
 use Rattle.capnp_copy_from.specs.Defaults.{default_segments, is_null_at}
@@ -36,7 +33,7 @@ use Rattle.capnp_queries.specs.Handles.{entry_of, IsFieldRecord}
 use Rattle.capnp_queries.specs.declared.fields.Field.{Field}
 use Rattle.capnp_values.specs.Shown.{default_said}
 use Rattle.capnp_values.proofs.lemmas.GoodDefaults.{defaults_kept, passes}
-use Rattle.capnp_model.proofs.lemmas.Tests.{and_left, and_right}
+use Rattle.capnp_model.proofs.lemmas.Tests.{and_right}
 use Rattle.capnp_values.proofs.lemmas.DefaultReadings.{joined}
 use Rattle.capnp_dynamic.specs.GroupSets.{HoldsDefault, IsReadable, IsDefault}
 use Rattle.capnp_dynamic.proofs.lemmas.GroupFields.{body_is}

@@ -1,6 +1,8 @@
 //! Roots that are set and read back, and messages that are edited where their words stand.
 ghost use Rattle.std.specs.Prelude.{◌≡◌, ◌+◌, ◌*◌, ◌^◌, ◌<◌, ◌≤◌, ◌++◌, length};
 ghost use Rattle.capnp_copy.specs.Memory.{AllZero, ZeroFrom};
+ghost use Rattle.capnp_wire.specs.Views.{seen_struct};
+ghost use Rattle.capnp_wire.specs.Reads.{GetGives, read_struct};
 
 use capnp_allocators::opening::OpensSegment;
 use capnp_copy::allocator::{Allocator, SegmentBytes};
@@ -13,8 +15,11 @@ use capnp_units::errors::{Error, Result};
 use capnp_units::kinds::ErrorKind;
 use capnp_units::limiter::ReadLimiter;
 use capnp_units::segments::ReaderSegments;
+use capnp_units::sizes::Word;
 use capnp_wire::arena::ReaderArena;
-use capnp_wire::traits::Owned;
+use capnp_wire::pointer::PointerReader;
+use capnp_wire::structs::StructReader;
+use capnp_wire::traits::{FromPointerReader, Owned};
 use std::alloc::Global;
 use std::test::Fail;
 
@@ -24,6 +29,23 @@ struct Bytes;
 
 impl<'a, A: ReaderArena> Owned<'a, A> for Bytes {
     type Reader = &'a [u8];
+}
+
+/// A root that is a struct.
+#[derive(Drop)]
+struct Fields<'a, A>(StructReader<'a, A>);
+
+impl<'a, A: ReaderArena> FromPointerReader<'a, A> for Fields<'a, A> {
+    ghost reads = { λ p old result new. GetGives (λ fields. seen_struct A.segments fields.0)
+        (read_struct p.basis p.levels) p old result new };
+
+    fn get_from_pointer(
+        reader: &PointerReader<'a, A>,
+        limiter: &mut ReadLimiter,
+        default: Option<&'a [Word]>,
+    ) -> Result<Fields<'a, A>> {
+        Ok(Fields(reader.get_struct(limiter, default)?))
+    }
 }
 
 /// The used bytes of each segment, one behind the other.
@@ -279,5 +301,45 @@ fn a_typed_root_is_set(rt: HostRuntime) -> std::result::Result<(), Fail> {
     let expected = [1u8, 0, 0, 0, 0x12, 0, 0, 0, 0x68, 0x69, 0, 0, 0, 0, 0, 0];
     assert!(rt; bytes.as_slice() == expected.as_slice());
     assert!(rt; root.as_slice() == b"hi".as_slice());
+    Ok(())
+}
+
+/// Fields of the root of a message to which nothing was written: a number, one of default 5, a truth value of default true, and how many bytes the text of a pointer has.
+fn fields_unwritten<L: Allocator>(builder: &Builder<L>) -> Result<(u16, u16, bool, usize)> {
+    let mut limiter = ReadLimiter::new(Some(0));
+    let fields: Fields<'_, _> = builder.get_root_as_reader(&mut limiter)?;
+    let text = fields.0.get_pointer_field(0).get_text(&mut limiter, None)?;
+    Ok((
+        fields.0.get_data_field::<u16>(0),
+        fields.0.get_data_field_mask::<u16>(0, 5),
+        fields.0.get_bool_field_mask(0, true),
+        text.len(),
+    ))
+}
+
+/// The same of a new message.
+fn defaults<L: Allocator>(alloc: Global, allocator: &mut L) -> Result<(u16, u16, bool, usize)>
+    requires { length (L.loans allocator.old) ≤ 1 }
+    ensures loans { L.loans allocator.new ≡ L.loans allocator.old }
+    ensures place { L.place allocator.new ≡ L.place allocator.old }
+{
+    let builder = Builder::new(alloc, allocator);
+    let seen = fields_unwritten(&builder);
+    let _back = builder.into_allocator();
+    seen
+}
+
+/// The same over a slice, of which no word is taken.
+fn defaults_in(alloc: Global, region: &mut [u8]) -> Result<(u16, u16, bool, usize)>
+    ensures { AllZero region.new }
+{
+    let mut single = SingleSegmentAllocator::new(region);
+    defaults(alloc, &mut single)
+}
+
+#[test]
+fn a_root_that_was_not_made_has_defaults(rt: HostRuntime) -> std::result::Result<(), Fail> {
+    let mut region = [0xeeu8; 0];
+    assert!(rt; defaults_in(rt.alloc(), &mut region)? == (0, 5, true, 0));
     Ok(())
 }

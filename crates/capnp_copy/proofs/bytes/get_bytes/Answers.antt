@@ -6,8 +6,8 @@ use Rattle.capnp_wire.specs.Views.{section_at}
 use Rattle.capnp_copy.proofs.ByteSets.{front_bytes}
 use Rattle.capnp_copy.proofs.bytes.get_bytes.Goals as goal
 
-pub returns : goal.returns
-returns g c = λ n m section l o.
+pub returns-clause-has : goal.returns-clause-has
+returns-clause-has g c = λ n m section l o.
     let s = words_in (g.A.ReaderArena.segments c.args.arena.now) in
     let p = place_view c.args.blob.start in
     let count : ℕ = c.args.blob.count in

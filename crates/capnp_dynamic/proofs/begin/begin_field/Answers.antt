@@ -1,14 +1,13 @@
-use Rattle.std.proofs.Common.{Some, refl, sym, ap, ◌∙◌}
+use Rattle.std.proofs.Common.{Some, sym, ap, subst, ◌∙◌}
 use Rattle.capnp_model.specs.Accepted.{schema_of}
 use Rattle.capnp_units.specs.Segments.{words_in}
-use Rattle.capnp_records.specs.NodeViews.{field_of}
+use Rattle.capnp_records.specs.NodeViews.{field_of, struct_of}
 use Rattle.capnp_copy.proofs.lemmas.RoomLaws.{sizes_grow}
-use Rattle.capnp_queries.specs.Handles.{body_of_place}
+use Rattle.capnp_queries.specs.Structs.{nodes_around, id_of, IsRecordOf}
 use Rattle.capnp_queries.specs.Types.{ty_of}
-use Rattle.capnp_queries.specs.declared.slots.FieldPlace.TheVariants as F
 use Rattle.capnp_copy.specs.States.{state_in}
 use Rattle.capnp_dynamic.proofs.lemmas.Ready.{there_after, areas_inside}
-use Rattle.capnp_dynamic.proofs.lemmas.GroupFields.{group_inside, member_inside}
+use Rattle.capnp_dynamic.proofs.lemmas.GroupSizes.{group_wide}
 use Rattle.capnp_dynamic.proofs.Begun.{group_begun, group_told, null_begun}
 use Rattle.capnp_dynamic.proofs.begin.begin_field.Goals as goal
 
@@ -25,11 +24,12 @@ returns-in-Group-clause-tells g c =
 pub returns-in-Group-clause-there : goal.returns-in-Group-clause-there
 returns-in-Group-clause-there g c =
     let p = c.args.object in
-    let b = F.Group c.in-Group.schema in
-    let inside = member_inside c.args.field (field_of c.get_proto-said.result.now) c.get_proto-said.ensures (body_of_place b) c.in-Group.ensures.body p.data_words p.pointers c.requires.inside in
+    let f = c.args.field in
+    let n = struct_of c.record-holder.result.now in
+    let holder = subst (λ p. IsRecordOf (nodes_around p) (id_of p) n) c.parent.ensures c.record-holder.ensures in
     record {
       there = there_after (words_in (g.A.ReaderArena.segments c.args.arena.now)) (words_in (g.A.ReaderArena.segments c.clear_field.new.arena)) p c.clear_field.ensures.sizes c.requires.there;
-      inside = group_inside p b c.in-Group.schema refl inside;
+      wide = group_wide f (field_of c.get_proto-said.result.now) c.get_proto-said.ensures n holder c.in-Group.schema c.in-Group.ensures.body p c.requires.wide;
     }
 
 pub returns-in-Group-clause-grows : goal.returns-in-Group-clause-grows
@@ -47,7 +47,11 @@ pub returns-then-is_untyped-clause-grows : goal.returns-then-is_untyped-clause-g
 returns-then-is_untyped-clause-grows g c =
     sizes_grow (words_in (g.A.ReaderArena.segments c.args.arena.now)) (words_in (g.A.ReaderArena.segments c.clear_field-then-is_untyped.new.arena)) c.clear_field-then-is_untyped.ensures.sizes
 
-pub returns-in_ok-part-in-Pointer-clause-there : goal.returns-in_ok-part-in-Pointer-clause-there
-returns-in_ok-part-in-Pointer-clause-there g c =
-    let e = c.in_ok-part-in-Pointer.ensures in
-    record { there = e.there; inside = areas_inside c.in_ok-part-in-Pointer.part.schema c.in_ok-part-in-Pointer.part.place e.wide }
+pub clear_field-requires-clause-inside : goal.clear_field-requires-clause-inside
+clear_field-requires-clause-inside g c = areas_inside c.args.field.parent c.args.object c.requires.wide
+
+pub clear_field-requires-then-is_untyped-clause-inside : goal.clear_field-requires-then-is_untyped-clause-inside
+clear_field-requires-then-is_untyped-clause-inside g c = areas_inside c.args.field.parent c.args.object c.requires.wide
+
+pub init_slot-requires-clause-inside : goal.init_slot-requires-clause-inside
+init_slot-requires-clause-inside g c = areas_inside c.args.field.parent c.args.object c.requires.wide

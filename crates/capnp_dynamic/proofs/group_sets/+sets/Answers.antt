@@ -24,7 +24,7 @@ use Rattle.capnp_dynamic.proofs.CopiedFields.{void_field, plain_field, group_fie
 use Rattle.capnp_queries.specs.Types.{ty_of}
 use Rattle.capnp_dynamic.proofs.FieldRefusals.{null_refused, some_refused, group_isnt_set, one_refused}
 use Rattle.capnp_wire.specs.Views.{pointer_field as pointer_seen}
-use Rattle.capnp_model.specs.Trees.{is_null, child, null}
+use Rattle.capnp_model.specs.Trees.{child}
 use Rattle.capnp_dynamic.proofs.Faultless.{on_err, source_of, null_tree_is, group_faultless, one_faultless, first_turn, second_turn}
 use Rattle.capnp_dynamic.proofs.group_sets.+sets.Goals as goal
 

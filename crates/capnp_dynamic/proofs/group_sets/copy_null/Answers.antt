@@ -1,5 +1,5 @@
 -- A null pointer that is left, refused, or put as what it counts as and then marked.
-use Rattle.std.proofs.Common.{true, refl, sym, ap, subst, ◌∙◌}
+use Rattle.std.proofs.Common.{refl, sym, ap, subst, ◌∙◌}
 use Rattle.std.proofs.lemmas.Result.{err_from_is_err_and}
 use Rattle.std.specs.Prelude.{option_map, option_copied}
 use Rattle.capnp_model.specs.Accepted.{schema_of}

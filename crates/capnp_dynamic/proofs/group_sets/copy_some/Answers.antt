@@ -19,7 +19,7 @@ use Rattle.capnp_values.specs.Shown.{ShowsField}
 use Rattle.capnp_dynamic.proofs.FieldRefusals.{read_refused}
 use Rattle.capnp_queries.specs.Structs.{schema_around}
 use Rattle.capnp_wire.specs.Views.{pointer_field as pointer_seen}
-use Rattle.capnp_model.specs.Trees.{Tree, is_null, child}
+use Rattle.capnp_model.specs.Trees.{is_null, child}
 use Rattle.capnp_model.specs.Readings.{read}
 use Rattle.capnp_dynamic.proofs.NullRefusals.{behind_pointer, is_behind}
 use Rattle.capnp_dynamic.proofs.Faultless.{untaken, unreadable, some_faultless}

@@ -9,7 +9,6 @@ use Rattle.capnp_wire.specs.Places.{place_view}
 use Rattle.capnp_copy.proofs.lemmas.RoomLaws.{sizes_grow}
 use Rattle.capnp_queries.specs.Structs.{nodes_around, schema_around, shape_of_struct, id_of}
 use Rattle.capnp_queries.specs.Types.{ty_of}
-use Rattle.capnp_queries.specs.declared.slots.FieldPlace.TheVariants as F
 use Rattle.capnp_model.specs.Schemas.{words_of_shape, pointers_of_shape}
 use Rattle.capnp_copy.specs.States.{state_in}
 use Rattle.capnp_dynamic.proofs.lemmas.Ready.{there_after, slot_there}

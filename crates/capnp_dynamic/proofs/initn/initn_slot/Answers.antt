@@ -11,7 +11,6 @@ use Rattle.capnp_records.specs.Sets.{nodes_of}
 use Rattle.capnp_wire.specs.Places.{place_view}
 use Rattle.capnp_queries.specs.Structs.{nodes_around, schema_around}
 use Rattle.capnp_queries.specs.Types.{ty_of}
-use Rattle.capnp_queries.specs.declared.slots.FieldPlace.TheVariants as F
 use Rattle.capnp_dynamic.specs.NewLists.{tree_of_new, initn_field}
 use Rattle.capnp_copy.specs.States.{state_in}
 use Rattle.capnp_dynamic.proofs.lemmas.Ready.{slot_there}

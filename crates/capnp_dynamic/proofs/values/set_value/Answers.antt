@@ -15,7 +15,6 @@ use Rattle.capnp_queries.specs.Fields.{shape_id}
 use Rattle.capnp_queries.specs.Structs.{shape_of_struct}
 use Rattle.capnp_queries.specs.Handles.{entry_of}
 use Rattle.capnp_queries.specs.Types.{ty_of}
-use Rattle.capnp_queries.specs.declared.slots.FieldPlace.TheVariants as F
 use Rattle.capnp_dynamic.specs.Sources.{source_seen, source_given}
 use Rattle.capnp_dynamic.specs.Values.{made, fields, struct_given, group_refusal, value_given}
 use Rattle.capnp_dynamic.proofs.AnyValues.{leaves_of, leaves_group, fields_given, group_refused, group_type, given_puts, none_given, told, flat_behind, flat_elsewhere, flat_puts}

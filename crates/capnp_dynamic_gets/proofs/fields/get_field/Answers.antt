@@ -4,11 +4,11 @@ use Rattle.capnp_model.specs.Segments.{Place}
 use Rattle.capnp_units.specs.Segments.{words_in}
 use Rattle.capnp_wire.specs.Places.{place_view}
 use Rattle.capnp_records.specs.NodeViews.{field_of, struct_of}
-use Rattle.capnp_queries.specs.Structs.{nodes_around, id_of, shape_of_struct, IsRecordOf}
+use Rattle.capnp_queries.specs.Structs.{nodes_around, id_of, IsRecordOf}
 use Rattle.capnp_queries.specs.Handles.{plain_of}
 use Rattle.capnp_queries.specs.declared.slots.FieldPlace.TheVariants as F
-use Rattle.capnp_calls.proofs.lemmas.GroupSizes.{group_is_field}
-use Rattle.capnp_dynamic.proofs.lemmas.Ready.{areas_inside, slot_there, wide_within}
+use Rattle.capnp_dynamic.proofs.lemmas.Ready.{areas_inside, slot_there}
+use Rattle.capnp_dynamic.proofs.lemmas.GroupSizes.{group_wide}
 use Rattle.capnp_dynamic.proofs.lemmas.GroupFields.{slot_inside}
 use Rattle.capnp_dynamic.proofs.lemmas.Grown.{child_grows}
 use Rattle.capnp_dynamic_gets.proofs.PlainValues.{plain_there}
@@ -50,5 +50,4 @@ returns-in-Group-clause-there g c =
     let f = c.args.field in
     let n = struct_of c.record-holder.result.now in
     let holder = subst (λ p. IsRecordOf (nodes_around p) (id_of p) n) c.parent.ensures c.record-holder.ensures in
-    let is = group_is_field f (field_of c.get_proto-said.result.now) c.get_proto-said.ensures n holder c.in-Group.schema c.in-Group.ensures.of_set c.in-Group.ensures.body in
-    (c.requires.there, wide_within c.args.object (shape_of_struct c.in-Group.schema) (shape_of_struct f.parent) is.words is.pointers c.requires.wide)
+    (c.requires.there, group_wide f (field_of c.get_proto-said.result.now) c.get_proto-said.ensures n holder c.in-Group.schema c.in-Group.ensures.body c.args.object c.requires.wide)

@@ -28,9 +28,6 @@ returns-in-Clear-clause-writes g c =
     let u = words_in (g.A.ReaderArena.segments c.clear_field.new.arena) in
     subst (λ a. WritesField s u c.args.object c.args.field [] (action_view a)) (sym c.in-Clear.is) (edited_end s u c.args.object c.args.field clear c.clear_field.ensures.edits)
 
-pub begin_field-requires-clause-inside : goal.begin_field-requires-clause-inside
-begin_field-requires-clause-inside g c = areas_inside c.args.field.parent c.args.object c.requires.wide
-
 pub initn_slot-requires-clause-inside : goal.initn_slot-requires-clause-inside
 initn_slot-requires-clause-inside g c = areas_inside c.args.field.parent c.args.object c.requires.wide
 

@@ -12,9 +12,9 @@ use Rattle.capnp_records.specs.Sets.{nodes_of}
 use Rattle.capnp_queries.specs.Structs.{nodes_around, schema_around, shape_of_struct, id_of, IsRecordOf}
 use Rattle.capnp_queries.specs.Types.{ty_of, ty_of_variant, is_type_of}
 use Rattle.capnp_calls.specs.CallViews.{step_view, action_view}
-use Rattle.capnp_calls.proofs.lemmas.GroupSizes.{group_is_field}
 use Rattle.capnp_calls.proofs.lemmas.PathAnswers.{none_is, some_is}
-use Rattle.capnp_dynamic.proofs.lemmas.Ready.{areas_inside, slot_there, wide_within}
+use Rattle.capnp_dynamic.proofs.lemmas.Ready.{areas_inside, slot_there}
+use Rattle.capnp_dynamic.proofs.lemmas.GroupSizes.{group_wide}
 use Rattle.capnp_dynamic.proofs.lemmas.GroupFields.{slot_inside}
 use Rattle.capnp_dynamic_lists.specs.Lists.{HasPointer}
 use Rattle.capnp_dynamic_lists.specs.Elements.{Holds, HoldsStructs}
@@ -73,8 +73,7 @@ write_behind-write_steps-requires g t c κs within =
     let f = c.args.field in
     let n = struct_of c.record-holder.result.now in
     let holder = subst (λ p. IsRecordOf (nodes_around p) (id_of p) n) c.parent.ensures c.record-holder.ensures in
-    let is = group_is_field f (field_of c.get_proto-said.result.now) c.get_proto-said.ensures n holder c.in-Group.schema c.in-Group.ensures.of_set c.in-Group.ensures.body in
-    let wide = wide_within c.args.object (shape_of_struct c.in-Group.schema) (shape_of_struct f.parent) is.words is.pointers c.requires.wide in
+    let wide = group_wide f (field_of c.get_proto-said.result.now) c.get_proto-said.ensures n holder c.in-Group.schema c.in-Group.ensures.body c.args.object c.requires.wide in
     let way : IsWay (schema_around c.in-Group.schema) (map step_view c.args.rest.now) c.args.way.now = subst (λ ns. IsWay (schema_of ns) (map step_view c.args.rest.now) c.args.way.now) (sym c.in-Group.ensures.of_set) c.requires.way in
     search rules
 

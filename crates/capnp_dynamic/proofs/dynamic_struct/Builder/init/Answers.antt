@@ -1,10 +1,12 @@
+use Rattle.std.proofs.Common.{sym, subst}
 use Rattle.capnp_units.specs.Segments.{words_in}
+use Rattle.capnp_queries.specs.Structs.{shape_of_struct}
+use Rattle.capnp_dynamic.specs.Edits.{IsWide}
 use Rattle.capnp_dynamic.proofs.lemmas.Grown.{there_grown}
-use Rattle.capnp_dynamic.proofs.lemmas.Ready.{field_inside}
 use Rattle.capnp_dynamic.proofs.dynamic_struct.Builder.init.Goals as goal
 
-pub begin_field-requires-clause-inside : goal.begin_field-requires-clause-inside
-begin_field-requires-clause-inside g c = field_inside c.args.self.now.place c.args.self.now.schema c.args.field c.requires.field c.requires.ready.wide
+pub begin_field-requires-clause-wide : goal.begin_field-requires-clause-wide
+begin_field-requires-clause-wide g c = subst (λ s. IsWide c.args.self.now.place (shape_of_struct s)) (sym c.requires.field) c.requires.ready.wide
 
 pub returns-clause-ready : goal.returns-clause-ready
 returns-clause-ready g c =

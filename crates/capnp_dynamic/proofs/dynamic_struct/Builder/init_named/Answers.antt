@@ -1,12 +1,13 @@
-use Rattle.std.proofs.Common.{Result, Ok, Err, inl, refl}
+use Rattle.std.proofs.Common.{Result, Ok, Err, inl, refl, sym, subst}
 use Rattle.std.specs.Prelude.{IfOk}
 use Rattle.capnp_units.specs.Segments.{words_in}
+use Rattle.capnp_queries.specs.Structs.{shape_of_struct}
+use Rattle.capnp_dynamic.specs.Edits.{IsWide}
 use Rattle.capnp_dynamic.proofs.lemmas.Grown.{there_grown}
-use Rattle.capnp_dynamic.proofs.lemmas.Ready.{field_inside}
 use Rattle.capnp_dynamic.proofs.dynamic_struct.Builder.init_named.Goals as goal
 
-pub begin_field-requires-clause-inside : goal.begin_field-requires-clause-inside
-begin_field-requires-clause-inside g c = field_inside c.args.self.now.place c.args.self.now.schema c.in_ok-found.found c.in_ok-found.ensures.found.parent c.requires.ready.wide
+pub begin_field-requires-clause-wide : goal.begin_field-requires-clause-wide
+begin_field-requires-clause-wide g c = subst (λ s. IsWide c.args.self.now.place (shape_of_struct s)) (sym c.in_ok-found.ensures.found.parent) c.requires.ready.wide
 
 pub returns-clause-ready : goal.returns-clause-ready
 returns-clause-ready g c =

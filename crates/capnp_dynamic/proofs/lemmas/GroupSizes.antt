@@ -1,5 +1,5 @@
--- A group is no larger than the struct or the group that holds it.
-use Rattle.std.proofs.Common.{◌≡◌, ℕ, zero, suc, ◌≤◌, true, false, ◌||◌, ◌==◌, Option, Some, None, List, [], ◌∷◌, length, slice_get, refl, sym, ◌∙◌, ap, subst, arith}
+-- A group is no larger than the struct or the group that holds it, so that a place is wide enough for both.
+use Rattle.std.proofs.Common.{◌≡◌, ℕ, zero, suc, ◌≤◌, true, false, ◌||◌, ◌==◌, Option, Some, None, List, [], ◌∷◌, length, slice_get, refl, sym, ◌∙◌, ap, subst}
 use Rattle.std.specs.List.{list_any, flat_map}
 use Rattle.std.proofs.lemmas.List.Folds.{list_any-append}
 use Rattle.std.specs.Prelude.{option_map}
@@ -12,9 +12,10 @@ use Rattle.capnp_queries.specs.Handles.{entry_of, IsFieldRecord}
 use Rattle.capnp_queries.specs.declared.structs.StructSchema.{StructSchema}
 use Rattle.capnp_queries.specs.declared.fields.Field.{Field}
 use Rattle.capnp_queries.proofs.lemmas.Records.{struct_is}
-use Rattle.capnp_model.proofs.lemmas.Tests.{number_is, or_right}
-use Rattle.capnp_calls.specs.Finding.{IsFieldGroup}
-use Rattle.capnp_calls.proofs.lemmas.FieldSlots.{body_is}
+use Rattle.capnp_model.proofs.lemmas.Tests.{number_is, or_right, same_some}
+use Rattle.capnp_copy.specs.declared.fields.StructPlace.{StructPlace}
+use Rattle.capnp_dynamic.specs.Edits.{IsWide}
+use Rattle.capnp_dynamic.proofs.lemmas.Ready.{wide_within}
 
 -- ---- shapes
 
@@ -53,15 +54,16 @@ group_kind : (groups : ℕ → Shape) (k : FieldKind) (g : Shape) → field_body
 group_kind groups (slot offset ty d) g h = absurd (never_group offset (type_of ty) d g h)
 group_kind groups (group id) g h = is_group id refl (cc h)
 
-pub group_is_field : (f : Field) (r : FieldNode) → IsFieldRecord f.parent f.index r → (n : StructNode) → IsRecordOf (nodes_around f.parent) (id_of f.parent) n
-    → (g : StructSchema) → nodes_around g ≡ nodes_around f.parent → option_map (λ e. e.body) (entry_of f) ≡ Some (group_slot (shape_of_struct g)) → IsFieldGroup f g
+-- a place that is wide enough for a struct is so for a group of it
+pub group_wide : (f : Field) (r : FieldNode) → IsFieldRecord f.parent f.index r → (n : StructNode) → IsRecordOf (nodes_around f.parent) (id_of f.parent) n
+    → (g : StructSchema) → option_map (λ e. e.body) (entry_of f) ≡ Some (group_slot (shape_of_struct g)) → (p : StructPlace) → IsWide p (shape_of_struct f.parent) → IsWide p (shape_of_struct g)
 unfolding schema_of
-group_is_field f r rec n holder g same h = by (group_kind (schema_around f.parent).shape_of r.kind (shape_of_struct g) (body_is f r (group_slot (shape_of_struct g)) rec h))
+group_wide f r rec n holder g h p wide = by (group_kind (schema_around f.parent).shape_of r.kind (shape_of_struct g) (same_some (sym (ap (option_map (λ e. e.body)) rec.entry) ∙ h)))
   where
     nodes : List Node
     nodes = nodes_around f.parent
 
-    by : IsGroup (schema_around f.parent).shape_of r.kind (shape_of_struct g) → IsFieldGroup f g
+    by : IsGroup (schema_around f.parent).shape_of r.kind (shape_of_struct g) → IsWide p (shape_of_struct g)
     by (is_group id kind shape_is) =
         let accepted : IsAccepted nodes = f.parent.set.now.accepted in
         let m = struct_is nodes (id_of f.parent) n holder.found in
@@ -72,9 +74,6 @@ group_is_field f r rec n holder g same h = by (group_kind (schema_around f.paren
         let small : HasRoom ((schema_of nodes).shape_of id) n.words n.pointers =
         group_room nodes (more_rules nodes accepted) (length nodes) (id_of f.parent) m.node n.words n.pointers id m.found (ap (λ z. z.0) sizes) (ap (λ z. z.1) sizes) uses in
         let here = sizes_are (shape_of_struct g) n.words n.pointers (subst (λ x. HasRoom x n.words n.pointers) shape_is small) in
-        record {
-          body = h;
-          words = subst (λ x. words_of_shape (shape_of_struct g) ≤ x) (sym (ap words_of_shape holder.shape)) here.0;
-          pointers = subst (λ x. pointers_of_shape (shape_of_struct g) ≤ x) (sym (ap pointers_of_shape holder.shape)) here.1;
-          nodes = same;
-        }
+        wide_within p (shape_of_struct g) (shape_of_struct f.parent)
+        (subst (λ x. words_of_shape (shape_of_struct g) ≤ x) (sym (ap words_of_shape holder.shape)) here.0)
+        (subst (λ x. pointers_of_shape (shape_of_struct g) ≤ x) (sym (ap pointers_of_shape holder.shape)) here.1) wide
