@@ -32,6 +32,8 @@ SET_A = {"path": ["a"], "verb": "set", "value": {"number": 7}}
 WORDS = ["schema.json", "calls.json", "1", "framed"]
 # Levels that a value is followed at most, whatever the limit, those of one that is far deeper, and kilobytes of stack.
 STACK_LEVELS, DEEP, STACK = 1024, 100_000, 1024
+# Structs, groups and lists that a `get` prints in one another at most, and groups in one another in each struct, so that 41 structs have as many.
+PRINTED, GROUPS = 1024, 24
 # A struct whose pointer leads to another such struct.
 CHAIN = [
     {
@@ -42,6 +44,10 @@ CHAIN = [
         "fields": [{"name": "next", "type": {"struct": 1}, "offset": 0}],
     }
 ]
+
+
+# A struct whose pointer leads to a list of such structs.
+TREE = [{**CHAIN[0], "fields": [{"name": "kids", "type": {"list": {"struct": 1}}, "offset": 0}]}]
 
 
 def trickle(program, run):
@@ -248,12 +254,27 @@ def far_lists(levels):
     return frame([*words, (0, 0)]), frame([TO_STRUCT] + [TO_STRUCTS, TAG] * (count - 1) + [TO_EMPTIES, EMPTY_TAG])
 
 
-def on_little_stack(program, form, calls, given):
+def lists_of_structs(levels, last=()):
+    """A list of structs in a struct in a list, so many lists below a struct, and these words in the innermost struct."""
+    inner = [TO_STRUCTS, TAG] if last else [TO_EMPTIES, EMPTY_TAG]
+    return frame([TO_STRUCT] + [TO_STRUCTS, TAG] * (levels - 1) + inner + [*last])
+
+
+def in_groups(groups):
+    """A struct whose pointer to another stands in so many groups, one in the other."""
+    sizes = {"data": 0, "pointers": 1}
+    step = [{"name": "g", "group": it} for it in range(2, groups + 2)]
+    nodes = [{"id": it["group"] - 1, "name": "G", **sizes, "group": True, "fields": [it]} for it in step]
+    last = {"id": groups + 1, "name": "G", **sizes, "group": True, "fields": CHAIN[0]["fields"]}
+    return [{"id": 1, "name": "N", **sizes, "fields": nodes[0]["fields"]}, *nodes[1:], last]
+
+
+def on_little_stack(program, form, calls, given, schema=CHAIN):
     """A run of chains of structs under such calls, with a stack of 1 MiB."""
     shell = f'ulimit -s {STACK}; exec "$0" "$@"'
     words = ["sh", "-c", shell, program, "schema.json", "calls.json", "1", form]
     with tempfile.TemporaryDirectory() as folder:
-        write_files(folder, calls, CHAIN)
+        write_files(folder, calls, schema)
         how = {"cwd": folder, "capture_output": True, "timeout": LIMIT}
         it = subprocess.run(words, input=given, check=False, **how)
     return Ran(it.returncode, it.stdout, it.stderr)
@@ -274,12 +295,39 @@ def nested(program, _run):
     given, _ = structs(STACK_LEVELS)
     clear = {**free, "calls": [{"path": ["next"], "verb": "clear"}]}
     runs.append((clear, given, Ran(0, frame([TO_EMPTY]), b"message 1 written; done\n")))
-    get = {**free, "calls": [{"path": ["next"], "verb": "get"}]}
-    text = b"(next = " * (STACK_LEVELS - 2) + b"()" + b")" * (STACK_LEVELS - 2)
-    runs.append((get, given, Ran(0, given, b"message 1 written; " + text + b"\n")))
     for calls, given, wanted in runs:
         for form, it in (("framed", given), ("packed-framed", packed(given))):
             got = on_little_stack(program, form, calls, it)
             if got != wanted:
                 raise Failure(f"{len(given)} bytes, {form}, {calls}: {str(got)[-300:]}, and not {str(wanted)[-300:]}")
     return {"runs of nested values on a stack of 1 MiB": 2 * len(runs), "levels of the deepest": DEEP}
+
+
+def printed(program, _run):
+    """Structs, groups and lists in one another that a `get` prints: a text, or want of memory where they are too many, and never a signal."""
+    free, wanting, runs = {"nesting": 5000}, Ran(1, b"", b"fault: memory\n"), []
+
+    def told(given, text):
+        return Ran(0, given, b"message 1 written; " + text + b"\n")
+
+    (given, _), count = structs(STACK_LEVELS), STACK_LEVELS - 2
+    runs.append((CHAIN, "next", free, given, told(given, b"(next = " * count + b"()" + b")" * count)))
+    most = PRINTED // 2
+    given, count = lists_of_structs(most), most - 1
+    runs.append((TREE, "kids", free, given, told(given, b"[(kids = " * count + b"[()]" + b")]" * count)))
+    given = lists_of_structs(most, [TO_EMPTIES, (0, 0)])
+    runs.append((TREE, "kids", free, given, told(given, b"[(kids = " * most + b"[]" + b")]" * most)))
+    runs.extend((TREE, "kids", free, lists_of_structs(it), wanting) for it in (most + 1, 623, STACK_LEVELS - 1))
+    most, grouped = (PRINTED + 1) // (GROUPS + 1), in_groups(GROUPS)
+    groups, (given, _) = b"(g = " * (GROUPS - 1), structs(most)
+    count = most - 1
+    text = groups + (b"(next = (g = " + groups) * count + b"()" + b")" * (GROUPS - 1 + (GROUPS + 1) * count)
+    runs.append((grouped, "g", {}, given, told(given, text)))
+    runs.extend((grouped, "g", {}, structs(it)[0], wanting) for it in (most + 1, 64))
+    for schema, name, limit, given, wanted in runs:
+        calls = {**limit, "calls": [{"path": [name], "verb": "get"}]}
+        for form, it in (("framed", given), ("packed-framed", packed(given))):
+            got = on_little_stack(program, form, calls, it, schema)
+            if got != wanted:
+                raise Failure(f"{len(given)} bytes, {form}, {calls}: {str(got)[-300:]}, and not {str(wanted)[-300:]}")
+    return {"values printed by a get on a stack of 1 MiB": 2 * len(runs), "in one another at most": PRINTED}

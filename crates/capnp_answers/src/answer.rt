@@ -108,7 +108,7 @@ fn answer_over<L: Allocator, M: ReaderArena>(
 ///
 /// The region is all zeros before, and after, whatever is answered; it need not have room for the message, whose words then come from `alloc`, as those do that the calls add past its end. The buffer grows where it is too short: to the message's own words, to those that it has after a call, and where pointers share words, so that the canonical words are more than the message's own, to a word more than the bounds allow. What is in it before doesn't matter.
 ///
-/// `Size`: a call that is done puts a text or data of 2^29 bytes or more with its last zero, or a list of structs of 2^29 words or more. `Memory`: a growth was refused, by the system or since the words of the edited message would pass 2^29 - 1; or the bounds allow more than 1,024 levels, and the value, or what the calls make of it, was found to have more before any other fault was met. After both nothing is promised of the buffer but its words.
+/// `Size`: a call that is done puts a text or data of 2^29 bytes or more with its last zero, or a list of structs of 2^29 words or more. `Memory`: a growth was refused, by the system or since the words of the edited message would pass 2^29 - 1; or the bounds allow more than 1,024 levels, and the value, or what the calls make of it, was found to have more before any other fault was met; or a `get` would print more than 1,024 structs, groups and lists in one another. After both nothing is promised of the buffer but its words.
 #[inline(always)]
 pub fn answer_in_place<M: ReaderArena>(
     alloc: Global,

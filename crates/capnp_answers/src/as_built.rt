@@ -244,7 +244,7 @@ fn answer_plain_over<L: Allocator, M: ReaderArena>(
 
 /// As `answer_in_place`, in the plain form: the message that is built goes out in its 1 to 511 segments as they stand, only their used words, not trimmed. One segment stands at the front of the buffer, several are copied apart from it. Every word of them but the root word that no object or pad reached from the root covers is zero.
 ///
-/// `Size`: also where the message that is built has more than 511 segments. `Memory`: also where memory for their copies was refused. As in the canonical form, a value of more than `STACK_LEVELS` levels is refused with `Memory` where more are allowed.
+/// `Size`: also where the message that is built has more than 511 segments. `Memory`: also where memory for their copies was refused. As in the canonical form, a value of more than `STACK_LEVELS` levels is refused with `Memory` where more are allowed, and so is a `get` of more than it prints.
 #[inline(always)]
 pub fn answer_plain_in_place<M: ReaderArena>(
     alloc: Global,

@@ -52,7 +52,7 @@ pub(crate) fn want_after(fault: RunFault) -> Want
 
 /// Answers calls in turn at the root of a message, a struct or null that takes no word twice, and writes the canonical words of what it becomes into a buffer.
 ///
-/// `Memory`: a growth was refused, or what it becomes has more than `STACK_LEVELS` levels, where more are allowed. The calls themselves take stack for each level of what they clear, which is no deeper than the value and the calls' own paths and values together.
+/// `Memory`: a growth was refused, or what it becomes has more than `STACK_LEVELS` levels, where more are allowed, or a `get` would print more than 1,024 structs, groups and lists in one another. The calls themselves take stack for each level of what they clear, which is no deeper than the value and the calls' own paths and values together.
 fn answer_root<A: BuilderArena>(
     alloc: Global,
     arena: &mut A,

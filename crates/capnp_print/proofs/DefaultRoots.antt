@@ -1,31 +1,19 @@
 -- The root of a default, and what stands there.
-use Rattle.std.proofs.Common.{◌≡◌, ℕ, zero, suc, ◌*◌, ◌/◌, ◌^◌, Bool, true, false, not, ◌==◌, if◌then◌else◌, List, [], ◌∷◌, ◌++◌, length, take, drop, Option, Some, None, Result, Ok, Err, refl, ap, sym, ◌∙◌, arith}
-use Rattle.std.specs.Prelude.{nat_lt, pos}
+use Rattle.std.proofs.Common.{◌≡◌, ℕ, ◌/◌, Bool, true, false, ◌==◌, if◌then◌else◌, List, [], ◌∷◌, length, Option, Some, None, Result, Ok, Err, refl, ap, sym, ◌∙◌, arith}
+use Rattle.std.specs.Prelude.{pos}
 use Rattle.std.specs.Option.{ok_or}
 use Rattle.std.specs.List.{flat_map}
 use Rattle.std.specs.Simd.{first_chunks}
-use Rattle.std.specs.Str.{bytes_eq}
-use Rattle.std.proofs.lemmas.Slice.Eq.{bytes_eq-Decides}
-use Rattle.std.proofs.lemmas.List.{length-drop, take-append-drop}
 use Rattle.capnp_model.specs.Kinds.{Kind, OutOfBounds}
 use Rattle.capnp_model.specs.Chains.{◌and_then◌, passes}
-use Rattle.capnp_model.specs.Bytes.{bytes_of_words, words_in_bytes}
 use Rattle.capnp_model.specs.Segments.{root, word_at}
-use Rattle.capnp_model.specs.Trees.{Tree, is_null as is_null_tree, has_capability}
-use Rattle.capnp_model.specs.Trimming.{trim}
-use Rattle.capnp_model.specs.Traversal.{tree_at}
-use Rattle.capnp_model.specs.Encoding.{canonical_words}
-use Rattle.capnp_model.specs.Decoding.{decode}
-use Rattle.capnp_model.specs.Accepted.{is_good_segment}
-use Rattle.capnp_model.proofs.lemmas.Chaining.{bind_some, provided_some}
-use Rattle.capnp_model.proofs.lemmas.ByteWords.{bytes_length}
+use Rattle.capnp_model.specs.Trees.{Tree, is_null as is_null_tree}
 use Rattle.capnp_units.specs.Segments.{words_in}
 use Rattle.capnp_wire.specs.Views.{PointerView, arena_root}
 use Rattle.capnp_wire.specs.Reads.{is_null_at, is_null, default_root}
 use Rattle.capnp_values.specs.Sources.{null_default, default_pointer}
 use Rattle.capnp_values.specs.Standing.{NullsAreRead}
 use Rattle.capnp_values.proofs.lemmas.DefaultReadings.{Encoded, joined}
-use Rattle.capnp_model.proofs.lemmas.Tests.{and_right}
 use Rattle.capnp_print.specs.Defaults.{is_null_segment}
 
 -- the root is null where the value is

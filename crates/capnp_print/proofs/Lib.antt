@@ -2,14 +2,11 @@ pub mod lemmas
 mod DefaultRoots
 mod DefaultTexts
 mod Empties
-mod Weights
 mod EnumNames
 mod EntersThere
 mod FieldTexts
 mod FieldModels
-mod Lighter
 mod Loops
-mod MemberWeights
 mod NullTexts
 mod Opening
 mod PrintedExamples

@@ -1,29 +1,27 @@
 -- What a field shows that is opened.
-use Rattle.std.proofs.Common.{◌≡◌, ℕ, ◌+◌, ◌*◌, ◌<◌, Bool, true, false, List, Some, Result, Err, refl, ap, sym, ◌∙◌, subst, arith}
+use Rattle.std.proofs.Common.{◌≡◌, ℕ, Bool, true, false, List, Some, Result, Err, refl, ap, sym, ◌∙◌, subst}
 use Rattle.std.specs.Prelude.{IsErrAnd}
-use Rattle.std.proofs.Math.Nat.{mul-suc}
 use Rattle.std.proofs.lemmas.Result.{err_from_is_err_and}
 use Rattle.capnp_model.specs.Kinds.{InactiveMember}
 use Rattle.capnp_model.specs.Readings.{is_active, only_if}
 use Rattle.capnp_model.specs.Printing.{Style, as_body, as_it_is}
 use Rattle.capnp_units.specs.declared.errors.Error.{Error}
 use Rattle.capnp_units.specs.Errors.{kind_of}
-use Rattle.capnp_queries.specs.Fields.{Entry, entry_in}
+use Rattle.capnp_queries.specs.Fields.{Entry}
 use Rattle.capnp_queries.specs.Handles.{entry_of}
-use Rattle.capnp_queries.specs.Structs.{schema_around, shape_of_struct}
+use Rattle.capnp_queries.specs.Structs.{schema_around}
 use Rattle.capnp_queries.specs.declared.structs.StructSchema.{StructSchema}
 use Rattle.capnp_queries.specs.declared.fields.Field.{Field}
 use Rattle.capnp_wire.specs.Views.{StructView}
 use Rattle.capnp_values.specs.Standing.{NullsAreRead}
-use Rattle.capnp_values.specs.Shown.{Shown, a_struct, discriminant_shown}
+use Rattle.capnp_values.specs.Shown.{Shown, discriminant_shown}
 use Rattle.capnp_print.specs.declared.fields.Opened.{Opened}
 use Rattle.capnp_print.specs.Printed.{printed, null_printed, shown_text}
-use Rattle.capnp_print.specs.Parts.{member_text, IsActive, IsPrinted, enters_there, counted, ShowsMember, OpensMember}
+use Rattle.capnp_print.specs.Parts.{member_text, IsActive, enters_there, counted, ShowsMember, OpensMember}
 use Rattle.capnp_print.specs.ShownReadings.{left_of}
 use Rattle.capnp_print.proofs.lemmas.ElementTexts.{text_or_fault}
 use Rattle.capnp_print.proofs.lemmas.Shows.{Read}
-use Rattle.capnp_print.proofs.Weights.{measure, shallow, far}
-use Rattle.capnp_print.proofs.Wholes.{member_here, member_entered, member_lighter, member_far}
+use Rattle.capnp_print.proofs.Wholes.{member_here, member_entered}
 
 pub fails : {A : Type 0} (bytes : A → List (List ℕ)) (left : ℕ) (s : StructSchema) (v : StructView) (f : Field) (r : Result (Opened A) Error) (err : Error) → IsErrAnd r (λ y. y ≡ err)
     → ((e : Entry) → entry_of f ≡ Some e → (style : Style) → member_text left style s v e ≡ Err (kind_of err.kind)) → OpensMember bytes left s v f r
@@ -50,17 +48,3 @@ module _ (nulls : NullsAreRead) (s : StructSchema) (v : StructView) (f : Field) 
       by : (b : Bool) → enters_there v (schema_around f.parent) o.said.kind ≡ b → shown_text n style x ≡ member_text left style s v e
       by false is = ap (λ k. shown_text k style x) (sym (counts_as false is)) ∙ ap (text_or_fault left style) (sym o.shows) ∙ member_here nulls s v f o.said parent o.is o.default e h left style (active e h) is
       by true is = ap (text_or_fault n style) (sym o.shows) ∙ member_entered nulls s v f o.said parent o.is o.default e h n style (active e h) is ∙ ap (λ k. member_text k style s v e) (sym (counts_as true is))
-
-  -- within the struct that prints it, it is lighter
-  pub opened_lighter : IsPrinted s v f → measure n x < measure left (a_struct (schema_around s) (shape_of_struct s) v)
-  opened_lighter printed = by (enters_there v (schema_around f.parent) o.said.kind) refl
-    where
-      by : (b : Bool) → enters_there v (schema_around f.parent) o.said.kind ≡ b → measure n x < measure left (a_struct (schema_around s) (shape_of_struct s) v)
-      by false is =
-          let lighter = member_lighter nulls s v f o.said parent o.is o.default (entry_in (schema_around f.parent) o.said) o.is.entry (shallow f.parent.set.now) x (printed _ o.is.entry) is o.shows in
-          let same : far * left ≡ far * n = ap (λ k. far * k) (counts_as false is) in
-          omega arith
-      by true is =
-          let lighter = member_far nulls s v f o.said parent o.is o.default (entry_in (schema_around f.parent) o.said) o.is.entry (shallow f.parent.set.now) x is o.shows in
-          let step : far * left ≡ far * n + far = ap (λ k. far * k) (counts_as true is) ∙ mul-suc far n in
-          omega arith

@@ -1,14 +1,14 @@
 -- Structs and lists print as their parts do.
-use Rattle.std.proofs.Common.{◌≡◌, ℕ, zero, suc, ◌+◌, ◌<◌, ◌≤◌, ◌==◌, ◌&&◌, ◌⊎◌, inl, inr, not, Bool, true, false, Option, Some, List, [], ◌++◌, Result, Ok, Err, refl, ap, sym, ◌∙◌, subst, arith}
+use Rattle.std.proofs.Common.{◌≡◌, ℕ, zero, suc, ◌+◌, ◌<◌, ◌≤◌, ◌==◌, ◌&&◌, not, Bool, true, false, Option, Some, List, [], ◌++◌, Result, Ok, Err, refl, ap, sym, ◌∙◌, arith}
 use Rattle.std.specs.Prelude.{codes}
 use Rattle.std.proofs.lemmas.Bool.Decides.{nat_tests}
 use Rattle.capnp_model.specs.Kinds.{Kind, NestingLimitExceeded}
 use Rattle.capnp_model.specs.Chains.{◌and_then◌}
 use Rattle.capnp_model.specs.Schemas.{Ty, Field as FieldNode, Schema, Fields, no_fields, field}
 use Rattle.capnp_model.specs.Readings.{just_bits, is_active, only_if}
-use Rattle.capnp_model.specs.Printing.{Style, inner, closing, as_group, as_body, is_shown, as_it_is}
+use Rattle.capnp_model.specs.Printing.{Style, inner, closing, as_group, as_body, as_it_is}
 use Rattle.capnp_model.specs.Accepted.{field_body}
-use Rattle.capnp_queries.specs.Fields.{Entry, entry_in, field_at, field_count, union_in}
+use Rattle.capnp_queries.specs.Fields.{Entry, entry_in, field_at, field_count}
 use Rattle.capnp_queries.specs.Structs.{schema_around, shape_of_struct, fields_of_struct}
 use Rattle.capnp_queries.specs.Handles.{entry_of, IsFieldRecord}
 use Rattle.capnp_queries.specs.declared.structs.StructSchema.{StructSchema}
@@ -27,9 +27,7 @@ use Rattle.capnp_print.proofs.DefaultTexts.{field_entered, field_refused, field_
 use Rattle.capnp_print.proofs.lemmas.ElementTexts.{text_or_fault, element_text}
 use Rattle.capnp_print.proofs.FieldTexts.{field_there}
 use Rattle.capnp_print.proofs.Loops.{Left, Rest, Going, begins, record_is, fields_after, left_out, left_in, none_left, element_next, elements_end, list_text_is, list_text_empty, struct_text_is, struct_text_empty}
-use Rattle.capnp_print.proofs.MemberWeights.{field_lighter, field_far}
 use Rattle.capnp_print.proofs.lemmas.Shows.{Read}
-use Rattle.capnp_print.proofs.Weights.{IsShallow, weight, far}
 
 module _ (left : ℕ) (style : Style) where
   struct_whole : (s : StructSchema) (v : StructView) → shown_text left style (a_struct (schema_around s) (shape_of_struct s) v) ≡ struct_between style (fields_of_struct s) (fields_text left style s v)
@@ -149,25 +147,6 @@ module _ (nulls : NullsAreRead) (s : StructSchema) (v : StructView) (f : Field) 
 
   pub member_refused : (style : Style) → is_active e.member (discriminant_shown s v) ≡ true → enters_there v (schema_around f.parent) said.kind ≡ true → member_text 0 style s v e ≡ Err NestingLimitExceeded
   member_refused style h told = member_is 0 style h ∙ field_refused nulls (schema_around f.parent) v style said.kind (both_true _ _ told) good
-
-  -- weights
-  pub member_lighter : IsShallow (schema_around f.parent) → (x : Shown) → field_shown (schema_around s) v (discriminant_shown s v) e ≡ true → enters_there v (schema_around f.parent) said.kind ≡ false → kind_shown (schema_around f.parent) v said.kind ≡ Ok x
-      → weight x < weight (a_struct (schema_around s) (shape_of_struct s) v)
-  member_lighter flat x h not shows =
-      let k = said.kind in
-      let P : StructSchema → Type 0 = λ z. weight x < weight (a_struct (schema_around z) (shape_of_struct z) v) in
-      let there : is_shown e.member (only_if (is_active e.member (discriminant_shown f.parent v)) (Read (left_of v.levels) (schema_around f.parent) v (field_body (schema_around f.parent).shape_of k))) ≡ true
-      = ap (λ b. is_shown e.member (only_if (is_active e.member (discriminant_shown f.parent v)) (Read (left_of v.levels) (schema_around f.parent) v b))) (sym body_same)
-      ∙ ap (λ (z : StructSchema). is_shown e.member (only_if (is_active e.member (discriminant_shown z v)) (Read (left_of v.levels) (schema_around z) v e.body))) parent ∙ h in
-      subst P parent (field_lighter nulls (schema_around f.parent) flat v (shape_of_struct f.parent) (union_in (shape_of_struct f.parent)) e.member k f.index e x at body_same there good (either (is_null_slot v (Some (field_body (schema_around f.parent).shape_of k))) (enters k) not) shows)
-    where
-      either : (a b : Bool) → (a && b) ≡ false → (a ≡ false) ⊎ (b ≡ false)
-      either false b h = inl refl
-      either true false h = inr refl
-      either true true h = absurd cc
-
-  pub member_far : IsShallow (schema_around f.parent) → (x : Shown) → enters_there v (schema_around f.parent) said.kind ≡ true → kind_shown (schema_around f.parent) v said.kind ≡ Ok x → weight x < far
-  member_far flat x told shows = let b = both_true (is_null_slot v (Some (field_body (schema_around f.parent).shape_of said.kind))) (enters said.kind) told in field_far nulls (schema_around f.parent) flat v (shape_of_struct f.parent) said.kind x b.0 b.1 shows
 
 -- ---- steps of loops
 

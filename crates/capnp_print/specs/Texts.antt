@@ -19,5 +19,10 @@ signed_text width n = if nat_lt n (2 ^ (width - 1)) then decimal n else codes "-
 
 -- The form.
 abbrev pub style_of : Indent → Style
-style_of indent.OnOneLine = on_one_line
+style_of (indent.OnOneLine n) = on_one_line
 style_of (indent.At n) = indented n
+
+-- How many structs, groups and lists it stands in.
+abbrev pub values_around : Indent → ℕ
+values_around (indent.OnOneLine n) = n
+values_around (indent.At n) = n

@@ -1,6 +1,8 @@
-//! What fields show, and which defaults are entered for it.
-ghost use Rattle.std.specs.Prelude.{◌≡◌};
-ghost use Rattle.capnp_values.specs.Sources.{struct_seen};
+//! What fields and elements show, and which defaults are entered for it.
+ghost use Rattle.std.specs.Prelude.{◌≡◌, ◌<◌};
+ghost use Rattle.capnp_object.specs.Places.{seen};
+ghost use Rattle.capnp_values.specs.Shown.{shown, shown_at};
+ghost use Rattle.capnp_values.specs.Sources.{struct_seen, list_seen};
 ghost use Rattle.capnp_print.specs.Parts.{IsActive, OpensMember};
 
 use crate::members::enters_default;
@@ -8,7 +10,7 @@ use capnp_queries::fields::Field;
 use capnp_units::errors::{Error, Result};
 use capnp_units::kinds::ErrorKind;
 use capnp_values::laws::nulls_are_read;
-use capnp_values::{dynamic_struct, dynamic_value};
+use capnp_values::{dynamic_list, dynamic_struct, dynamic_value};
 use capnp_wire::arena::ReaderArena;
 
 /// What a field shows, and how many defaults may be entered within it.
@@ -19,6 +21,8 @@ pub(crate) struct Opened<'a, A> {
 }
 
 /// Opens a field where so many defaults may be entered: a null pointer is its default, which is entered, else the empty value.
+// Inlined, what it takes of the stack would be taken by each struct that is printed in another.
+#[inline(never)]
 pub(crate) fn open_member<'a, A: ReaderArena>(
     reader: dynamic_struct::Reader<'a, A>,
     field: Field<'a>,
@@ -44,4 +48,17 @@ pub(crate) fn open_member<'a, A: ReaderArena>(
         value: default,
         left: left - 1,
     })
+}
+
+/// What an element of a list shows.
+// Inlined, what it takes of the stack would be taken by each list that is printed in another.
+#[inline(never)]
+pub(crate) fn open_element<'a, A: ReaderArena>(
+    list: dynamic_list::Reader<'a, A>,
+    index: u32,
+) -> Result<dynamic_value::Reader<'a, A>>
+    requires { index < (list_seen A.segments list.source).count }
+    ensures { seen (shown A.segments) result ≡ shown_at A.segments list.entry index }
+{
+    list.get(index)
 }

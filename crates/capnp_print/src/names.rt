@@ -1,11 +1,11 @@
 //! Single values, and what stands in front of items.
-ghost use Rattle.std.specs.Prelude.{◌≡◌, ◌++◌, ◌∷◌, [], OnOk, IfOk, codes};
+ghost use Rattle.std.specs.Prelude.{◌≡◌, ◌+◌, ◌≤◌, ◌++◌, ◌∷◌, [], OnOk, IfOk, IfErr, codes};
 ghost use Rattle.capnp_model.specs.Schemas.{plain, «enum»};
 ghost use Rattle.capnp_model.specs.Printing.{number_text, inner, closing};
 ghost use Rattle.capnp_model.specs.Accepted.{schema_of};
 ghost use Rattle.capnp_queries.specs.Enums.{nodes_of_enum, enum_id};
 ghost use Rattle.capnp_values.specs.Shown.{shown};
-ghost use Rattle.capnp_print.specs.Texts.{style_of};
+ghost use Rattle.capnp_print.specs.Texts.{style_of, values_around};
 ghost use Rattle.capnp_print.specs.Printed.{mark};
 ghost use Rattle.capnp_print.specs.Singles.{single_text};
 
@@ -17,6 +17,9 @@ use capnp_text::text;
 use capnp_values::dynamic_value::{Enum, Reader};
 use capnp_wire::arena::ReaderArena;
 use std::alloc::AllocError;
+
+/// How many structs, groups and lists may be printed in one another. Each takes stack, and so many fit into 1 MiB as LLVM builds it.
+const VALUES: usize = 1024;
 
 /// Appends an enumerant's name, or the value in decimal where the enum has none of it.
 fn push_enum(out: &mut Vec<u8>, value: Enum<'_>) -> Result<(), AllocError>
@@ -61,16 +64,17 @@ pub(crate) fn push_single<A: ReaderArena>(
     }
 }
 
-/// The form one level deeper. A line of more blanks than memory can hold is a want of memory.
+/// The form within one more value. Within more than `VALUES` there is none, which is a want of memory.
 pub(crate) fn inner(indent: Indent) -> Result<Indent, AllocError>
-    ensures { IfOk result (λ deeper. style_of deeper ≡ inner (style_of indent)) }
+    ensures style { IfOk result (λ deeper. style_of deeper ≡ inner (style_of indent)) }
+    ensures counts { IfOk result (λ deeper. values_around deeper ≡ values_around indent + 1) }
+    ensures most { IfOk result (λ deeper. values_around deeper ≤ 1024) }
+    ensures deep { IfErr result (λ e. 1024 ≤ values_around indent) }
 {
     match indent {
-        Indent::OnOneLine => Ok(Indent::OnOneLine),
-        Indent::At(levels) => match levels.checked_add(1) {
-            None => Err(AllocError),
-            Some(more) => Ok(Indent::At(more)),
-        },
+        Indent::OnOneLine(values) if values < VALUES => Ok(Indent::OnOneLine(values + 1)),
+        Indent::At(values) if values < VALUES => Ok(Indent::At(values + 1)),
+        _ => Err(AllocError),
     }
 }
 

@@ -11,10 +11,10 @@ ghost use Rattle.capnp_print.specs.Texts.{number_list, bool_text, signed_text, s
 use itoa::Buffer;
 use std::alloc::AllocError;
 
-/// The form of a text: on one line, or with a line for each item, at so many levels.
+/// The form of a text, within so many values: on one line, or with a line for each item.
 #[derive(Clone, Copy, Debug, PartialEq, Eq)]
 pub(crate) enum Indent {
-    OnOneLine,
+    OnOneLine(usize),
     At(usize),
 }
 
@@ -206,7 +206,7 @@ pub(crate) fn push_opening(out: &mut Vec<u8>, indent: Indent) -> Result<(), Allo
     ensures { OnOk result (out.new.items ≡ out.old.items ++ opening (style_of indent)) }
 {
     match indent {
-        Indent::OnOneLine => Ok(()),
+        Indent::OnOneLine(_) => Ok(()),
         Indent::At(levels) => push_inner_line(out, levels),
     }
 }
@@ -216,7 +216,7 @@ pub(crate) fn push_between(out: &mut Vec<u8>, indent: Indent) -> Result<(), Allo
     ensures { OnOk result (out.new.items ≡ out.old.items ++ between (style_of indent)) }
 {
     match indent {
-        Indent::OnOneLine => out.extend_from_slice(b", "),
+        Indent::OnOneLine(_) => out.extend_from_slice(b", "),
         Indent::At(levels) => {
             out.push(b',')?;
             push_inner_line(out, levels)
@@ -229,7 +229,7 @@ pub(crate) fn push_closing(out: &mut Vec<u8>, indent: Indent) -> Result<(), Allo
     ensures { OnOk result (out.new.items ≡ out.old.items ++ closing (style_of indent)) }
 {
     match indent {
-        Indent::OnOneLine => Ok(()),
+        Indent::OnOneLine(_) => Ok(()),
         Indent::At(levels) => push_line(out, levels),
     }
 }

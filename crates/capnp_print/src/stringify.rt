@@ -32,7 +32,7 @@ fn form(alternate: bool) -> Indent
     if alternate {
         Indent::At(0)
     } else {
-        Indent::OnOneLine
+        Indent::OnOneLine(0)
     }
 }
 
@@ -40,7 +40,7 @@ fn form(alternate: bool) -> Indent
 ///
 /// A number is in decimal, Void `()`, an enum the enumerant's name or its value where there is none, data its bytes in hex between `0x"` and `"`. A text is between quotes with `"`, `\` and ASCII control characters escaped, or, where its bytes aren't UTF-8, `<invalid utf-8: [104, 255]>`; characters past ASCII stand as they are. A list is `[a, b]`, a struct `(name = value, ..)` with the fields that `has` tells of, in the order of their indices, and with the active union member, which is left out only where it is the first and null; a null one prints as its default, else as the empty value. An untyped pointer is `<opaque pointer>`, a capability `<external capability>`.
 ///
-/// It is refused by the kind of the first fault on the way, as `get` of fields and elements is; with `NestingLimitExceeded` also where more than 64 defaults would be entered in one another; and with `OutOfMemory`. Then nothing is appended.
+/// It is refused by the kind of the first fault on the way, as `get` of fields and elements is; with `NestingLimitExceeded` also where more than 64 defaults would be entered in one another; and with `OutOfMemory`, where a growth is refused, or where more than 1,024 structs, groups and lists would be printed in one another, an empty list and a struct without fields apart. Each of these takes stack, and so many fit into 1 MiB. Then nothing is appended.
 pub fn print<A: ReaderArena>(
     value: dynamic_value::Reader<'_, A>,
     alternate: bool,

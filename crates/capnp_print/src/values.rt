@@ -13,7 +13,7 @@ ghost use Rattle.capnp_print.specs.Printed.{shown_text};
 ghost use Rattle.capnp_print.specs.Parts.{fields_text, member_text, elements_text, IsPrinted};
 ghost use Rattle.capnp_print.specs.Answers.{Appends};
 
-use crate::fields::open_member;
+use crate::fields::{open_element, open_member};
 use crate::members::{active_member, is_printed};
 use crate::names::{inner, push_end, push_mark, push_name, push_single};
 use crate::single::Indent;
@@ -156,7 +156,7 @@ fn push_elements<A: ReaderArena>(
 {
     let deeper = inner(indent)?;
     for i in 0..list.len() {
-        let value = list.get(i)?;
+        let value = open_element(list, i)?;
         push_mark(out, indent, i == 0)?;
         push_value(value, deeper, left, out)?;
     }

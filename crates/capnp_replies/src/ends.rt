@@ -190,6 +190,8 @@ fn field_write(field: Field<'_>, action: &Action) -> Reply
 }
 
 /// What is replied where the path ends at a field.
+// Inlined, what it takes of the stack would be taken by each step of the path.
+#[inline(never)]
 pub(crate) fn field_end<A: ReaderArena>(
     alloc: Global,
     reader: dynamic_struct::Reader<'_, A>,
@@ -209,6 +211,8 @@ pub(crate) fn field_end<A: ReaderArena>(
 }
 
 /// What is replied where the path ends at an element of a list.
+// Inlined, what it takes of the stack would be taken by each step of the path.
+#[inline(never)]
 pub(crate) fn element_end<A: ReaderArena>(
     alloc: Global,
     list: dynamic_list::Reader<'_, A>,

@@ -18,7 +18,7 @@ use std::alloc::Global;
 
 /// What a call replies at a struct: the text of a `get`, a refusal, or `Done` where it is to be written. Nothing is written, and the struct may have other sizes than its schema says. The way says what the names of the path find, as far as it is known: no name is compared where that was found under the struct that stands there.
 ///
-/// It takes memory for the text of a `get` alone, and stack for each step of the path and each group within a group that is set. The error is `OutOfMemory`.
+/// It takes memory for the text of a `get` alone, and stack for each step of the path, for at most 1,024 structs, groups and lists in one another in a text, and for each group within a group that is set. The error is `OutOfMemory`: a growth was refused, or a text would have more of these in one another.
 pub fn reply_to<A: ReaderArena>(
     alloc: Global,
     root: dynamic_struct::Reader<'_, A>,

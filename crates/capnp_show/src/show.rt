@@ -39,7 +39,7 @@ pub enum ShowFault {
     /// A field or an element can't be read as its type, or more than 64 defaults would be entered in one another.
     #[error("unreadable")]
     Unreadable,
-    /// A growth was refused.
+    /// A growth was refused, or more than 1,024 structs, groups and lists would be printed in one another.
     #[error("memory")]
     Memory,
     /// The canonical copy would have more than the 2^29 - 1 words of a message.

@@ -18,28 +18,14 @@ use Rattle.capnp_print.specs.Printed.{Text, mark, shown_text}
 use Rattle.capnp_print.specs.Singles.{single_text}
 use Rattle.capnp_print.specs.Texts.{style_of}
 use Rattle.capnp_print.proofs.lemmas.ElementTexts.{text_or_fault}
-use Rattle.capnp_print.proofs.Lighter.{element_weight}
 use Rattle.capnp_print.proofs.Loops.{memory, refused, refused_more, between_signs, ends, goes_same, goes_on, goes_wrong}
-use Rattle.capnp_print.proofs.Opening.{opened_text, opened_lighter}
+use Rattle.capnp_print.proofs.Opening.{opened_text}
 use Rattle.capnp_print.proofs.lemmas.PrintedFields.{active_shown}
 use Rattle.capnp_print.proofs.SingleTexts.{single_value}
-use Rattle.capnp_print.proofs.Weights.{weight, measure, shallow}
 use Rattle.capnp_print.proofs.Wholes.{entry_exists, entry_at, name_is, elements_begin, shown_same, struct_empty, struct_some, list_empty, list_some, told_empty, told_some, FieldsLeft, fields_begin, field_left_out, field_left_in, fields_end, ElementsLeft, element_left, no_elements_left}
 use Rattle.capnp_print.proofs.values.+text.Goals as goal
 
 -- ---- values
-
-pub push_value-push_struct-requires : goal.push_value-push_struct-requires
-push_value-push_struct-requires g t c =
-    let r = c.in-Struct.reader in
-    let same : weight (shown g.A.ReaderArena.segments c.args.value) ≡ weight (a_struct (schema_around r.schema) (shape_of_struct r.schema) (struct_seen g.A.ReaderArena.segments r.source)) = ap (λ v. weight (shown g.A.ReaderArena.segments v)) c.in-Struct.is in
-    search rules
-
-pub push_value-push_list-requires : goal.push_value-push_list-requires
-push_value-push_list-requires g t c =
-    let r = c.in-List.list in
-    let same : weight (shown g.A.ReaderArena.segments c.args.value) ≡ weight (a_list (schema_of (nodes_of r.set.now)) (ty_of r.element_type) (list_seen g.A.ReaderArena.segments r.source)) = ap (λ v. weight (shown g.A.ReaderArena.segments v)) c.in-List.is in
-    search rules
 
 pub push_value-returns-in_err-push_single-in_default : goal.push_value-returns-in_err-push_single-in_default
 push_value-returns-in_err-push_single-in_default g t c =
@@ -183,7 +169,7 @@ push_fields-returns-in_err-push_member g t c =
     let shows : field_shown (schema_around s) v (discriminant_shown s v) a.0 ≡ true = sym (c.in_ok-is_printed.ensures a.0 at) ∙ c.if-not-branch.false in
     let next = field_left_in s v left style i (i + 1) a.0 c.loop-i.first refl a.1 shows in
     let e = c.in_err-push_member.field-0.0 in
-    let fault : IsRefused (member_text left (inner style) s v a.0) e = subst (λ (st : Style). IsRefused (member_text left st s v a.0) e) c.in_ok-deeper.ensures (c.in_err-push_member.ensures a.0 at) in
+    let fault : IsRefused (member_text left (inner style) s v a.0) e = subst (λ (st : Style). IsRefused (member_text left st s v a.0) e) c.in_ok-deeper.ensures.style (c.in_err-push_member.ensures a.0 at) in
     refused (fields_text left style s v) c.args.out.now.items c.push_member.new.out.items c.from_residual-in_err-push_member.result e c.from_residual-in_err-push_member.ensures.1
     (goes_wrong (fields_text left style s v) (FieldsLeft s v left style i c.loop-i.first) (member_text left (inner style) s v a.0) (FieldsLeft s v left style (i + 1) false) c.args.out.now.items c.loop-i.out.items ((mark style c.loop-i.first ++ a.0.name) ++ codes " = ") e next fault c.loop-i.invariant)
 
@@ -206,7 +192,7 @@ push_fields-loop-i-preserved g t c =
     let m = c.in_ok-push_name.ensures ∙ ap (λ (n : List ℕ). c.loop-i.out.items ++ ((mark style c.loop-i.first ++ n) ++ codes " = ")) named in
     let b = c.in_ok-push_member.ensures a.0 at in
     goes_on (fields_text left style s v) (FieldsLeft s v left style i c.loop-i.first) (member_text left (inner style) s v a.0) (FieldsLeft s v left style (i + 1) false) c.args.out.now.items c.loop-i.out.items c.push_name.new.out.items c.push_member.new.out.items ((mark style c.loop-i.first ++ a.0.name) ++ codes " = ")
-    next m (b.0, ap (λ (st : Style). member_text left st s v a.0) (sym c.in_ok-deeper.ensures) ∙ b.1, b.2) c.loop-i.invariant
+    next m (b.0, ap (λ (st : Style). member_text left st s v a.0) (sym c.in_ok-deeper.ensures.style) ∙ b.1, b.2) c.loop-i.invariant
 
 -- ---- members
 
@@ -223,14 +209,6 @@ push_member-returns-in_err-opened g t c =
     let s = c.args.reader.schema in
     let v = struct_seen g.A.ReaderArena.segments c.args.reader.source in
     λ e h. refused (member_text c.args.left (style_of c.args.indent) s v e) c.args.out.now.items c.args.out.now.items c.from_residual.result c.in_err-opened.field-0.0 c.from_residual.ensures.1 (inr (c.in_err-opened.ensures e h (style_of c.args.indent)))
-
-pub push_member-push_value-requires : goal.push_member-push_value-requires
-push_member-push_value-requires g t c =
-    let s = c.args.reader.schema in
-    let v = struct_seen g.A.ReaderArena.segments c.args.reader.source in
-    let o = c.in_ok-opened.opened in
-    let lighter : measure o.left (shown g.A.ReaderArena.segments o.value) < measure c.args.left (a_struct (schema_around s) (shape_of_struct s) v) = opened_lighter c.nulls_are_read.ensures s v c.args.field c.requires.parent c.args.left (shown g.A.ReaderArena.segments o.value) o.left c.in_ok-opened.ensures c.requires.printed in
-    search rules
 
 pub push_member-returns : goal.push_member-returns
 push_member-returns g t c =
@@ -258,9 +236,6 @@ pub push_list-returns-in_err-push : goal.push_list-returns-in_err-push
 push_list-returns-in_err-push g t c =
     let l = c.args.list in
     memory (shown_text c.args.left (style_of c.args.indent) (a_list (schema_of (nodes_of l.set.now)) (ty_of l.element_type) (list_seen g.A.ReaderArena.segments l.source))) c.args.out.now.items _ c.from_residual-in_err-push.result c.from_residual-in_err-push.ensures.1
-
-pub push_list-push_elements-requires : goal.push_list-push_elements-requires
-push_list-push_elements-requires g t c = search rules
 
 pub push_list-returns-in_err-push_elements : goal.push_list-returns-in_err-push_elements
 push_list-returns-in_err-push_elements g t c =
@@ -298,8 +273,8 @@ push_elements-loop-i-init g t c =
     let v = list_seen g.A.ReaderArena.segments l.source in
     elements_begin (schema_of (nodes_of l.set.now)) (ty_of l.element_type) v c.args.left (style_of c.args.indent) (v.count - 0) c.args.out.now.items (omega arith)
 
-pub push_elements-get-requires : goal.push_elements-get-requires
-push_elements-get-requires g t c = omega (arith, c.len-i-end.ensures, c.loop-i-test.true)
+pub push_elements-open_element-requires : goal.push_elements-open_element-requires
+push_elements-open_element-requires g t c = omega (arith, c.len-i-end.ensures, c.loop-i-test.true)
 
 pub push_elements-returns-in_err-value : goal.push_elements-returns-in_err-value
 push_elements-returns-in_err-value g t c =
@@ -322,14 +297,6 @@ push_elements-returns-in_err-push_mark g t c =
     let l = c.args.list in
     memory (elements_text c.args.left (style_of c.args.indent) (schema_of (nodes_of l.set.now)) (ty_of l.element_type) (list_seen g.A.ReaderArena.segments l.source)) c.args.out.now.items _ c.from_residual-in_err-push_mark.result c.from_residual-in_err-push_mark.ensures.1
 
-pub push_elements-push_value-requires : goal.push_elements-push_value-requires
-push_elements-push_value-requires g t c =
-    let l = c.args.list in
-    let v = list_seen g.A.ReaderArena.segments l.source in
-    let lighter : weight (shown g.A.ReaderArena.segments c.in_ok-value.value) < weight (a_list (schema_of (nodes_of l.set.now)) (ty_of l.element_type) v)
-    = element_weight (schema_of (nodes_of l.set.now)) (shallow l.set.now) (ty_of l.element_type) v c.loop-i.i (shown g.A.ReaderArena.segments c.in_ok-value.value) (omega (arith, c.len-i-end.ensures, c.loop-i-test.true)) (sym c.in_ok-value.ensures) in
-    search rules
-
 pub push_elements-returns-in_err-push_value : goal.push_elements-returns-in_err-push_value
 push_elements-returns-in_err-push_value g t c =
     let l = c.args.list in
@@ -342,7 +309,7 @@ push_elements-returns-in_err-push_value g t c =
     let more : v.count - i ≡ suc (v.count - (i + 1)) = omega (arith, c.loop-i-test.true, c.len-i-end.ensures) in
     let next = element_left s ty v left style i (i + 1) (v.count - i) (v.count - (i + 1)) refl more in
     let e = c.in_err-push_value.field-0.0 in
-    let same = shown_same left (style_of c.in_ok-deeper.deeper) (inner style) (shown g.A.ReaderArena.segments c.in_ok-value.value) (element_shown s ty v i) c.in_ok-deeper.ensures c.in_ok-value.ensures in
+    let same = shown_same left (style_of c.in_ok-deeper.deeper) (inner style) (shown g.A.ReaderArena.segments c.in_ok-value.value) (element_shown s ty v i) c.in_ok-deeper.ensures.style c.in_ok-value.ensures in
     let fault : IsRefused (text_or_fault left (inner style) (element_shown s ty v i)) e = subst (λ (z : Text). IsRefused z e) same c.in_err-push_value.ensures in
     refused (elements_text left style s ty v) c.args.out.now.items c.push_value.new.out.items c.from_residual-in_err-push_value.result e c.from_residual-in_err-push_value.ensures.1
     (goes_wrong (elements_text left style s ty v) (ElementsLeft s ty v left style i (v.count - i)) (text_or_fault left (inner style) (element_shown s ty v i)) (ElementsLeft s ty v left style (i + 1) (v.count - (i + 1))) c.args.out.now.items c.loop-i.out.items (mark style (i == 0)) e next fault c.loop-i.invariant)
@@ -361,7 +328,7 @@ push_elements-loop-i-preserved g t c =
     let i = c.loop-i.i in
     let more : v.count - i ≡ suc (v.count - (i + 1)) = omega (arith, c.loop-i-test.true, c.len-i-end.ensures) in
     let next = element_left s ty v left style i (i + 1) (v.count - i) (v.count - (i + 1)) refl more in
-    let same = shown_same left (style_of c.in_ok-deeper.deeper) (inner style) (shown g.A.ReaderArena.segments c.in_ok-value.value) (element_shown s ty v i) c.in_ok-deeper.ensures c.in_ok-value.ensures in
+    let same = shown_same left (style_of c.in_ok-deeper.deeper) (inner style) (shown g.A.ReaderArena.segments c.in_ok-value.value) (element_shown s ty v i) c.in_ok-deeper.ensures.style c.in_ok-value.ensures in
     let a = c.in_ok-push_value.ensures in
     goes_on (elements_text left style s ty v) (ElementsLeft s ty v left style i (v.count - i)) (text_or_fault left (inner style) (element_shown s ty v i)) (ElementsLeft s ty v left style (i + 1) (v.count - (i + 1))) c.args.out.now.items c.loop-i.out.items c.push_mark.new.out.items c.push_value.new.out.items (mark style (i == 0))
     next c.in_ok-push_mark.ensures (a.0, sym same ∙ a.1, a.2) c.loop-i.invariant

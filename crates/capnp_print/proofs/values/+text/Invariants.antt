@@ -1,38 +1,37 @@
--- Levels and groups grow less on the way down, and defaults that may be entered; within a value each calls the next.
+-- The values that may still be printed in one another grow less on the way down; within a value each calls the next.
 use Rattle.std.proofs.Common.{◌+◌, ◌-◌, ◌*◌}
 use Rattle.capnp_model.specs.Accepted.{schema_of}
 use Rattle.capnp_model.specs.Readings.{just_bits}
 use Rattle.capnp_records.specs.Sets.{nodes_of}
 use Rattle.capnp_queries.specs.Types.{ty_of}
-use Rattle.capnp_queries.specs.Structs.{schema_around, shape_of_struct, fields_of_struct}
+use Rattle.capnp_queries.specs.Structs.{schema_around, fields_of_struct}
 use Rattle.capnp_values.specs.Sources.{struct_seen, list_seen}
-use Rattle.capnp_values.specs.Shown.{a_struct, a_list, shown, discriminant_shown}
+use Rattle.capnp_values.specs.Shown.{discriminant_shown}
 use Rattle.capnp_model.specs.Printing.{as_it_is}
-use Rattle.capnp_print.specs.Texts.{style_of}
+use Rattle.capnp_print.specs.Texts.{style_of, values_around}
 use Rattle.capnp_print.specs.ShownReadings.{children_read, reading_within, left_of}
 use Rattle.capnp_print.specs.Printed.{null_printed}
 use Rattle.capnp_print.specs.Parts.{fields_text, elements_text}
-use Rattle.capnp_print.proofs.Weights.{measure}
 use Rattle.capnp_print.proofs.Loops.{Going, fields_after, Left, Rest}
 use Rattle.capnp_print.proofs.values.+text.Given as goal
 
 abbrev pub decreases-push_value : goal.decreases-push_value
-decreases-push_value g l = 8 * measure l.left (shown g.A.ReaderArena.segments l.value) + 7
+decreases-push_value g l = 8 * (1024 - values_around l.indent) + 7
 
 abbrev pub decreases-push_struct : goal.decreases-push_struct
-decreases-push_struct g l = 8 * measure l.left (a_struct (schema_around l.reader.schema) (shape_of_struct l.reader.schema) (struct_seen g.A.ReaderArena.segments l.reader.source)) + 6
+decreases-push_struct g l = 8 * (1024 - values_around l.indent) + 6
 
 abbrev pub decreases-push_fields : goal.decreases-push_fields
-decreases-push_fields g l = 8 * measure l.left (a_struct (schema_around l.reader.schema) (shape_of_struct l.reader.schema) (struct_seen g.A.ReaderArena.segments l.reader.source)) + 5
+decreases-push_fields g l = 8 * (1024 - values_around l.indent) + 5
 
 abbrev pub decreases-push_member : goal.decreases-push_member
-decreases-push_member g l = 8 * measure l.left (a_struct (schema_around l.reader.schema) (shape_of_struct l.reader.schema) (struct_seen g.A.ReaderArena.segments l.reader.source)) + 4
+decreases-push_member g l = 8 * (1024 - values_around l.indent) + 8
 
 abbrev pub decreases-push_list : goal.decreases-push_list
-decreases-push_list g l = 8 * measure l.left (a_list (schema_of (nodes_of l.list.set.now)) (ty_of l.list.element_type) (list_seen g.A.ReaderArena.segments l.list.source)) + 6
+decreases-push_list g l = 8 * (1024 - values_around l.indent) + 6
 
 abbrev pub decreases-push_elements : goal.decreases-push_elements
-decreases-push_elements g l = 8 * measure l.left (a_list (schema_of (nodes_of l.list.set.now)) (ty_of l.list.element_type) (list_seen g.A.ReaderArena.segments l.list.source)) + 5
+decreases-push_elements g l = 8 * (1024 - values_around l.indent) + 5
 
 -- the fields before are there, and the others follow
 abbrev pub invariant-push_fields-loop-i : goal.invariant-push_fields-loop-i
