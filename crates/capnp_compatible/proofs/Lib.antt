@@ -12,6 +12,10 @@ mod Slots
 mod Known
 mod NodesFound
 mod Bodies
+mod DueFields
+mod SlotParts
+mod Stops
+mod BrokenBodies
 mod Ways
 mod AllKept
 mod OlderViews

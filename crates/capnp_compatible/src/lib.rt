@@ -2,6 +2,7 @@
 #![tactic(auto)]
 
 pub mod admitted;
+pub mod breaks;
 pub mod compatible;
 mod defaults;
 mod extended;
