@@ -4,7 +4,7 @@ use Rattle.std.specs.List.{list_any}
 use Rattle.std.specs.Str.{bytes_eq}
 use Rattle.capnp_model.specs.Schemas.{Shape, Field, Fields, field, Body}
 use Rattle.capnp_model.specs.Accepted.{field_body, fields_from}
-use Rattle.capnp_compatible.specs.DueFields.{first_fields, fields_behind, due_behind, due}
+use Rattle.capnp_compatible.specs.DueFields.{first_fields, fields_behind, due_behind, due, has_partner}
 
 module _ {A : Type 0} (groups : ℕ → Shape) (h : A → Field) where
   pub firsts_are : (xs ys : List A) → first_fields (length xs) (fields_from groups (map h (xs ++ ys))) ≡ fields_from groups (map h xs)
@@ -18,6 +18,10 @@ module _ {A : Type 0} (groups : ℕ → Shape) (h : A → Field) where
   pub due_in_turn : (older : Fields) (xs ys : List A) → due older (fields_from groups (map h (xs ++ ys))) ≡ due (due older (fields_from groups (map h xs))) (fields_from groups (map h ys))
   due_in_turn older [] ys = refl
   due_in_turn older (x ∷ xs) ys = due_in_turn (due_behind older (h x).name) xs ys
+
+  pub partners_are : (l : List ℕ) (ys : List A) → has_partner l (fields_from groups (map h ys)) ≡ list_any (λ g. bytes_eq l (h g).name) ys
+  partners_are l [] = refl
+  partners_are l (y ∷ ys) = ap (λ b. bytes_eq l (h y).name || b) (partners_are l ys)
 
   -- a field without a partner stays due
   pub due_for_all : (l : List ℕ) (m : Option ℕ) (b : Body) (older : Fields) (ys : List A) → list_any (λ g. bytes_eq l (h g).name) ys ≡ false → due (field l m b older) (fields_from groups (map h ys)) ≡ field l m b older

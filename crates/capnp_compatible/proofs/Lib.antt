@@ -16,6 +16,7 @@ mod DueFields
 mod SlotParts
 mod Stops
 mod BrokenBodies
+mod BreakExamples
 mod Ways
 mod AllKept
 mod OlderViews

@@ -1,5 +1,5 @@
 -- Where the walk over the fields of two nodes stops, and what breaks there.
-use Rattle.std.proofs.Common.{◌≡◌, ℕ, ◌+◌, ◌-◌, ◌≤◌, Bool, true, false, ◌==◌, inl, inr, Option, Some, None, IfSome, List, [], ◌∷◌, ◌++◌, append_assoc, length, string_bytes, refl, sym, ◌∙◌, ap, subst, arith}
+use Rattle.std.proofs.Common.{◌≡◌, ℕ, ◌+◌, ◌-◌, ◌≤◌, Bool, true, false, ◌||◌, ◌==◌, inl, inr, Option, Some, None, IfSome, List, [], ◌∷◌, ◌++◌, append_assoc, length, string_bytes, refl, sym, ◌∙◌, ap, subst, arith}
 use Rattle.std.specs.List.{list_any}
 use Rattle.std.specs.Str.{bytes_eq}
 use Rattle.capnp_model.specs.Schemas.{Shape, shape, Fields, Body, void_slot, plain_slot, pointer_slot, group_slot, Schema}
@@ -23,7 +23,7 @@ use Rattle.capnp_compatible.specs.Walks.{older_schema, kept_shape, kept_field, b
 use Rattle.capnp_compatible.specs.DueFields.{first_fields, fields_behind, due_behind, due, IsDue}
 use Rattle.capnp_compatible.specs.Breaks.{BreaksFirst, IsTaken, AreFirstGroups, BreaksRule, IsBreak, breaks_here, breaks_inside}
 use Rattle.capnp_compatible.specs.Faults.{taken_rule, break_of, BreaksSections, IsInner, IsFaultOf, IsPartnersFault, IsNextFault, Passes, IsBreakOfFields, IsBreakAt}
-use Rattle.capnp_compatible.proofs.DueFields.{firsts_are, behind_are, due_in_turn, due_for_all}
+use Rattle.capnp_compatible.proofs.DueFields.{firsts_are, behind_are, due_in_turn, partners_are, due_for_all}
 use Rattle.capnp_compatible.proofs.RenamedHolders.{renamed_holder}
 use Rattle.capnp_compatible.proofs.Bodies.{rest_sound}
 
@@ -125,6 +125,10 @@ places_are v levels node older newer left rest s =
 
 -- ---- what breaks there
 
+right_true : (a b : Bool) → a ≡ false → (a || b) ≡ true → b ≡ true
+right_true true b e h = absurd (cc e)
+right_true false b e h = h
+
 module _ (v : Versions) (levels : Levels) (node other : ℕ) (older newer : List FieldRecord) (i k : ℕ) (w p : ℕ) (u : Option ℕ) (w' p' : ℕ) (u' : Option ℕ) where
   abbrev older_shape : Shape
   older_shape = shape node w p u (older_fields v levels node older)
@@ -161,7 +165,7 @@ module _ (v : Versions) (levels : Levels) (node other : ℕ) (older newer : List
 
       by : (x : Bool) → list_any (λ g. bytes_eq (partner_name (names_in v.names) node (string_bytes f.name)) (string_bytes g.name)) (next ∷ more) ≡ x
           → Broken (elim x as (λ (z : Bool). Rule) [ true ↦ rule.Taken i k | false ↦ rule.Missing i ])
-      by true e = taken (f ∷ fs) next more at (b, n)
+      by true e = taken (f ∷ fs) next more at (b, partners_are (λ g. shape_in (nodes_in v.newer) levels.newer g) field_of (partner_name (names_in v.names) node (string_bytes f.name)) more ∙ right_true _ _ b e, n)
       by false e =
           missing (f ∷ fs) (next ∷ more) at
           (due_for_all (λ g. shape_in (nodes_in v.newer) levels.newer g) field_of (partner_name (names_in v.names) node (string_bytes f.name)) _ _ _ (next ∷ more) e)

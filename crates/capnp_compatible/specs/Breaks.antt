@@ -3,7 +3,7 @@ use Rattle.std.specs.Prelude.{ℕ, ◌≡◌, ◌⊎◌, ◌<◌, true, false, n
 use Rattle.capnp_model.specs.Schemas.{Ty, Shape, shape, Fields, no_fields, field, Body, group_slot, id_of_shape, Schema}
 use Rattle.capnp_model.specs.Partners.{Renaming, renamed, is_partner}
 use Rattle.capnp_model.specs.Compatible.{Pairs, has_pair, same_option, member_count, is_new, is_no_fields, keeps_union, related, keeps}
-pub use Rattle.capnp_compatible.specs.DueFields.{first_fields, fields_behind, due, IsDue}
+pub use Rattle.capnp_compatible.specs.DueFields.{first_fields, fields_behind, due, IsDue, has_partner}
 pub use Rattle.capnp_compatible.specs.SlotParts.{is_group_slot, slot_type, slot_place, same_defaults}
 use Rattle.capnp_compatible.specs.declared.breaks.FieldRule.{FieldRule}
 use Rattle.capnp_compatible.specs.declared.breaks.FieldRule.TheVariants as of_field
@@ -47,11 +47,11 @@ abbrev pub BreaksFirst : Schema → Schema → FieldRule → Fields → Fields �
 BreaksFirst o n r (field l m b fs) (field l' m' b' fs') = (is_partner l l' ≡ true) × BreaksField o n r m b m' b'
 BreaksFirst o n r fs fs' = ⊥
 
--- The first newer field is not the partner of the first older one, and may not be new beside so many members.
+-- The first newer field may not be new beside so many members, and the partner of the first older one, if there is one, is further on.
 abbrev pub IsTaken : ℕ → Fields → Fields → Type 0
 IsTaken count fs no_fields = ⊥
 IsTaken count no_fields (field l' m' b' fs') = is_new count m' ≡ false
-IsTaken count (field l m b fs) (field l' m' b' fs') = (is_partner l l' ≡ false) × (is_new count m' ≡ false)
+IsTaken count (field l m b fs) (field l' m' b' fs') = (is_partner l l' ≡ false) × (has_partner l fs' ≡ true) × (is_new count m' ≡ false)
 
 -- The first newer field is the partner of the first older one, and these are the two groups.
 abbrev pub AreFirstGroups : Fields → Fields → Shape → Shape → Type 0

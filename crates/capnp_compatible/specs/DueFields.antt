@@ -1,5 +1,5 @@
 -- Older fields in the order of a newer node's. (Schema language, "Evolving Your Protocol")
-use Rattle.std.specs.Prelude.{ℕ, zero, suc, ◌≡◌, true, false, List}
+use Rattle.std.specs.Prelude.{ℕ, zero, suc, ◌≡◌, Bool, true, false, ◌||◌, List}
 use Rattle.capnp_model.specs.Schemas.{Fields, no_fields, field}
 use Rattle.capnp_model.specs.Partners.{is_partner}
 
@@ -28,3 +28,8 @@ due fs (field l' m' b' fs') = due (due_behind fs l') fs'
 -- Behind so many newer fields the older field of this place is due.
 abbrev pub IsDue : Fields → Fields → ℕ → ℕ → Type 0
 IsDue fs fs' i k = due fs (first_fields k fs') ≡ fields_behind i fs
+
+-- One of the newer fields is the partner of an older one of this name.
+abbrev pub has_partner : List ℕ → Fields → Bool
+has_partner l no_fields = false
+has_partner l (field l' m' b' fs') = is_partner l l' || has_partner l fs'
