@@ -32,7 +32,7 @@ pub enum Rule {
         older: usize,
     },
     /// The newer field stands before the partner of the older field that is due there, and has the value of an older member, which
-    /// a new field must not have. `due` is the index of the older field, or how many there are where none is due.
+    /// a new field must not have. `due` is the index of the older field; where none is due it is past the last.
     Taken {
         due: usize,
         newer: usize,
