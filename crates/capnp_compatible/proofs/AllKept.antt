@@ -34,7 +34,7 @@ pub each_itself : (ps : Pairs) → has_each ps ps ≡ true
 each_itself [] = refl
 each_itself (p ∷ ps) = both_true (or_left (p.0 == p.0 && p.1 == p.1) (has_pair ps p.0 p.1) (both_true (eq-eqb p.0 p.0 refl) (eq-eqb p.1 p.1 refl))) (grown p ps ps (each_itself ps))
 
-passed : (test : ℕ × ℕ → Bool) (ps : Pairs) (a b : ℕ) → list_all test ps ≡ true → has_pair ps a b ≡ true → test (a, b) ≡ true
+pub passed : (test : ℕ × ℕ → Bool) (ps : Pairs) (a b : ℕ) → list_all test ps ≡ true → has_pair ps a b ≡ true → test (a, b) ≡ true
 passed test [] a b h k = absurd (cc k)
 passed test (p ∷ ps) a b h k = by (p.0 == a && p.1 == b) refl k (λ m. passed test ps a b (and_right (test p) (list_all test ps) h) m)
   where
@@ -45,7 +45,7 @@ passed test (p ∷ ps) a b h k = by (p.0 == a && p.1 == b) refl k (λ m. passed 
         ∙ and_left (test p) (list_all test ps) h
     by false e g next = next g
 
-pair_at : (pairs ps : Pairs) (i a b : ℕ) → slice_get ps i ≡ Some (a, b) → has_each pairs ps ≡ true → has_pair pairs a b ≡ true
+pub pair_at : (pairs ps : Pairs) (i a b : ℕ) → slice_get ps i ≡ Some (a, b) → has_each pairs ps ≡ true → has_pair pairs a b ≡ true
 pair_at pairs [] zero a b e h = absurd (cc e)
 pair_at pairs [] (suc i) a b e h = absurd (cc e)
 pair_at pairs (p ∷ ps) zero a b e h =
@@ -59,13 +59,13 @@ within [] (suc i) x e = absurd (cc e)
 within (p ∷ ps) zero x e = omega arith
 within (p ∷ ps) (suc i) x e = let m = within ps i x e in omega arith
 
-one_taken : (ps rest : Pairs) (i : ℕ) (x : ℕ × ℕ) → slice_get ps i ≡ Some x → take (i + 1) (ps ++ rest) ≡ take i ps ++ x ∷ []
+pub one_taken : (ps rest : Pairs) (i : ℕ) (x : ℕ × ℕ) → slice_get ps i ≡ Some x → take (i + 1) (ps ++ rest) ≡ take i ps ++ x ∷ []
 one_taken [] rest zero x e = absurd (cc e)
 one_taken [] rest (suc i) x e = absurd (cc e)
 one_taken (p ∷ ps) rest zero x e = let is : p ≡ x = cc e in ap (λ (q : ℕ × ℕ). q ∷ []) is
 one_taken (p ∷ ps) rest (suc i) x e = let more : suc i + 1 ≡ suc (i + 1) = omega arith in ap (λ k. take k (p ∷ (ps ++ rest))) more ∙ ap (λ qs. p ∷ qs) (one_taken ps rest i x e)
 
-all_taken : (ps : Pairs) (i : ℕ) → slice_get ps i ≡ None → take i ps ≡ ps
+pub all_taken : (ps : Pairs) (i : ℕ) → slice_get ps i ≡ None → take i ps ≡ ps
 all_taken [] zero e = refl
 all_taken [] (suc i) e = refl
 all_taken (p ∷ ps) zero e = absurd (cc e)
@@ -120,7 +120,7 @@ walked_all v levels older newer i r w e =
     }
 
 -- a set whose pairs are kept is closed
-kept_closed : (v : Versions) (levels : Levels) (pairs : Pairs) → keeps_all v levels pairs pairs ≡ true → IsClosedAt v levels pairs
+pub kept_closed : (v : Versions) (levels : Levels) (pairs : Pairs) → keeps_all v levels pairs pairs ≡ true → IsClosedAt v levels pairs
 kept_closed v levels pairs h i j k more l = passed (λ p. keeps_at v levels p.0 p.1 pairs) pairs i j h k
 
 pub walked_into : (v : Versions) (levels : Levels) (older newer i a b : ℕ) (old new : Reached) → Walked v levels older newer i old → slice_get (pairs_of old) i ≡ Some (a, b) → Decides v old new false (keeps_at v levels a b) → IsKeptFrom v levels older newer → ⊥
@@ -141,22 +141,22 @@ breaks_there v levels older newer i a b r x w at h = record {
 
 -- ---- compatible schemas
 
-older_alike : (v : Versions) (levels : Levels) → AreEnough v levels → (i : ℕ) → (older_schema v).shape_of i ≡ kept_shape v levels i
+pub older_alike : (v : Versions) (levels : Levels) → AreEnough v levels → (i : ℕ) → (older_schema v).shape_of i ≡ kept_shape v levels i
 older_alike v levels e i =
     newer-words (names_in v.names) ((schema_in v.older).shape_of i)
     ∙ ap (renamed_shape (names_in v.names)) (shape_is (nodes_in v.older) i ∙ ap (λ (k : ℕ). shape_in (nodes_in v.older) k i) (sym e.older))
 
-newer_alike : (v : Versions) (levels : Levels) → AreEnough v levels → (j : ℕ) → (schema_in v.newer).shape_of j ≡ shape_in (nodes_in v.newer) levels.newer j
+pub newer_alike : (v : Versions) (levels : Levels) → AreEnough v levels → (j : ℕ) → (schema_in v.newer).shape_of j ≡ shape_in (nodes_in v.newer) levels.newer j
 newer_alike v levels e j = shape_is (nodes_in v.newer) j ∙ ap (λ (k : ℕ). shape_in (nodes_in v.newer) k j) (sym e.newer)
 
-keeps_alike : (v : Versions) (levels : Levels) → AreEnough v levels → (i j : ℕ) (pairs : Pairs)
+pub keeps_alike : (v : Versions) (levels : Levels) → AreEnough v levels → (i j : ℕ) (pairs : Pairs)
     → keeps (older_schema v) (schema_in v.newer) pairs ((older_schema v).shape_of i) ((schema_in v.newer).shape_of j) ≡ keeps_at v levels i j pairs
 keeps_alike v levels e i j pairs =
     ap (λ g. keeps (older_schema v) (schema_in v.newer) pairs g ((schema_in v.newer).shape_of j)) (older_alike v levels e i)
     ∙ ap (λ g. keeps (older_schema v) (schema_in v.newer) pairs (kept_shape v levels i) g) (newer_alike v levels e j)
 
 -- a set that is closed is closed at so many levels
-closed_alike : (v : Versions) (levels : Levels) → AreEnough v levels → (pairs : Pairs) → IsClosed (older_schema v) (schema_in v.newer) pairs → IsClosedAt v levels pairs
+pub closed_alike : (v : Versions) (levels : Levels) → AreEnough v levels → (pairs : Pairs) → IsClosed (older_schema v) (schema_in v.newer) pairs → IsClosedAt v levels pairs
 closed_alike v levels e pairs c i j h more k = sym (keeps_alike v levels e i j pairs) ∙ c i j h more (keeps_alike v levels e i j more ∙ k)
 
 kept_alike : (v : Versions) (levels : Levels) → AreEnough v levels → (pairs some : Pairs)
@@ -236,7 +236,7 @@ reached_from v levels i j x e h =
           (subst (λ (g : Shape). IsBreak (older_schema v) (schema_in v.newer) x (kept_shape v levels h.i) g) (sym (newer_alike v levels e h.j)) h.breaks);
     })
 
-of_others : (a b : Bool) → are_alike a b ≡ false → a ≡ not b
+pub of_others : (a b : Bool) → are_alike a b ≡ false → a ≡ not b
 of_others true true h = absurd (cc h)
 of_others true false h = refl
 of_others false true h = refl

@@ -19,6 +19,7 @@ mod BrokenBodies
 mod BreakExamples
 mod Ways
 mod AllKept
+mod AllBroken
 mod OlderViews
 mod ExtendedGroups
 mod FirstRefused

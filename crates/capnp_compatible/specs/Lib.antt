@@ -11,6 +11,7 @@ pub mod Roots
 pub mod DueFields
 pub mod SlotParts
 pub mod Breaks
+pub mod AllBreaks
 pub use Rattle.capnp_model.specs.Schemas
 pub use Rattle.capnp_model.specs.Accepted
 pub use Rattle.capnp_model.specs.Compatible

@@ -43,7 +43,7 @@ pub(crate) fn versions<'a>(
 }
 
 /// Whether both hold or neither does.
-fn are_alike(older: bool, newer: bool) -> bool
+pub(crate) fn are_alike(older: bool, newer: bool) -> bool
     ensures { result ≡ are_alike older newer }
 {
     if older { newer } else { !newer }

@@ -2,6 +2,7 @@
 #![tactic(auto)]
 
 pub mod admitted;
+pub mod all_breaks;
 pub mod breaks;
 pub mod compatible;
 mod defaults;
