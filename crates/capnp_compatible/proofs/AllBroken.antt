@@ -218,8 +218,8 @@ module _ (v : Versions) (levels : Levels) (older newer i : ℕ) (r : Reached) (e
   told_answer (x ∷ xs) w =
       subst (λ (c : Bool). MatchBool c (IsKeptFrom v levels older newer) (IsKeptFrom v levels older newer → ⊥)) (sym (some_breaks x xs))
       (λ k.
-          let f = w.each 0 x refl in
-          f.3 k.pairs (passed (λ p. keeps_at v levels p.0 p.1 k.pairs) k.pairs f.0 f.1 k.are_kept (f.2 k.pairs k.has_roots (kept_closed v levels k.pairs k.are_kept))))
+      let f = w.each 0 x refl in
+      f.3 k.pairs (passed (λ p. keeps_at v levels p.0 p.1 k.pairs) k.pairs f.0 f.1 k.are_kept (f.2 k.pairs k.has_roots (kept_closed v levels k.pairs k.are_kept))))
 
 -- ---- of the schemas
 
@@ -234,14 +234,17 @@ module _ (v : Versions) (levels : Levels) (older newer : ℕ) (e : AreEnough v l
 
   pub all_of : (bs : List Break) → (older_schema v).is_group older ≡ (schema_in v.newer).is_group newer → AreBreaksAt v levels older newer bs → AllBreaksOf (older_schema v) (schema_in v.newer) older newer bs
   all_of bs sorts x =
-      inr (sorts, record {
-        each = λ k b is.
-            let f = x.each k b is in
-            (f.0, f.1, (λ pairs r c. f.2 pairs r (closed_alike v levels e pairs c)), (λ pairs h. f.3 pairs (sym (keeps_alike v levels e f.0 f.1 pairs) ∙ h)), to_shapes f.0 f.1 b f.4);
-        all = λ i j r u.
-            let h = x.all i j (λ pairs g c. r pairs g (closed_back pairs c)) (λ pairs g. u pairs (keeps_alike v levels e i j pairs ∙ g)) in
-            record { place = h.place; one = h.one; is = h.is; holds = to_shapes i j h.one h.holds };
-      })
+      inr (
+        sorts,
+        record {
+          each = λ k b is.
+              let f = x.each k b is in
+              (f.0, f.1, (λ pairs r c. f.2 pairs r (closed_alike v levels e pairs c)), (λ pairs h. f.3 pairs (sym (keeps_alike v levels e f.0 f.1 pairs) ∙ h)), to_shapes f.0 f.1 b f.4);
+          all = λ i j r u.
+              let h = x.all i j (λ pairs g c. r pairs g (closed_back pairs c)) (λ pairs g. u pairs (keeps_alike v levels e i j pairs ∙ g)) in
+              record { place = h.place; one = h.one; is = h.is; holds = to_shapes i j h.one h.holds };
+        },
+      )
 
 module _ (v : Versions) (i j : ℕ) (rs : List Renaming) (os ns : List Node) (names : names_in v.names ≡ rs) (h : nodes_in v.older ≡ os) (k : nodes_in v.newer ≡ ns) where
   of_nodes : (bs : List Break) → AllBreaksOf (older_schema v) (schema_in v.newer) i j bs → AllBreaksOf (renamed rs (schema_of os)) (schema_of ns) i j bs

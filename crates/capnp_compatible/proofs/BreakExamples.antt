@@ -1,11 +1,9 @@
 -- Breaks at worked structs, what is none, and what is reached.
-use Rattle.std.proofs.Common.{◌≡◌, ℕ, Bool, true, false, ◌&&◌, ◌⊎◌, inl, inr, Some, None, List, [], ◌∷◌, codes, refl}
-use Rattle.capnp_model.specs.Schemas.{uint, Ty, plain, text, struct, Shape, shape, Fields, no_fields, field, plain_slot, pointer_slot, group_slot, Schema}
+use Rattle.std.proofs.Common.{◌≡◌, ℕ, Bool, true, false, ◌&&◌, inl, inr, Some, None, List, [], ◌∷◌, codes, refl}
+use Rattle.capnp_model.specs.Schemas.{uint, plain, text, struct, Shape, shape, Fields, no_fields, field, plain_slot, pointer_slot, group_slot, Schema}
 use Rattle.capnp_model.specs.Compatible.{Pairs, has_pair, keeps}
 use Rattle.capnp_compatible.specs.declared.breaks.FieldRule.TheVariants as of_field
-use Rattle.capnp_compatible.specs.declared.breaks.Rule.{Rule}
 use Rattle.capnp_compatible.specs.declared.breaks.Rule.TheVariants as rule
-use Rattle.capnp_compatible.specs.declared.breaks.Break.{Break}
 use Rattle.capnp_compatible.specs.Breaks.{BreaksField, BreaksRule, IsBreak, breaks_here, breaks_inside, IsReached}
 
 -- a number of 16 bits and a text behind it

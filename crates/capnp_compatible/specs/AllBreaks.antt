@@ -1,5 +1,5 @@
 -- All pairs that break the compatibility of two versions. (Schema language, "Evolving Your Protocol")
-use Rattle.std.specs.Prelude.{ℕ, ◌≡◌, ◌⊎◌, false, true, List, [], ◌∷◌, Some, slice_get}
+use Rattle.std.specs.Prelude.{ℕ, ◌≡◌, ◌⊎◌, true, List, [], ◌∷◌, Some, slice_get}
 use Rattle.capnp_model.specs.Schemas.{Schema}
 use Rattle.capnp_model.specs.Partners.{Renaming, renamed}
 use Rattle.capnp_model.specs.Compatible.{Pairs, has_pair, keeps}

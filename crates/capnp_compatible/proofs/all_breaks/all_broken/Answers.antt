@@ -1,4 +1,4 @@
-use Rattle.std.proofs.Common.{◌+◌, is_none, Option, IfSome, List, [], refl, sym, ◌∙◌, ap, subst}
+use Rattle.std.proofs.Common.{◌+◌, is_none, Option, IfSome, List, sym, ◌∙◌, ap, subst}
 use Rattle.capnp_compatible.specs.declared.breaks.Break.{Break}
 use Rattle.capnp_compatible.specs.Holders.{schema_in}
 use Rattle.capnp_compatible.specs.Walks.{Decides, older_schema, keeps_at}
