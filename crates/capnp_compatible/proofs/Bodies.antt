@@ -26,10 +26,11 @@ use Rattle.capnp_compatible.specs.Pairs.{has_each, pairs_of, IsFront}
 use Rattle.capnp_compatible.specs.Walks.{IsSoundFor, Decides, Moves, older_schema, kept_shape, kept_field, begins_with, has_room, keeps_at, older_fields, newer_fields, kept_body, newer_body}
 use Rattle.capnp_model.specs.Partners.{Renaming, partner_name, renamed_shape}
 use Rattle.capnp_compatible.specs.Renamed.{names_in}
+use Rattle.capnp_compatible.specs.Breaks.{AreUnrelated}
 use Rattle.capnp_compatible.proofs.RenamedHolders.{kept_holder, renamed_holder}
 use Rattle.capnp_compatible.proofs.Relations.{related_by_sort, related_lists}
 use Rattle.capnp_compatible.proofs.Slots.{slots_kept, slot_no_group, group_no_slot, groups_kept, base_is, type_wide, same_members}
-use Rattle.capnp_compatible.proofs.Scans.{front_itself, front_of_front, decides_here, decides_same}
+use Rattle.capnp_compatible.proofs.Scans.{front_itself, front_of_front, decides_here, decides_same, decides_after}
 
 -- ---- types
 
@@ -60,6 +61,15 @@ other_counts v r a b h s = decides_here v r false (types_test v a b) s (λ pairs
 pub same_counts : (v : Versions) (old new : Reached) (ok : Bool) (a b : TypeRecord) → a.list_count ≡ b.list_count → Decides v old new ok (bases_test v a.base b.base) → Decides v old new ok (types_test v a b)
 same_counts v old new ok a b h d = decides_same v old new ok (bases_test v a.base b.base) (types_test v a b) d (λ pairs. by_count v a b pairs ∙ ap (λ x. x && bases_test v a.base b.base pairs) (test_is_true a.list_count b.list_count h))
 
+pub never_sorts : (v : Versions) (a b : BaseType) → one_sort a b ≡ false → AreUnrelated (older_schema v) (schema_in v.newer) (base_type (base_of a)) (base_type (base_of b))
+never_sorts v a b h = λ pairs. by_sort v a b pairs ∙ ap (λ x. x && keeps_id (older_schema v) (schema_in v.newer) pairs (base_type (base_of a)) (id_in (base_type (base_of b)))) h
+
+pub never_counts : (v : Versions) (a b : TypeRecord) → a.list_count ≢ b.list_count → AreUnrelated (older_schema v) (schema_in v.newer) (type_of (type_record_of a)) (type_of (type_record_of b))
+never_counts v a b h = λ pairs. by_count v a b pairs ∙ ap (λ x. x && bases_test v a.base b.base pairs) (test_is_false a.list_count b.list_count h)
+
+pub never_bases : (v : Versions) (a b : TypeRecord) → AreUnrelated (older_schema v) (schema_in v.newer) (base_type (base_of a.base)) (base_type (base_of b.base)) → AreUnrelated (older_schema v) (schema_in v.newer) (type_of (type_record_of a)) (type_of (type_record_of b))
+never_bases v a b h = λ pairs. by_count v a b pairs ∙ ap (λ x. a.list_count == b.list_count && x) (h pairs) ∙ and_false (a.list_count == b.list_count)
+
 -- ---- slots and groups
 
 abbrev pub bodies_test : Versions → Levels → FieldBody → FieldBody → Pairs → Bool
@@ -77,11 +87,14 @@ module _ (v : Versions) (levels : Levels) (a b : ℕ) (t u : TypeRecord) (d e : 
       (and_right (is_default_of (type_of (type_record_of u)) (option_map value_of e)) _ other)
       x y
 
-  pub other_values : (r : Reached) → same_value (option_map value_of d) (option_map value_of e) ≡ false → IsSoundFor v r → Decides v r r false (bodies_test v levels (B.Slot a t d) (B.Slot b u e))
-  other_values r h s = decides_here v r false _ s (λ pairs. slots pairs ∙ ap (λ z. (a == b && z) && types_test v t u pairs) h ∙ ap (λ z. z && types_test v t u pairs) (and_false (a == b)))
+  pub other_values : (old new : Reached) → same_value (option_map value_of d) (option_map value_of e) ≡ false → Decides v old new true (types_test v t u) → Decides v old new false (bodies_test v levels (B.Slot a t d) (B.Slot b u e))
+  other_values old new h w = decides_after v old new true _ _ w (λ pairs. slots pairs ∙ ap (λ z. (a == b && z) && types_test v t u pairs) h ∙ ap (λ z. z && types_test v t u pairs) (and_false (a == b)))
 
-  pub other_places : (r : Reached) → a ≢ b → IsSoundFor v r → Decides v r r false (bodies_test v levels (B.Slot a t d) (B.Slot b u e))
-  other_places r h s = decides_here v r false _ s (λ pairs. slots pairs ∙ ap (λ z. (z && same_value (option_map value_of d) (option_map value_of e)) && types_test v t u pairs) (test_is_false a b h))
+  pub other_places : (old new : Reached) → a ≢ b → Decides v old new true (types_test v t u) → Decides v old new false (bodies_test v levels (B.Slot a t d) (B.Slot b u e))
+  other_places old new h w = decides_after v old new true _ _ w (λ pairs. slots pairs ∙ ap (λ z. (z && same_value (option_map value_of d) (option_map value_of e)) && types_test v t u pairs) (test_is_false a b h))
+
+  pub other_types : (old new : Reached) → AreUnrelated (older_schema v) (schema_in v.newer) (type_of (type_record_of t)) (type_of (type_record_of u)) → Decides v old new false (types_test v t u) → Decides v old new false (bodies_test v levels (B.Slot a t d) (B.Slot b u e))
+  other_types old new h w = decides_after v old new false _ _ w (λ pairs. slots pairs ∙ ap (λ z. (a == b && same_value (option_map value_of d) (option_map value_of e)) && z) (h pairs) ∙ and_false (a == b && same_value (option_map value_of d) (option_map value_of e)))
 
   pub same_slots : (old new : Reached) (ok : Bool) → same_value (option_map value_of d) (option_map value_of e) ≡ true → a ≡ b → Decides v old new ok (types_test v t u) → Decides v old new ok (bodies_test v levels (B.Slot a t d) (B.Slot b u e))
   same_slots old new ok h k w = decides_same v old new ok (types_test v t u) _ w (λ pairs. slots pairs ∙ ap (λ z. (a == b && z) && types_test v t u pairs) h ∙ ap (λ z. (z && true) && types_test v t u pairs) (test_is_true a b k))

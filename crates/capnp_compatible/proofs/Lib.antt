@@ -12,8 +12,14 @@ mod Slots
 mod Known
 mod NodesFound
 mod Bodies
+mod DueFields
+mod SlotParts
+mod Stops
+mod BrokenBodies
+mod BreakExamples
 mod Ways
 mod AllKept
+mod AllBroken
 mod OlderViews
 mod ExtendedGroups
 mod FirstRefused

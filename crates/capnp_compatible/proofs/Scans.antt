@@ -1,7 +1,7 @@
 -- Steps of a walk, one after the other.
 use Rattle.std.proofs.Common.{◌≡◌, Bool, true, false, ◌&&◌, [], ◌∷◌, ◌++◌, append_assoc, refl, sym, ◌∙◌, ap}
 use Rattle.capnp_model.specs.Compatible.{Pairs}
-use Rattle.capnp_model.proofs.lemmas.Tests.{and_assoc, and_comm}
+use Rattle.capnp_model.proofs.lemmas.Tests.{and_assoc, and_comm, and_false}
 use Rattle.capnp_compatible.specs.declared.reached.Reached.{Reached}
 use Rattle.capnp_compatible.specs.declared.keeps.Versions.{Versions}
 use Rattle.capnp_compatible.specs.Pairs.{has_each, pairs_of, IsFront}
@@ -29,6 +29,10 @@ module _ (v : Versions) where
   -- a test that fails
   pub decides_not : (old new : Reached) (test : Pairs → Bool) → IsSoundFor v new → IsFront (pairs_of old) (pairs_of new) → ((pairs : Pairs) → (has_each pairs (pairs_of old) && test pairs) ≡ false) → Decides v old new false test
   decides_not old new test s g h = record { sound = s; grows = g; tested = h }
+
+  -- a test that fails, whatever was reached by another
+  pub decides_after : (old new : Reached) (ok : Bool) (test other : Pairs → Bool) → Decides v old new ok test → ((pairs : Pairs) → other pairs ≡ false) → Decides v old new false other
+  decides_after old new ok test other d h = decides_not old new other d.sound d.grows (λ pairs. ap (λ b. has_each pairs (pairs_of old) && b) (h pairs) ∙ and_false (has_each pairs (pairs_of old)))
 
   -- two tests, one after the other
   pub decides_both : (old mid new : Reached) (ok : Bool) (first second : Pairs → Bool) → Decides v old mid true first → Decides v mid new ok second → Decides v old new ok (λ pairs. first pairs && second pairs)

@@ -70,7 +70,7 @@ cancelled w zero (suc b) h e = absurd (omega arith)
 cancelled w (suc a) zero h e = absurd (omega arith)
 cancelled w (suc a) (suc b) h e = ap suc (cancelled w a b h (omega arith))
 
-same_place : (o n : Schema) (p q : PlainType) (a b : ℕ) → 0 < width p → related_plain o n p q ≡ true → (width p * a == width q * b) ≡ (a == b)
+pub same_place : (o n : Schema) (p q : PlainType) (a b : ℕ) → 0 < width p → related_plain o n p q ≡ true → (width p * a == width q * b) ≡ (a == b)
 same_place o n p q a b wide r =
     let w = same_width o n p q r in
     by_truth (width p * a == width q * b) (a == b)

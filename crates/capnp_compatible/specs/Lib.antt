@@ -5,8 +5,13 @@ pub mod Holders
 pub mod Renamings
 pub mod Renamed
 pub mod Walks
+pub mod Faults
 pub mod Ways
 pub mod Roots
+pub mod DueFields
+pub mod SlotParts
+pub mod Breaks
+pub mod AllBreaks
 pub use Rattle.capnp_model.specs.Schemas
 pub use Rattle.capnp_model.specs.Accepted
 pub use Rattle.capnp_model.specs.Compatible

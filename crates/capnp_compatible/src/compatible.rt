@@ -1,6 +1,6 @@
 //! Compatible schemas.
 
-ghost use Rattle.std.specs.Prelude.{◌≡◌, true, IfOk, IfErr};
+ghost use Rattle.std.specs.Prelude.{◌≡◌, true, is_none, IfOk, IfErr, IfSome};
 ghost use Rattle.std.specs.Bool.{MatchBool};
 ghost use Rattle.capnp_units.specs.declared.kinds.ErrorKind.TheVariants.{OutOfMemory};
 ghost use Rattle.capnp_records.specs.Sets.{nodes_of};
@@ -8,7 +8,10 @@ ghost use Rattle.capnp_compatible.specs.Holders.{nodes_in};
 ghost use Rattle.capnp_compatible.specs.Roots.{AreCompatible, AreCompatibleWith, IsViewed, IsViewedWith};
 ghost use Rattle.capnp_compatible.specs.Renamed.{names_in, renamings_of};
 ghost use Rattle.capnp_compatible.specs.Walks.{IsKeptFrom, are_alike};
+ghost use Rattle.capnp_compatible.specs.Faults.{IsBreakReached};
+ghost use Rattle.capnp_compatible.specs.Breaks.{IsBreakFrom};
 
+use crate::breaks::{Break, Rule};
 use crate::keeps::{Levels, Versions, keeps};
 use crate::names::Names;
 use crate::nodes::Nodes;
@@ -40,36 +43,70 @@ pub(crate) fn versions<'a>(
 }
 
 /// Whether both hold or neither does.
-fn are_alike(older: bool, newer: bool) -> bool
+pub(crate) fn are_alike(older: bool, newer: bool) -> bool
     ensures { result ≡ are_alike older newer }
 {
     if older { newer } else { !newer }
 }
 
-/// Whether each pair that is reached from the roots is kept.
-fn all_kept(
+/// The first pair that is reached from the roots and is not kept, and why.
+fn first_broken(
     alloc: Global,
     versions: &Versions<'_>,
     levels: Levels,
     older: u64,
     newer: u64,
-) -> std::result::Result<bool, AllocError>
-    ensures { IfOk result (λ b.
-        MatchBool b (IsKeptFrom versions.now levels older newer)
+) -> std::result::Result<Option<Break>, AllocError>
+    ensures answer { IfOk result (λ o.
+        MatchBool (is_none o) (IsKeptFrom versions.now levels older newer)
         (IsKeptFrom versions.now levels older newer → ⊥)) }
+    ensures breaks { IfOk result (λ o.
+        IfSome o (IsBreakReached versions.now levels older newer)) }
 {
     let mut reached = Reached::new(alloc);
     reached.reach(older, newer)?;
     for i in 0..usize::MAX {
         let Some((a, b)) = reached.pair(i) else {
-            return Ok(true);
+            return Ok(None);
         };
-        if !keeps(versions, levels, a, b, &mut reached)? {
-            return Ok(false);
+        if let Some(broken) = keeps(versions, levels, a, b, &mut reached)? {
+            return Ok(Some(broken));
         }
     }
     // No memory holds so many pairs.
     Err(AllocError)
+}
+
+/// The first break of the newer schema's compatibility with the older from the two roots on, where fields are renamed: `None` exactly
+/// where `compatible_with` says yes. A break is at a pair of structs that is reached from the roots by pairs that are kept, or at a
+/// pair of groups of one, and tells a rule that this pair breaks. Takes the time of `compatible_with`. `OutOfMemory` is the one error.
+pub fn first_break(
+    alloc: Global,
+    older: Root<'_>,
+    newer: Root<'_>,
+    renamings: &Renamings,
+) -> Result<Option<Break>>
+    ensures answer { IfOk result (λ o.
+        MatchBool (is_none o)
+        (AreCompatibleWith (renamings_of renamings.now) older.entry newer.entry)
+        (AreCompatibleWith (renamings_of renamings.now) older.entry newer.entry → ⊥)) }
+    ensures breaks { IfOk result (λ o.
+        IfSome o (IsBreakFrom (renamings_of renamings.now) older.entry newer.entry)) }
+    ensures refusal { IfErr result (λ e. e.kind ≡ OutOfMemory) }
+{
+    let versions = versions(alloc, older, newer, renamings)?;
+    if !are_alike(
+        versions.older.is_group(older.id),
+        versions.newer.is_group(newer.id),
+    ) {
+        return Ok(Some(Break {
+            older: older.id,
+            newer: newer.id,
+            rule: Rule::Roots,
+        }));
+    }
+    let levels = versions.levels();
+    Ok(first_broken(alloc, &versions, levels, older.id, newer.id)?)
 }
 
 /// Whether the newer schema is compatible with the older from the two roots on, where fields are renamed: each older field is
@@ -90,15 +127,7 @@ pub fn compatible_with(
     ensures refusal { IfErr result (λ e. e.kind ≡ OutOfMemory) }
 {
     records_by_older_names();
-    let versions = versions(alloc, older, newer, renamings)?;
-    if !are_alike(
-        versions.older.is_group(older.id),
-        versions.newer.is_group(newer.id),
-    ) {
-        return Ok(false);
-    }
-    let levels = versions.levels();
-    Ok(all_kept(alloc, &versions, levels, older.id, newer.id)?)
+    Ok(first_break(alloc, older, newer, renamings)?.is_none())
 }
 
 /// Whether the newer schema is compatible with the older from the two roots on: whatever is written under the older reads

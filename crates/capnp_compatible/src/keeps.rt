@@ -1,14 +1,17 @@
 //! Whether a newer struct keeps an older one, field by field.
 
-ghost use Rattle.std.specs.Prelude.{◌≡◌, ◌==◌, ◌&&◌, ◌∷◌, true, false, not, nat_le, count_by, string_bytes, option_copied, IfOk, IfSome, IfNone};
+ghost use Rattle.std.specs.Prelude.{◌≡◌, ◌==◌, ◌&&◌, ◌∷◌, true, false, not, nat_le, count_by, string_bytes, is_none, IfOk, IfErr, IfSome, IfNone};
 ghost use Rattle.std.specs.Str.{bytes_eq};
+ghost use Rattle.std.specs.List.{list_any};
 ghost use Rattle.capnp_model.specs.Compatible.{same_option, member_count, is_new, keeps_union, keeps_fields, keeps_body};
 ghost use Rattle.capnp_records.specs.NodeViews.{kind_of_field, member_of};
 ghost use Rattle.capnp_model.specs.Partners.{partner_name};
 ghost use Rattle.capnp_compatible.specs.Renamed.{names_in};
 ghost use Rattle.capnp_compatible.specs.Holders.{schema_in, are_sound, is_sound_kind};
 ghost use Rattle.capnp_compatible.specs.Walks.{IsSoundFor, Decides, Moves, older_schema, begins_with, has_room, keeps_at, older_fields, newer_fields, kept_body, newer_body};
+ghost use Rattle.capnp_compatible.specs.Faults.{taken_rule, break_of, BreaksSections, IsBodyFault, IsFaultOf, IsNextFault, left_after, Passes, IsBreakOfFields, IsBreakAt};
 
+use crate::breaks::{Break, Fault, FieldRule, Rule};
 use crate::defaults::same_default;
 use crate::names::Names;
 use crate::nodes::{Holder, Nodes};
@@ -77,13 +80,21 @@ fn keeps_union(older: Option<u64>, newer: Option<u64>) -> bool
     }
 }
 
-/// Whether the newer's sections are at least as large, and the union stays where it is.
-fn has_room(older: Holder<'_>, newer: Holder<'_>) -> bool
-    ensures { result ≡ has_room older.entry newer.entry }
+/// The rule of sections or of unions that the newer breaks.
+fn broken_sections(older: Holder<'_>, newer: Holder<'_>) -> Option<Rule>
+    ensures room { is_none result ≡ has_room older.entry newer.entry }
+    ensures rule { IfSome result (BreaksSections older.entry newer.entry) }
 {
-    older.words <= newer.words
-        && older.pointers <= newer.pointers
-        && keeps_union(older.union, newer.union)
+    if newer.words < older.words {
+        return Some(Rule::Words);
+    }
+    if newer.pointers < older.pointers {
+        return Some(Rule::Pointers);
+    }
+    if !keeps_union(older.union, newer.union) {
+        return Some(Rule::Union);
+    }
+    None
 }
 
 /// The first of a node's fields, where its partner has the name, and those behind it.
@@ -109,7 +120,63 @@ fn partner<'f>(
     Some((first, others))
 }
 
-/// Whether the newer struct or group of an id keeps the older where the structs that they name are kept; these pairs are reached.
+/// Whether a field has the name.
+fn has_name(fields: &[FieldRecord], name: &str) -> bool
+    ensures { result ≡ list_any (λ f. bytes_eq name.now (string_bytes f.name)) fields.now }
+{
+    fields.iter().any(|field| name == field.name.as_str())
+}
+
+/// The rule that is broken where these older fields are due and the first of these newer ones, at the index `at`, may not be new: the
+/// first of the older, at the index `due`, is missing, or has its partner further on.
+fn taken_rule(
+    names: &Names<'_>,
+    node: u64,
+    left: &[FieldRecord],
+    rest: &[FieldRecord],
+    due: usize,
+    at: usize,
+) -> Rule
+    ensures { result ≡ taken_rule (names_in names.now) node left.now rest.now due at }
+{
+    let [first, ..] = left else {
+        return Rule::Taken { due, newer: at };
+    };
+    if has_name(rest, names.partner(node, first.name.as_str())) {
+        Rule::Taken { due, newer: at }
+    } else {
+        Rule::Missing { older: due }
+    }
+}
+
+/// The break that a fault is between two nodes, where these older fields are due and these newer ones are left, from the indices `due`
+/// and `at` on.
+fn break_of(
+    names: &Names<'_>,
+    older: u64,
+    newer: u64,
+    left: &[FieldRecord],
+    rest: &[FieldRecord],
+    due: usize,
+    at: usize,
+    fault: Fault,
+) -> Break
+    ensures { result ≡ break_of (names_in names.now) older newer left.now rest.now due at fault }
+{
+    let rule = match fault {
+        Fault::Taken => taken_rule(names, older, left, rest, due, at),
+        Fault::Field(rule) => Rule::Field {
+            older: due,
+            newer: at,
+            rule,
+        },
+        Fault::Inner(inner) => return inner,
+    };
+    Break { older, newer, rule }
+}
+
+/// What breaks between an older struct or group and a newer, each of an id, where the structs that they name are kept; these pairs
+/// are reached.
 #[cycle(keeps)]
 pub(crate) fn keeps(
     versions: &Versions<'_>,
@@ -117,60 +184,84 @@ pub(crate) fn keeps(
     older: u64,
     newer: u64,
     reached: &mut Reached,
-) -> Result<bool, AllocError>
+) -> Result<Option<Break>, AllocError>
     requires sound { IsSoundFor versions.now reached.old }
-    ensures { IfOk result (λ b.
-        Decides versions.now reached.old reached.new b (keeps_at versions.now levels older newer)) }
+    ensures decides { IfOk result (λ o.
+        Decides versions.now reached.old reached.new (is_none o)
+        (keeps_at versions.now levels older newer)) }
+    ensures breaks { IfOk result (λ o. IfSome o (IsBreakAt versions.now levels older newer)) }
 {
     if levels.older == 0 {
-        return Ok(true);
+        return Ok(None);
     }
     let a = versions.older.holder(levels.older, older);
     let b = versions.newer.holder(levels.newer, newer);
-    if !has_room(a, b) {
-        return Ok(false);
+    if let Some(rule) = broken_sections(a, b) {
+        return Ok(Some(Break {
+            older: a.id,
+            newer: b.id,
+            rule,
+        }));
     }
     let below = Levels {
         older: levels.older - 1,
         newer: levels.newer.saturating_sub(1),
     };
-    keeps_fields(versions, below, a.id, a.fields, b.fields, reached)
+    keeps_fields(versions, below, a.id, b.id, a.fields, b.fields, reached)
 }
 
-/// Whether the fields of an older node stand in the newer's order, each kept.
+/// What breaks between the fields of an older node, which have to stand in the newer's order, each kept, and the newer's.
 #[cycle(keeps)]
 fn keeps_fields(
     versions: &Versions<'_>,
     levels: Levels,
     node: u64,
+    other: u64,
     older: &[FieldRecord],
     newer: &[FieldRecord],
     reached: &mut Reached,
-) -> Result<bool, AllocError>
+) -> Result<Option<Break>, AllocError>
     requires sound { IsSoundFor versions.now reached.old }
     requires older { are_sound older.now ≡ true }
     requires newer { are_sound newer.now ≡ true }
-    ensures { IfOk result (λ b.
-        Decides versions.now reached.old reached.new
-        b (λ pairs. keeps_fields (older_schema versions.now) (schema_in versions.now.newer) pairs
+    ensures decides { IfOk result (λ o.
+        Decides versions.now reached.old reached.new (is_none o)
+        (λ pairs. keeps_fields (older_schema versions.now) (schema_in versions.now.newer) pairs
         (member_count (older_fields versions.now levels node older.now))
         (older_fields versions.now levels node older.now)
         (newer_fields versions.now levels newer.now))) }
+    ensures breaks { IfOk result (λ o.
+        IfSome o (IsBreakOfFields versions.now levels node other older.now newer.now)) }
 {
     let count = member_count(older);
     let mut left = older;
     let mut rest = newer;
     while let [next, more @ ..] = rest {
-        let Some(others) = keeps_next(versions, levels, node, count, left, next, reached)? else {
-            return Ok(false);
-        };
-        left = others;
+        match keeps_next(versions, levels, node, count, left, next, reached)? {
+            Ok(others) => left = others,
+            Err(fault) => {
+                let due = older.len() - left.len();
+                let at = newer.len() - rest.len();
+                let names = &versions.names;
+                return Ok(Some(break_of(names, node, other, left, rest, due, at, fault)));
+            }
+        }
         rest = more;
     }
-    Ok(left.is_empty())
+    if left.is_empty() {
+        return Ok(None);
+    }
+    let rule = Rule::Missing {
+        older: older.len() - left.len(),
+    };
+    Ok(Some(Break {
+        older: node,
+        newer: other,
+        rule,
+    }))
 }
 
-/// What is left of the older fields behind a newer one, which keeps the first of them or is new.
+/// What is left of the older fields behind a newer one, which keeps the first of them or is new; else its fault.
 #[cycle(keeps)]
 fn keeps_next<'f>(
     versions: &Versions<'_>,
@@ -180,28 +271,31 @@ fn keeps_next<'f>(
     left: &'f [FieldRecord],
     next: &FieldRecord,
     reached: &mut Reached,
-) -> Result<Option<&'f [FieldRecord]>, AllocError>
+) -> Result<Result<&'f [FieldRecord], Fault>, AllocError>
     requires sound { IsSoundFor versions.now reached.old }
     requires left { are_sound left.now ≡ true }
     requires next { is_sound_kind (kind_of_field next.now.body) ≡ true }
-    ensures moves { IfOk result (λ o.
+    ensures moves { IfOk result (λ r.
         Moves versions.now levels reached.old reached.new node count left.now next.now
-        (option_copied o)) }
-    ensures left { IfOk result (λ o. IfSome o (λ others. are_sound others.now ≡ true)) }
+        (left_after r)) }
+    ensures passes { IfOk result (λ r. IfOk r (λ others.
+        Passes (names_in versions.now.names) node left.now next.now others.now)) }
+    ensures fault { IfOk result (λ r. IfErr r
+        (IsNextFault versions.now levels node count left.now next.now)) }
 {
     let Some((first, others)) = partner(&versions.names, node, left, next.name.as_str()) else {
         if is_new(count, next) {
-            return Ok(Some(left));
+            return Ok(Ok(left));
         }
-        return Ok(None);
+        return Ok(Err(Fault::Taken));
     };
-    if !keeps_field(versions, levels, first, next, reached)? {
-        return Ok(None);
+    if let Some(fault) = keeps_field(versions, levels, first, next, reached)? {
+        return Ok(Err(fault));
     }
-    Ok(Some(others))
+    Ok(Ok(others))
 }
 
-/// Whether the newer field keeps the older: its value in the union, its place, its type and its default.
+/// Why the newer field does not keep the older: its value in the union, its place, its type or its default.
 #[cycle(keeps)]
 fn keeps_field(
     versions: &Versions<'_>,
@@ -209,25 +303,27 @@ fn keeps_field(
     older: &FieldRecord,
     newer: &FieldRecord,
     reached: &mut Reached,
-) -> Result<bool, AllocError>
+) -> Result<Option<Fault>, AllocError>
     requires sound { IsSoundFor versions.now reached.old }
     requires older { is_sound_kind (kind_of_field older.now.body) ≡ true }
     requires newer { is_sound_kind (kind_of_field newer.now.body) ≡ true }
-    ensures { IfOk result (λ b.
-        Decides versions.now reached.old reached.new
-        b (λ pairs. same_option (member_of older.now.discriminant_value)
+    ensures decides { IfOk result (λ o.
+        Decides versions.now reached.old reached.new (is_none o)
+        (λ pairs. same_option (member_of older.now.discriminant_value)
         (member_of newer.now.discriminant_value)
         && keeps_body (older_schema versions.now) (schema_in versions.now.newer) pairs
         (kept_body versions.now levels older.now.body)
         (newer_body versions.now levels newer.now.body))) }
+    ensures fault { IfOk result (λ o.
+        IfSome o (IsFaultOf versions.now levels older.now newer.now)) }
 {
     if older.discriminant_value != newer.discriminant_value {
-        return Ok(false);
+        return Ok(Some(Fault::Field(FieldRule::Value)));
     }
     keeps_body(versions, levels, &older.body, &newer.body, reached)
 }
 
-/// Whether the newer slot or group keeps the older.
+/// Why the newer slot or group does not keep the older.
 #[cycle(keeps)]
 fn keeps_body(
     versions: &Versions<'_>,
@@ -235,14 +331,16 @@ fn keeps_body(
     older: &FieldBody,
     newer: &FieldBody,
     reached: &mut Reached,
-) -> Result<bool, AllocError>
+) -> Result<Option<Fault>, AllocError>
     requires sound { IsSoundFor versions.now reached.old }
     requires older { is_sound_kind (kind_of_field older.now) ≡ true }
     requires newer { is_sound_kind (kind_of_field newer.now) ≡ true }
-    ensures { IfOk result (λ b.
-        Decides versions.now reached.old reached.new
-        b (λ pairs. keeps_body (older_schema versions.now) (schema_in versions.now.newer) pairs
+    ensures decides { IfOk result (λ o.
+        Decides versions.now reached.old reached.new (is_none o)
+        (λ pairs. keeps_body (older_schema versions.now) (schema_in versions.now.newer) pairs
         (kept_body versions.now levels older.now) (newer_body versions.now levels newer.now))) }
+    ensures fault { IfOk result (λ o.
+        IfSome o (IsBodyFault versions.now levels older.now newer.now)) }
 {
     match older {
         FieldBody::Slot {
@@ -256,19 +354,27 @@ fn keeps_body(
                 default: value,
             } => {
                 let same = same_default(default, value);
-                if !same {
-                    return Ok(false);
+                if !related(versions, *ty, *kind, reached)? {
+                    return Ok(Some(Fault::Field(FieldRule::Type)));
                 }
                 if *offset != *place {
-                    return Ok(false);
+                    return Ok(Some(Fault::Field(FieldRule::Place)));
                 }
-                related(versions, *ty, *kind, reached)
+                if !same {
+                    return Ok(Some(Fault::Field(FieldRule::Default)));
+                }
+                Ok(None)
             }
-            FieldBody::Group { .. } => Ok(false),
+            FieldBody::Group { .. } => Ok(Some(Fault::Field(FieldRule::Kind))),
         },
         FieldBody::Group { node } => match newer {
-            FieldBody::Slot { .. } => Ok(false),
-            FieldBody::Group { node: other } => keeps(versions, levels, *node, *other, reached),
+            FieldBody::Slot { .. } => Ok(Some(Fault::Field(FieldRule::Kind))),
+            FieldBody::Group { node: other } => {
+                match keeps(versions, levels, *node, *other, reached)? {
+                    None => Ok(None),
+                    Some(inner) => Ok(Some(Fault::Inner(inner))),
+                }
+            }
         },
     }
 }

@@ -2,6 +2,8 @@
 #![tactic(auto)]
 
 pub mod admitted;
+pub mod all_breaks;
+pub mod breaks;
 pub mod compatible;
 mod defaults;
 mod extended;

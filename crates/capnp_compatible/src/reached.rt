@@ -50,6 +50,26 @@ impl Reached {
         Ok(())
     }
 
+    /// Reaches the pairs of structs that another walk reached.
+    pub(crate) fn reach_all(&mut self, others: &Reached) -> Result<(), AllocError>
+        ensures pairs { IfOk result (λ _.
+            (o n : Schema) → IsSound o n self.old → (pairs : Pairs)
+            → (has_each pairs (pairs_of self.old) && has_each pairs (pairs_of others.now))
+            ≡ has_each pairs (pairs_of self.new)) }
+        ensures sound { IfOk result (λ _.
+            (o n : Schema) → IsSound o n self.old → IsSound o n self.new) }
+        ensures grows { IfOk result (λ _. IsFront (pairs_of self.old) (pairs_of self.new)) }
+    {
+        for k in 0..usize::MAX {
+            let Some((a, b)) = others.pair(k) else {
+                return Ok(());
+            };
+            self.reach(a, b)?;
+        }
+        // No memory holds so many pairs.
+        Err(AllocError)
+    }
+
     /// The pair of structs of a number, in the order in which they were reached.
     pub(crate) fn pair(&self, i: usize) -> Option<(u64, u64)>
         ensures { result ≡ slice_get (pairs_of self.now) i }

@@ -1,12 +1,13 @@
 //! Related types: equal but for enums and structs, which are versions of one another.
 
-ghost use Rattle.std.specs.Prelude.{◌≡◌, ◌==◌, ◌&&◌, IfOk};
+ghost use Rattle.std.specs.Prelude.{◌≡◌, false, ◌==◌, ◌&&◌, IfOk};
 ghost use Rattle.capnp_model.specs.Schemas.{base_type, type_of};
 ghost use Rattle.capnp_model.specs.Compatible.{related, same_names};
 ghost use Rattle.capnp_records.specs.NodeViews.{base_of, type_record_of};
 ghost use Rattle.capnp_compatible.specs.Types.{sort, bits, id_in};
 ghost use Rattle.capnp_compatible.specs.Holders.{schema_in};
 ghost use Rattle.capnp_compatible.specs.Walks.{IsSoundFor, Decides, older_schema};
+ghost use Rattle.capnp_compatible.specs.Breaks.{AreUnrelated};
 
 use crate::keeps::Versions;
 use crate::reached::{Reached, same_names};
@@ -65,10 +66,13 @@ fn related_enums(
     reached: &mut Reached,
 ) -> Result<bool, AllocError>
     requires sound { IsSoundFor versions.now reached.old }
-    ensures { IfOk result (λ b.
+    ensures decides { IfOk result (λ b.
         Decides versions.now reached.old reached.new
         b (λ _. same_names ((schema_in versions.now.older).names_of older)
         ((schema_in versions.now.newer).names_of newer))) }
+    ensures never { IfOk result (λ b. b ≡ false
+        → same_names ((schema_in versions.now.older).names_of older)
+        ((schema_in versions.now.newer).names_of newer) ≡ false) }
 {
     if reached.knows(older, newer) {
         return Ok(true);
@@ -91,11 +95,13 @@ fn related_bases(
     reached: &mut Reached,
 ) -> Result<bool, AllocError>
     requires sound { IsSoundFor versions.now reached.old }
-    ensures { IfOk result (λ b.
+    ensures decides { IfOk result (λ b.
         Decides versions.now reached.old reached.new
         b (λ pairs.
         related (older_schema versions.now) (schema_in versions.now.newer) pairs
         (base_type (base_of older)) (base_type (base_of newer)))) }
+    ensures never { IfOk result (λ b. b ≡ false → AreUnrelated (older_schema versions.now)
+        (schema_in versions.now.newer) (base_type (base_of older)) (base_type (base_of newer))) }
 {
     if !same_sort(older, newer) {
         return Ok(false);
@@ -133,11 +139,13 @@ pub(crate) fn related(
     reached: &mut Reached,
 ) -> Result<bool, AllocError>
     requires sound { IsSoundFor versions.now reached.old }
-    ensures { IfOk result (λ b.
+    ensures decides { IfOk result (λ b.
         Decides versions.now reached.old reached.new
         b (λ pairs.
         related (older_schema versions.now) (schema_in versions.now.newer) pairs
         (type_of (type_record_of older)) (type_of (type_record_of newer)))) }
+    ensures never { IfOk result (λ b. b ≡ false → AreUnrelated (older_schema versions.now)
+        (schema_in versions.now.newer) (type_of (type_record_of older)) (type_of (type_record_of newer))) }
 {
     if older.list_count != newer.list_count {
         return Ok(false);

@@ -3,13 +3,15 @@ use Rattle.std.specs.Prelude.{◌≡◌, Bool, List}
 use Rattle.capnp_model.specs.Trees.{Tree}
 use Rattle.capnp_model.specs.Calls.{Call}
 use Rattle.capnp_model.specs.Projection.{projected}
-use Rattle.capnp_model.specs.Partners.{Renaming}
+use Rattle.capnp_model.specs.Partners.{Renaming, renamed}
 use Rattle.capnp_model.specs.Compatible.{IsCompatible, IsCompatibleWith}
 use Rattle.capnp_model.specs.Admitted.{is_admitted, is_admitted_with}
 use Rattle.capnp_versions.specs.RenamedViews.{projected_with}
 use Rattle.capnp_queries.specs.Structs.{schema_around, id_of}
 use Rattle.capnp_queries.specs.declared.structs.StructSchema.{StructSchema}
 use Rattle.capnp_calls.specs.Roots.{record_at}
+use Rattle.capnp_compatible.specs.declared.breaks.Break.{Break}
+use Rattle.capnp_compatible.specs.Breaks.{BreaksFrom}
 
 -- The newer schema is compatible with the older.
 abbrev pub AreVersions : StructSchema → StructSchema → Type 0
@@ -18,6 +20,10 @@ AreVersions older newer = IsCompatible (schema_around older) (schema_around newe
 -- The same with renamed fields.
 abbrev pub AreVersionsWith : List Renaming → StructSchema → StructSchema → Type 0
 AreVersionsWith rs older newer = IsCompatibleWith rs (schema_around older) (schema_around newer) (id_of older) (id_of newer)
+
+-- What breaks the compatibility, where fields are renamed.
+abbrev pub IsBreakBetween : List Renaming → StructSchema → StructSchema → Break → Type 0
+IsBreakBetween rs older newer b = BreaksFrom (renamed rs (schema_around older)) (schema_around newer) (id_of older) (id_of newer) b
 
 -- The older record of each value is the older view of its newer record.
 abbrev pub ReadsAsOlder : StructSchema → StructSchema → Type 0

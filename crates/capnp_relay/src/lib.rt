@@ -6,13 +6,14 @@ pub mod runs;
 pub mod versions;
 
 pub use crate::runs::run;
-pub use crate::versions::{admitted, admitted_with, compatible, compatible_with};
+pub use crate::versions::{admitted, admitted_with, compatible, compatible_with, first_break};
 pub use capnp_between::between::{
     BetweenFault, relay_between, relay_between_pausing, relay_between_with,
 };
 pub use capnp_calls::reply::Reply;
 pub use capnp_calls::{Action, Call, CallFault, CallValue, SlotValue, Step, Verb};
 pub use capnp_compatible::admitted::Admission;
+pub use capnp_compatible::breaks::{Break, FieldRule, Rule};
 pub use capnp_compatible::renamings::{Renaming, RenamingFault, Renamings};
 pub use capnp_files::calls_file::{CallsFile, calls_file};
 pub use capnp_files::fault::FileFault;

@@ -1,5 +1,5 @@
 //! Versions of a schema, from the structs at their roots on.
-ghost use Rattle.std.specs.Prelude.{◌≡◌, true, map, IfOk, IfErr};
+ghost use Rattle.std.specs.Prelude.{◌≡◌, true, map, is_none, IfOk, IfErr, IfSome};
 ghost use Rattle.std.specs.Bool.{MatchBool};
 ghost use Rattle.capnp_units.specs.declared.kinds.ErrorKind.TheVariants.{OutOfMemory};
 ghost use Rattle.capnp_records.specs.Sets.{nodes_of};
@@ -7,10 +7,11 @@ ghost use Rattle.capnp_queries.specs.Structs.{nodes_around, id_of};
 ghost use Rattle.capnp_calls.specs.CallViews.{call_view};
 ghost use Rattle.capnp_compatible.specs.Renamed.{renamings_of};
 ghost use Rattle.capnp_compatible.specs.Ways.{IsAdmissionOf};
-ghost use Rattle.capnp_relay.specs.Versions.{AreVersions, AreVersionsWith, ReadsAsOlder, ReadsAsOlderWith, is_admitted_beside, is_admitted_beside_with};
+ghost use Rattle.capnp_relay.specs.Versions.{AreVersions, AreVersionsWith, IsBreakBetween, ReadsAsOlder, ReadsAsOlderWith, is_admitted_beside, is_admitted_beside_with};
 
 use capnp_calls::Call;
 use capnp_compatible::admitted::Admission;
+use capnp_compatible::breaks::Break;
 use capnp_compatible::renamings::Renamings;
 use capnp_compatible::root::Root;
 use capnp_compatible::{admitted as admissions, compatible as versions};
@@ -54,6 +55,23 @@ pub fn compatible_with(
     ensures refusal { IfErr result (λ e. e.kind ≡ OutOfMemory) }
 {
     versions::compatible_with(alloc, root_of(older), root_of(newer), renamings)
+}
+
+/// What breaks first where `compatible_with` says no, and `None` where it says yes: two nodes that are reached, a struct or a group of each schema, and a rule that they break. Fields are told by their index among those of their node. `OutOfMemory` is the one error.
+pub fn first_break(
+    alloc: Global,
+    older: StructSchema<'_>,
+    newer: StructSchema<'_>,
+    renamings: &Renamings,
+) -> Result<Option<Break>>
+    ensures answer { let rs = renamings_of renamings.now in
+        IfOk result (λ o. MatchBool (is_none o) (AreVersionsWith rs older.entry newer.entry)
+        (AreVersionsWith rs older.entry newer.entry → ⊥)) }
+    ensures breaks { IfOk result (λ o.
+        IfSome o (IsBreakBetween (renamings_of renamings.now) older.entry newer.entry)) }
+    ensures refusal { IfErr result (λ e. e.kind ≡ OutOfMemory) }
+{
+    versions::first_break(alloc, root_of(older), root_of(newer), renamings)
 }
 
 /// Whether each call under the older schema is admitted beside the newer, else which is the first that isn't, counted from 1. A call that is admitted goes by fields that the older has, writes no group as a whole that the newer extends, and sets no list element of struct type. Takes time linear in the steps of the calls times the fields of the structs on their ways, and of the groups that they write. `OutOfMemory` is the one error.

@@ -4,6 +4,7 @@
 #![tactic(auto)]
 
 mod answers;
+mod breaks;
 mod case;
 mod given;
 mod plain;
@@ -28,6 +29,7 @@ fn answer(alloc: Global, call: &str, case: &Case) -> Result<String, Fault> {
     match call {
         "show" => answers::shown(alloc, case),
         "compatible" => answers::compatibility(alloc, case),
+        "first_break" => breaks::first(alloc, case),
         "admitted" => answers::admission(alloc, case),
         "calls" => answers::made_calls(alloc, case),
         "schema_file" => answers::schema_text(alloc, case),

@@ -3,6 +3,7 @@ use Rattle.capnp_model.specs.Compatible.{Pairs, keeps_fields, member_count}
 use Rattle.capnp_compatible.specs.Holders.{schema_in, are_sound}
 use Rattle.capnp_compatible.specs.Pairs.{has_each, pairs_of, IsFront}
 use Rattle.capnp_compatible.specs.Walks.{IsSoundFor, older_schema, older_fields, newer_fields}
+use Rattle.capnp_compatible.proofs.Stops.{Stands}
 use Rattle.capnp_compatible.proofs.keeps.+keeps.Given as goal
 
 abbrev pub decreases-keeps : goal.decreases-keeps
@@ -27,6 +28,7 @@ invariant-keeps_fields-loop-rest l = record {
   grows : IsFront (pairs_of l.fn.reached) (pairs_of l.reached);
   left_sound : are_sound l.left ≡ true;
   rest_sound : are_sound l.rest ≡ true;
+  stands : Stands l.fn.versions l.fn.levels l.fn.node l.fn.older l.fn.newer l.left l.rest;
   tested : (pairs : Pairs)
       → (has_each pairs (pairs_of l.fn.reached) && keeps_fields (older_schema l.fn.versions) (schema_in l.fn.versions.newer) pairs (member_count (older_fields l.fn.versions l.fn.levels l.fn.node l.fn.older)) (older_fields l.fn.versions l.fn.levels l.fn.node l.fn.older) (newer_fields l.fn.versions l.fn.levels l.fn.newer))
       ≡ (has_each pairs (pairs_of l.reached) && keeps_fields (older_schema l.fn.versions) (schema_in l.fn.versions.newer) pairs (member_count (older_fields l.fn.versions l.fn.levels l.fn.node l.fn.older)) (older_fields l.fn.versions l.fn.levels l.fn.node l.left) (newer_fields l.fn.versions l.fn.levels l.rest));
