@@ -24,7 +24,7 @@ pub enum Fault {
     /// The log refused a line.
     #[error("log")]
     Log,
-    /// A growth was refused, by the system or since the words of one message in memory, those that calls abandon among them, would pass 2^29 - 1; or a value has more than 1,024 levels, where more are allowed.
+    /// A growth was refused, by the system or since the words of one message in memory, those that calls abandon among them, would pass 2^29 - 1; or a value has more than 1,024 levels, where more are allowed; or a `get` would print more than 1,024 structs, groups and lists in one another.
     #[error("memory")]
     Memory,
     /// A call puts a text, data or list that is too long for a message, a message in the plain form has more than 511 segments, or the number of a message would pass its bound.
