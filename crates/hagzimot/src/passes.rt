@@ -227,6 +227,10 @@ fn pass_all(
 ) -> Result<u8, Failure> {
     let named = matches.get_str("output");
     let refused = words::refused_name(matches);
+    if refused.is_some() && refused == named {
+        let why = "the output has this name too";
+        return Err(Failure::about(rt.alloc(), "--refused", &why));
+    }
     match pass_inputs(rt, matches, task, lines) {
         Ok(skipped) => {
             files::keep(rt, refused)?;
