@@ -5,7 +5,10 @@
 Each block of the document that begins with ```console is a walk of commands: a line '$ COMMAND' and what the command prints, standard output before standard error. A command is `hagzimot` with its words, `cat FILE` or a pipe
 of such commands; its files are those of crates/hagzimot/data, and what it writes lies beside them in a folder of its own. A last line '[status N]' tells a status that isn't 0. A command whose output differs is shown, and the
 status is 1. Nothing is written below the repository.
+
+Then `hagzimot schema` is run on each request of crates/capnp_request_cases/data, and what it prints is compared, node by node, with the schema file that independent software made of it.
 """
+import json
 import pathlib
 import re
 import shlex
@@ -18,6 +21,9 @@ TOP = pathlib.Path(__file__).resolve().parent.parent
 DOCUMENT = TOP / "docs" / "TOOL.md"
 DATA = TOP / "crates" / "hagzimot" / "data"
 PROGRAM = TOP / "crates" / "hagzimot" / "out" / "hagzimot"
+REQUESTS = TOP / "crates" / "capnp_request_cases" / "data"
+# What floats become with --floats-as-bits.
+AS_BITS = {"Float32": "UInt32", "Float64": "UInt64"}
 BLOCK = re.compile(r"^```console\n(.*?)^```$", re.MULTILINE | re.DOTALL)
 ALLOWED = ("hagzimot", "cat", "ls", "xxd")
 
@@ -61,6 +67,44 @@ def said_by(command, folder, program):
     return lines
 
 
+def type_as_bits(told):
+    """A type of a schema file, with whole numbers in place of floats."""
+    if isinstance(told, str):
+        return AS_BITS.get(told, told)
+    return {key: type_as_bits(value) if key == "list" else value for key, value in told.items()}
+
+
+def without_absent(keys, absent):
+    """The keys of a node or a field, but for those whose values mean the same as none."""
+    return {key: value for key, value in keys.items() if key not in absent or value not in absent[key]}
+
+
+def nodes_by_id(text):
+    """What a schema file says of each node."""
+    nodes = {}
+    for node in json.loads(text):
+        node = without_absent(node, {"union": (0,), "group": (False,)})
+        for at, field in enumerate(node.get("fields", [])):
+            field = without_absent(field, {"default": (0, False)})
+            if "type" in field:
+                field["type"] = type_as_bits(field["type"])
+            node["fields"][at] = field
+        nodes[node["id"]] = node
+    return nodes
+
+
+def differing_requests(program):
+    """How many requests there are, and the names of those whose schema isn't what independent software made of them."""
+    names = sorted(path.stem for path in REQUESTS.glob("*.request"))
+    differing = []
+    for name in names:
+        run = subprocess.run([program, "schema", "--floats-as-bits", REQUESTS / f"{name}.request"], capture_output=True, timeout=120, check=False)
+        wanted = nodes_by_id((REQUESTS / f"{name}.json").read_bytes())
+        if run.returncode != 0 or nodes_by_id(run.stdout) != wanted:
+            differing.append(name)
+    return len(names), differing
+
+
 def main():
     program = pathlib.Path(sys.argv[1]).resolve() if len(sys.argv) > 1 else PROGRAM
     if not program.exists():
@@ -80,8 +124,13 @@ def main():
             if got != wanted:
                 differing += 1
                 print(f"$ {command}\n--- docs/TOOL.md\n" + "\n".join(wanted) + "\n--- printed\n" + "\n".join(got) + "\n")
-    print(f"tool walk: {len(walks)} commands, {differing} differ")
-    return 1 if differing else 0
+    requests, others = differing_requests(program)
+    for name in others:
+        print(f"the schema of {name}.request differs from {name}.json")
+    if not requests:
+        raise SystemExit(f"{REQUESTS} has no requests")
+    print(f"tool walk: {len(walks)} commands, {differing} differ; {requests} requests, {len(others)} differ")
+    return 1 if differing or others else 0
 
 
 if __name__ == "__main__":

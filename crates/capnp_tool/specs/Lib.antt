@@ -1,3 +1,4 @@
 pub mod Copies
 pub mod Answers
 pub mod Shown
+pub mod SchemaForms

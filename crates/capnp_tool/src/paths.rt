@@ -1,5 +1,5 @@
 //! Where paths lead under a schema, told before any message is read.
-ghost use Rattle.std.specs.Prelude.{◌≡◌, map, IfSome};
+ghost use Rattle.std.specs.Prelude.{◌≡◌, ◌≢◌, map, All, IfSome, IfNone};
 ghost use Rattle.capnp_model.specs.Accepted.{enumerants_of_kind};
 ghost use Rattle.capnp_records.specs.NodeViews.{enumerant_of, node_kind};
 
@@ -79,7 +79,8 @@ impl Display for Misstep {
 
 /// The node of an id.
 pub fn node_of_id(nodes: &[NodeRecord], id: u64) -> Option<&NodeRecord>
-    ensures { IfSome result (λ node. node.now.id ≡ id) }
+    ensures found { IfSome result (λ node. node.now.id ≡ id) }
+    ensures none { IfNone result (All (λ node. node.id ≢ id) nodes.now) }
 {
     nodes.iter().find(|node| node.id == id)
 }

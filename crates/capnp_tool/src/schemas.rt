@@ -2,8 +2,9 @@
 ghost use Rattle.std.specs.Prelude.{◌≡◌, true, map, Some, IfOk, IfSome};
 ghost use Rattle.capnp_records.specs.NodeViews.{node_of};
 ghost use Rattle.capnp_records.specs.Sets.{nodes_of, IsStructOf};
-ghost use Rattle.capnp_files.specs.SchemaFiles.{schema_in};
+ghost use Rattle.capnp_tool.specs.SchemaForms.{is_request, nodes_told};
 
+use crate::paths::node_of_id;
 use crate::rules::rule_text;
 use capnp_files::fault::FileFault;
 use capnp_files::schema_file::schema_file;
@@ -14,6 +15,8 @@ use capnp_records::laws::struct_is_named;
 use capnp_records::node::{NodeBody, NodeRecord};
 use capnp_records::raw::RawBrandedStructSchema;
 use capnp_records::set::SchemaSet;
+use capnp_requests::fault::{Part, RequestFault, Spot};
+use capnp_requests::request::{Floats, request_file};
 use serde_json::Value as Json;
 use std::alloc::{AllocError, Global};
 use std::fmt;
@@ -26,6 +29,13 @@ pub enum SchemaTrouble {
     Json(serde_json::Error),
     /// It is JSON, but no array of nodes.
     Form,
+    /// It is a request of the compiler that can't be read.
+    Request(RequestFault),
+    /// It is a request of the compiler with a float: the node that has it, and the field or enumerant, if it isn't the node itself.
+    Float {
+        node: String,
+        member: Option<String>,
+    },
     /// The nodes break a rule; the name of the first node that does, and its place, counted from 0.
     Rule {
         rule: u32,
@@ -52,6 +62,14 @@ impl Display for SchemaTrouble {
                 f,
                 "JSON, but no array of nodes: compare it with docs/FILES.md"
             ),
+            SchemaTrouble::Request(fault) => write!(f, "no request of the compiler: {fault}"),
+            SchemaTrouble::Float { node, member } => {
+                write!(f, "{node} has a float")?;
+                if let Some(member) = member {
+                    write!(f, " at \"{member}\"")?;
+                }
+                f.write_str("; --floats-as-bits takes it as the whole number of its bits")
+            }
             SchemaTrouble::Rule { rule, node, name } => {
                 let says = rule_text(*rule);
                 write!(f, "node {node} (\"{name}\") breaks rule {rule}: {says}")
@@ -70,10 +88,85 @@ fn json_trouble(alloc: Global, bytes: &[u8]) -> SchemaTrouble {
     }
 }
 
-/// The nodes that a file tells: a JSON schema file.
-pub fn read_nodes(alloc: Global, bytes: &[u8]) -> Result<Vec<NodeRecord>, SchemaTrouble>
-    ensures { IfOk result (λ nodes. schema_in bytes.now ≡ Some (map node_of nodes.items)) }
+/// Whether a file is a request of the compiler and no JSON.
+fn is_request(bytes: &[u8]) -> bool
+    ensures { result ≡ is_request bytes.now }
 {
+    match bytes {
+        [_, _, _, last, ..] => *last == 0,
+        _ => false,
+    }
+}
+
+/// The name of the member of an index.
+fn member_name(alloc: Global, node: &NodeRecord, index: u32) -> Result<Option<String>, AllocError> {
+    let index = index as usize;
+    let name = match &node.body {
+        NodeBody::Struct(body) => match body.fields.get(index) {
+            Some(field) => field.name.as_str(),
+            None => return Ok(None),
+        },
+        NodeBody::Enum(enumerants) => match enumerants.get(index) {
+            Some(enumerant) => enumerant.name.as_str(),
+            None => return Ok(None),
+        },
+    };
+    Ok(Some(String::from_str(alloc, name)?))
+}
+
+/// What is said of the float at a place of a request, whose names are read with floats as bits.
+fn float_trouble(
+    alloc: Global,
+    bytes: &[u8],
+    spot: Spot,
+    fault: RequestFault,
+) -> Result<SchemaTrouble, AllocError> {
+    let Ok(requested) = request_file(alloc, bytes, Floats::AsBits) else {
+        return Ok(SchemaTrouble::Request(fault));
+    };
+    let id = match spot {
+        Spot::Node { node } | Spot::Member { node, .. } => node,
+    };
+    let Some(node) = node_of_id(&requested.nodes, id) else {
+        return Ok(SchemaTrouble::Request(fault));
+    };
+    let member = match spot {
+        Spot::Node { .. } => None,
+        Spot::Member { index, .. } => member_name(alloc, node, index)?,
+    };
+    let node = String::from_str(alloc, node.display_name.as_str())?;
+    Ok(SchemaTrouble::Float { node, member })
+}
+
+/// Why a request isn't read.
+fn request_trouble(alloc: Global, bytes: &[u8], fault: RequestFault) -> SchemaTrouble {
+    match fault {
+        RequestFault::Memory => SchemaTrouble::Memory,
+        RequestFault::Unread {
+            spot,
+            part: Part::Float,
+        } => match float_trouble(alloc, bytes, spot, fault) {
+            Ok(trouble) => trouble,
+            Err(_) => SchemaTrouble::Memory,
+        },
+        fault => SchemaTrouble::Request(fault),
+    }
+}
+
+/// The nodes that a file tells: a request of the compiler, which `capnp compile -o-` writes, or a JSON schema file.
+pub fn read_nodes(
+    alloc: Global,
+    bytes: &[u8],
+    floats: Floats,
+) -> Result<Vec<NodeRecord>, SchemaTrouble>
+    ensures { IfOk result (λ nodes. nodes_told floats bytes.now ≡ Some (map node_of nodes.items)) }
+{
+    if is_request(bytes) {
+        return match request_file(alloc, bytes, floats) {
+            Ok(requested) => Ok(requested.nodes),
+            Err(fault) => Err(request_trouble(alloc, bytes, fault)),
+        };
+    }
     match schema_file(alloc, bytes) {
         Ok(nodes) => Ok(nodes),
         Err(FileFault::Memory) => Err(SchemaTrouble::Memory),
@@ -90,15 +183,15 @@ fn name_at(alloc: Global, nodes: &[NodeRecord], place: usize) -> Result<String, 
 }
 
 /// The set of the nodes that a file tells, which keep all rules.
-pub fn read_set(alloc: Global, bytes: &[u8]) -> Result<SchemaSet, SchemaTrouble>
-    ensures { IfOk result (λ set. schema_in bytes.now ≡ Some (nodes_of set)) }
+pub fn read_set(alloc: Global, bytes: &[u8], floats: Floats) -> Result<SchemaSet, SchemaTrouble>
+    ensures { IfOk result (λ set. nodes_told floats bytes.now ≡ Some (nodes_of set)) }
 {
-    let nodes = read_nodes(alloc, bytes)?;
+    let nodes = read_nodes(alloc, bytes, floats)?;
     match SchemaSet::new(nodes) {
         Ok(set) => Ok(set),
         Err(SchemaFault::Memory) => Err(SchemaTrouble::Memory),
         Err(SchemaFault::Rule { rule, node }) => {
-            let again = read_nodes(alloc, bytes)?;
+            let again = read_nodes(alloc, bytes, floats)?;
             let name = name_at(alloc, &again, node)?;
             Err(SchemaTrouble::Rule { rule, node, name })
         }
@@ -122,6 +215,14 @@ fn is_named(node: &NodeRecord, name: &str) -> bool {
         Some((_, last)) => last == name,
         None => false,
     }
+}
+
+/// The id that decimal digits spell, without a sign.
+fn id_of_digits(word: &str) -> Option<u64> {
+    if word.starts_with('+') {
+        return None;
+    }
+    word.parse::<u64>().ok()
 }
 
 /// The id of the first struct that is no group and has a name.
@@ -149,17 +250,22 @@ impl RootedSchema {
     ghost use Rattle.capnp_records.specs.Sets.{nodes_of};
     ghost use Rattle.capnp_queries.specs.Structs.{nodes_around};
     ghost use Rattle.capnp_calls.specs.Roots.{IsRoot};
-    ghost use Rattle.capnp_files.specs.SchemaFiles.{schema_in};
+    ghost use Rattle.capnp_tool.specs.SchemaForms.{nodes_told};
 
     /// The schema that a file tells, with the struct of this name, or of this id in decimal digits, as root.
-    pub fn new(alloc: Global, bytes: &[u8], root: &str) -> Result<RootedSchema, SchemaTrouble>
-        ensures { IfOk result (λ s. schema_in bytes.now ≡ Some (nodes_of s.set)) }
+    pub fn new(
+        alloc: Global,
+        bytes: &[u8],
+        floats: Floats,
+        root: &str,
+    ) -> Result<RootedSchema, SchemaTrouble>
+        ensures { IfOk result (λ s. nodes_told floats bytes.now ≡ Some (nodes_of s.set)) }
     {
-        let set = read_set(alloc, bytes)?;
+        let set = read_set(alloc, bytes, floats)?;
         struct_is_named();
         let id = match id_of_name(set.nodes(), root) {
             Some(id) => Some(id),
-            None => root.parse::<u64>().ok(),
+            None => id_of_digits(root),
         };
         let found = match id {
             Some(id) => set.struct_by_id(id),

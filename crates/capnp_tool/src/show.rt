@@ -6,6 +6,7 @@ ghost use Rattle.capnp_stream.specs.Writing.{AreWritable};
 ghost use Rattle.capnp_show.specs.Answers.{shown_by};
 ghost use Rattle.capnp_tool.specs.Shown.{IsNotShown};
 
+use crate::json_show::json_of_segments;
 use capnp_io::traits::{BufRead, Read, Write};
 use capnp_loop::ends::Fault;
 use capnp_loop::pauses::Pause;
@@ -21,6 +22,17 @@ use capnp_writing::messages::write_message_segments_to_words;
 use std::alloc::Global;
 use std::fmt::Write as _;
 
+/// How messages are shown.
+#[derive(Clone, Copy, Debug, PartialEq, Eq)]
+pub enum ShowForm {
+    /// As text.
+    Text,
+    /// As JSON.
+    Json,
+    /// They are counted alone.
+    Count,
+}
+
 /// Which messages of a stream are shown, counted from 1, and how.
 #[derive(Clone, Copy, Debug, PartialEq, Eq)]
 pub struct Chosen {
@@ -28,8 +40,7 @@ pub struct Chosen {
     pub first: u64,
     /// The last that is read.
     pub last: u64,
-    /// Whether they are counted alone.
-    pub count_alone: bool,
+    pub form: ShowForm,
 }
 
 /// How many messages were shown, or counted, and how many could not be shown.
@@ -105,6 +116,17 @@ struct Shower<'a> {
 }
 
 impl Shower<'_> {
+    /// What a message is shown as.
+    fn text_of<S: ReaderSegments>(&self, segments: &S) -> Result<Vec<u8>, ShowFault>
+        requires { AreWritable (S.segments segments.now) }
+    {
+        if self.chosen.form == ShowForm::Json {
+            let json = json_of_segments(self.alloc, segments, self.root, self.options)?;
+            return Ok(json.into_bytes());
+        }
+        text_of_segments(self.alloc, segments, self.root, self.options)
+    }
+
     /// Writes the text of a message of this number, and a line feed; or a line to the log, where it can't be shown.
     fn put_text<S: ReaderSegments, W: Write, L: Write>(
         &mut self,
@@ -115,7 +137,7 @@ impl Shower<'_> {
     ) -> Result<(), Fault>
         requires { AreWritable (S.segments segments.now) }
     {
-        match text_of_segments(self.alloc, segments, self.root, self.options) {
+        match self.text_of(segments) {
             Ok(text) => {
                 put(out, &text, Fault::Out)?;
                 put(out, b"\n", Fault::Out)?;
@@ -150,7 +172,7 @@ impl Shower<'_> {
         if number < self.chosen.first {
             return Ok(true);
         }
-        if self.chosen.count_alone {
+        if self.chosen.form == ShowForm::Count {
             self.counts.shown = self.counts.shown.saturating_add(1);
             return Ok(true);
         }

@@ -66,7 +66,29 @@ fn log<'a>(alloc: Global) -> Arg<'a> {
         .help("Which messages get a line on standard error")
 }
 
-static LOGS: [&str; 3] = ["lines", "refused", "none"];
+static LOGS: [&str; 4] = ["lines", "refused", "json", "none"];
+
+/// What is done at a message that is skipped.
+fn on_refused<'a>(alloc: Global) -> Arg<'a> {
+    Arg::new(alloc, "on-refused")
+        .long("on-refused")
+        .value_name("WHAT")
+        .value_parser(ON_REFUSED.as_slice())
+        .default_value("skip")
+        .help(
+            "Goes on behind a message that is skipped, or stops there: what was written before stands, and the status is 3",
+        )
+}
+
+static ON_REFUSED: [&str; 2] = ["skip", "stop"];
+
+/// The file of messages that are skipped.
+fn refused<'a>(alloc: Global) -> Arg<'a> {
+    Arg::new(alloc, "refused")
+        .long("refused")
+        .value_name("FILE")
+        .help("Writes the messages that are skipped to FILE, as they came")
+}
 
 fn convert<'a>(alloc: Global) -> Result<Command<'a>, AllocError> {
     Command::new(alloc, "convert")
@@ -87,6 +109,8 @@ fn canonical<'a>(alloc: Global) -> Result<Command<'a>, AllocError> {
         .arg(form(alloc, "out", "The form of the output"))?
         .arg(limit_of_words(alloc))?
         .arg(nesting(alloc))?
+        .arg(on_refused(alloc))?
+        .arg(refused(alloc))?
         .arg(log(alloc))?
         .arg(output(alloc))?
         .arg(files(alloc))
@@ -98,7 +122,20 @@ fn schema<'a>(alloc: Global) -> Arg<'a> {
         .long("schema")
         .value_name("SCHEMA")
         .required(true)
-        .help("The schema: a JSON file of nodes")
+        .help(SCHEMA_HELP)
+}
+
+/// What a schema file is.
+static SCHEMA_HELP: &str = "The schema: what capnp compile -o- writes, or a JSON file of nodes";
+
+/// Floats as the whole numbers of their bits.
+fn floats_as_bits<'a>(alloc: Global) -> Arg<'a> {
+    Arg::new(alloc, "floats-as-bits")
+        .long("floats-as-bits")
+        .action(ArgAction::SetTrue)
+        .help(
+            "Takes fields of the types Float32 and Float64 in what the compiler wrote as the whole numbers of their bits",
+        )
 }
 
 /// The struct at the root of messages.
@@ -141,6 +178,7 @@ fn show<'a>(alloc: Global) -> Result<Command<'a>, AllocError> {
     Command::new(alloc, "show")
         .about("Prints each message as text, one a line")
         .arg(schema(alloc))?
+        .arg(floats_as_bits(alloc))?
         .arg(root(alloc))?
         .arg(form(alloc, "in", "The form of the input"))?
         .arg(number(
@@ -155,6 +193,12 @@ fn show<'a>(alloc: Global) -> Result<Command<'a>, AllocError> {
                 .action(ArgAction::SetTrue)
                 .help("Prints how many these messages are alone"),
         )?
+        .arg(
+            Arg::new(alloc, "json")
+                .long("json")
+                .action(ArgAction::SetTrue)
+                .help("Prints each message as a JSON object, one a line"),
+        )?
         .arg(limit_of_words(alloc))?
         .arg(nesting(alloc))?
         .arg(files(alloc))
@@ -165,12 +209,15 @@ fn check<'a>(alloc: Global) -> Result<Command<'a>, AllocError> {
         .about(
             "Says whether a schema keeps the twelve rules of schemas, or which node breaks which",
         )
-        .arg(file(
-            alloc,
-            "schema",
-            "SCHEMA",
-            "The schema: a JSON file of nodes",
-        ))
+        .arg(file(alloc, "schema", "SCHEMA", SCHEMA_HELP))?
+        .arg(floats_as_bits(alloc))
+}
+
+fn schema_file<'a>(alloc: Global) -> Result<Command<'a>, AllocError> {
+    Command::new(alloc, "schema")
+        .about("Prints a schema as a JSON file of nodes, which is taken wherever a schema is")
+        .arg(file(alloc, "schema", "SCHEMA", SCHEMA_HELP))?
+        .arg(floats_as_bits(alloc))
 }
 
 fn compatible<'a>(alloc: Global) -> Result<Command<'a>, AllocError> {
@@ -180,6 +227,7 @@ fn compatible<'a>(alloc: Global) -> Result<Command<'a>, AllocError> {
         )
         .arg(file(alloc, "older", "OLD", "The older schema"))?
         .arg(file(alloc, "newer", "NEW", "The newer schema"))?
+        .arg(floats_as_bits(alloc))?
         .arg(root(alloc))?
         .arg(renames(alloc))
 }
@@ -194,13 +242,9 @@ fn call<'a>(alloc: Global, id: &'a str, value_name: &'a str, help: &'a str) -> A
         .help(help)
 }
 
-fn relay<'a>(alloc: Global) -> Result<Command<'a>, AllocError> {
-    Command::new(alloc, "relay")
-        .about(
-            "Edits each message and writes it; calls run in the order in which they stand, those of a file first",
-        )
-        .arg(schema(alloc))?
-        .arg(root(alloc))?
+/// The words that make calls.
+fn with_calls<'a>(alloc: Global, command: Command<'a>) -> Result<Command<'a>, AllocError> {
+    command
         .arg(
             Arg::new(alloc, "calls")
                 .long("calls")
@@ -229,7 +273,30 @@ fn relay<'a>(alloc: Global) -> Result<Command<'a>, AllocError> {
                 .help(
                     "Takes calls that no message could take; each then tells so in its line of the log",
                 ),
+        )
+}
+
+/// The words of a newer schema.
+fn with_newer<'a>(alloc: Global, command: Command<'a>) -> Result<Command<'a>, AllocError> {
+    command
+        .arg(
+            Arg::new(alloc, "newer")
+                .long("newer")
+                .value_name("SCHEMA")
+                .help("The newer schema under which messages are written and read"),
         )?
+        .arg(renames(alloc).requires_arg("newer")?)
+}
+
+fn relay<'a>(alloc: Global) -> Result<Command<'a>, AllocError> {
+    let command = Command::new(alloc, "relay")
+        .about(
+            "Edits each message and writes it; calls run in the order in which they stand, those of a file first",
+        )
+        .arg(schema(alloc))?
+        .arg(floats_as_bits(alloc))?
+        .arg(root(alloc))?;
+    let command = with_calls(alloc, command)?
         .arg(form(alloc, "in", "The form of the input"))?
         .arg(form(alloc, "out", "The form of the output"))?
         .arg(
@@ -237,16 +304,12 @@ fn relay<'a>(alloc: Global) -> Result<Command<'a>, AllocError> {
                 .long("plain")
                 .action(ArgAction::SetTrue)
                 .help("Writes messages as they were built, not in canonical form"),
-        )?
-        .arg(
-            Arg::new(alloc, "newer")
-                .long("newer")
-                .value_name("SCHEMA")
-                .help("The newer schema under which messages are written and read"),
-        )?
-        .arg(renames(alloc))?
+        )?;
+    with_newer(alloc, command)?
         .arg(limit_of_words(alloc))?
         .arg(nesting(alloc))?
+        .arg(on_refused(alloc))?
+        .arg(refused(alloc))?
         .arg(log(alloc).default_value("lines"))?
         .arg(output(alloc))?
         .arg(files(alloc))
@@ -265,6 +328,7 @@ pub fn command_line<'a>(alloc: Global) -> Result<Command<'a>, AllocError> {
         .subcommand(show(alloc)?)?
         .subcommand(relay(alloc)?)?
         .subcommand(check(alloc)?)?
+        .subcommand(schema_file(alloc)?)?
         .subcommand(compatible(alloc)?)?
         .subcommand(canonical(alloc)?)?
         .subcommand(convert(alloc)?)

@@ -14,6 +14,8 @@ pub enum Failure {
     Memory,
     /// The output can't be written.
     Output,
+    /// The file of messages that are skipped can't be written.
+    Refused,
     /// Anything else, in words.
     Text(String),
 }
@@ -82,10 +84,10 @@ impl Failure {
         Failure::about(alloc, name, why)
     }
 
-    /// The failure of the message of a number of an input.
-    pub fn stream(alloc: Global, name: &str, number: u64, fault: Fault) -> Failure {
+    /// The failure of the message of a number of an input, which begins behind so many bytes.
+    pub fn stream(alloc: Global, name: &str, number: u64, start: u64, fault: Fault) -> Failure {
         let why = reason(fault);
-        match format!(in alloc; "{name}: message {number}: {why}") {
+        match format!(in alloc; "{name}: message {number}, at byte {start}: {why}") {
             Ok(text) => Failure::Text(text),
             Err(_) => Failure::Memory,
         }
@@ -97,6 +99,7 @@ impl Display for Failure {
         match self {
             Failure::Memory => write!(f, "there is no memory left"),
             Failure::Output => write!(f, "the output can't be written"),
+            Failure::Refused => write!(f, "the messages that are skipped can't be written"),
             Failure::Text(text) => write!(f, "{text}"),
         }
     }

@@ -1,25 +1,36 @@
 //! The files and pipes of a run.
 
 use crate::faults::Failure;
+use crate::tape::Tape;
 use capnp_io::adapters::{Sink, Source};
 use std::alloc::Global;
 use std::fs::File;
 use std::io::{BufWriter, Read, Stderr, Stdin, Stdout, Write};
+use std::rc::Rc;
 use std::{fs, io};
 
-/// Where messages come from.
+/// What gives the bytes of an input.
 #[derive(Drop)]
-pub enum Input {
+enum Device {
     Standard(Stdin),
     Named(File),
 }
 
+/// Where messages come from: a device, whose bytes are noted on a tape.
+#[derive(Drop)]
+pub struct Input {
+    device: Device,
+    tape: Rc<Tape>,
+}
+
 impl Read for Input {
     fn read(&mut self, buf: &mut [u8]) -> io::Result<usize> {
-        match self {
-            Input::Standard(input) => input.read(buf),
-            Input::Named(file) => file.read(buf),
-        }
+        let len = match &mut self.device {
+            Device::Standard(input) => input.read(buf)?,
+            Device::Named(file) => file.read(buf)?,
+        };
+        self.tape.note(&buf[..len]);
+        Ok(len)
     }
 }
 
@@ -60,9 +71,16 @@ pub fn open_sink(alloc: Global, output: Output) -> Result<OutSink, Failure> {
     }
 }
 
-/// The source of the input of this name.
-pub fn open_source(rt: &HostRuntime, name: &str) -> Result<Source<Input>, Failure> {
-    let input = open_input(rt, name)?;
+/// The source of the input of this name, and the tape on which its bytes are noted.
+pub fn open_source(
+    rt: &HostRuntime,
+    name: &str,
+    tape: &Rc<Tape>,
+) -> Result<Source<Input>, Failure> {
+    let input = Input {
+        device: open_device(rt, name)?,
+        tape: Rc::clone(tape)?,
+    };
     match Source::new(rt.alloc(), input) {
         Ok(source) => Ok(source),
         Err(_) => Err(Failure::Memory),
@@ -77,13 +95,13 @@ pub fn read_file(rt: &HostRuntime, name: &str) -> Result<Vec<u8>, Failure> {
     }
 }
 
-/// The input of this name, `-` for standard input.
-fn open_input(rt: &HostRuntime, name: &str) -> Result<Input, Failure> {
+/// The device of the input of this name, `-` for standard input.
+fn open_device(rt: &HostRuntime, name: &str) -> Result<Device, Failure> {
     if name == "-" {
-        return Ok(Input::Standard(rt.stdin()));
+        return Ok(Device::Standard(rt.stdin()));
     }
     match File::open(rt, name) {
-        Ok(file) => Ok(Input::Named(file)),
+        Ok(file) => Ok(Device::Named(file)),
         Err(e) => Err(Failure::file(rt.alloc(), name, e)),
     }
 }

@@ -11,6 +11,7 @@ mod passes;
 mod relay_task;
 mod reports;
 mod shows;
+mod tape;
 mod words;
 
 use crate::faults::Failure;
@@ -29,6 +30,7 @@ fn run_subcommand(rt: &HostRuntime, matches: &ArgMatches<'_>) -> Result<u8, Fail
         Some(("relay", words)) => passes::relay(rt, words),
         Some(("show", words)) => shows::show(rt, words),
         Some(("check", words)) => reports::check(rt, words),
+        Some(("schema", words)) => reports::schema(rt, words),
         Some(("compatible", words)) => reports::compatible(rt, words),
         _ => Ok(WRONG_WORDS),
     }
@@ -36,7 +38,14 @@ fn run_subcommand(rt: &HostRuntime, matches: &ArgMatches<'_>) -> Result<u8, Fail
 
 /// The status of the words behind the program's name; an error where there is no way to say what is wrong.
 fn run(rt: &HostRuntime) -> io::Result<u8> {
-    let words: Vec<String> = env::args(rt)?.collect(rt.alloc())?;
+    let given = match env::args(rt) {
+        Err(e) if e.kind() == io::ErrorKind::InvalidData => {
+            eprintln!(rt; "hagzimot: a word is no text in UTF-8")?;
+            return Ok(WRONG_WORDS);
+        }
+        given => given?,
+    };
+    let words: Vec<String> = given.collect(rt.alloc())?;
     let command = command_line::command_line(rt.alloc())?;
     let matches = match command.try_get_matches_from(words.as_slice()) {
         Ok(matches) => matches,

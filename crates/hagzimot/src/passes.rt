@@ -2,7 +2,7 @@
 
 use crate::faults::Failure;
 use crate::files::{Input, OutSink, Output, open_sink};
-use crate::log::{Lines, Log};
+use crate::log::{Lines, Log, LogEnd, Refusals, TurnAndFlush};
 use crate::relay_task::RelayTask;
 use crate::{files, words};
 use capnp_between::between::BetweenFault;
@@ -11,7 +11,6 @@ use capnp_loop::ends::Counts;
 use capnp_packing::form::Packed;
 use capnp_program::ahead::BoundedForm;
 use capnp_program::sinks::Flush;
-use capnp_program::sources::FlushBeforeWait;
 use capnp_relay_streams::options::Form;
 use capnp_stream::forms::{Framed, MessageForm};
 use capnp_tool::canonical::{Canonical, canonicalize_all};
@@ -44,7 +43,7 @@ impl Task<'_> {
     ) -> Result<Counts, BetweenFault> {
         let end = match self {
             Task::Convert { words } => {
-                convert_all::<I, O, Source<Input>, OutSink, Log, FlushBeforeWait<I>>(
+                convert_all::<I, O, Source<Input>, OutSink, Log, TurnAndFlush<I>>(
                     alloc,
                     source,
                     out,
@@ -53,7 +52,7 @@ impl Task<'_> {
                 )
             }
             Task::Canonical(limits) => {
-                canonicalize_all::<I, O, Source<Input>, OutSink, Log, FlushBeforeWait<I>>(
+                canonicalize_all::<I, O, Source<Input>, OutSink, Log, TurnAndFlush<I>>(
                     alloc, source, out, log, limits,
                 )
             }
@@ -95,12 +94,21 @@ struct Forms {
     output: Form,
 }
 
+/// How the messages of an input ended that is no failure.
+#[derive(Clone, Copy, Debug, PartialEq, Eq)]
+struct Ended {
+    /// Whether messages were skipped.
+    skipped: bool,
+    /// Whether the first one that was skipped ended the run.
+    stopped: bool,
+}
+
 /// What is said of the end of an input.
-fn end_failure(alloc: Global, name: &str, fault: BetweenFault) -> Failure {
+fn end_failure(alloc: Global, name: &str, start: u64, fault: BetweenFault) -> Failure {
     match fault {
         BetweenFault::Relay(e) => {
             let before = e.counts.written.saturating_add(e.counts.refused);
-            Failure::stream(alloc, name, before.saturating_add(1), e.fault)
+            Failure::stream(alloc, name, before.saturating_add(1), start, e.fault)
         }
         BetweenFault::Memory => Failure::Memory,
         other => Failure::about(alloc, "--newer", &other),
@@ -115,18 +123,36 @@ fn pass_one(
     name: &str,
     out: &mut OutSink,
     log: &mut Log,
-) -> Result<Counts, Failure> {
+) -> Result<Ended, Failure> {
     let alloc = rt.alloc();
-    let mut source = files::open_source(rt, name)?;
+    let tape = log.begin_input()?;
+    let mut source = files::open_source(rt, name, &tape)?;
     let end = task.run(alloc, forms, &mut source, out, log);
     let flushed = out.flush();
-    // A log that fails now has nowhere to say so.
-    let _flushed_log = log.flush();
-    match (end, flushed) {
-        (Err(fault), _) => Err(end_failure(alloc, name, fault)),
-        (Ok(_), Err(_)) => Err(Failure::Output),
-        (Ok(counts), Ok(())) => Ok(counts),
+    let all_kept = log.finish();
+    let stopped = log.end() == Some(LogEnd::Stopped);
+    if log.end() == Some(LogEnd::Unwritten) || !all_kept {
+        return Err(Failure::Refused);
     }
+    match (end, flushed) {
+        (Err(_), Ok(())) if stopped => Ok(Ended {
+            skipped: true,
+            stopped,
+        }),
+        (Err(fault), _) => Err(end_failure(alloc, name, tape.start(), fault)),
+        (Ok(_), Err(_)) => Err(Failure::Output),
+        (Ok(counts), Ok(())) => Ok(Ended {
+            skipped: counts.refused > 0,
+            stopped: false,
+        }),
+    }
+}
+
+/// Where messages go, and what is done about those that are skipped.
+#[derive(Drop)]
+struct Sinks {
+    out: OutSink,
+    log: Log,
 }
 
 /// Passes the messages of all inputs on, and returns whether some were skipped.
@@ -135,39 +161,84 @@ fn pass_each(
     task: Task<'_>,
     forms: Forms,
     names: &[String],
-    output: Output,
-    lines: Lines,
+    mut sinks: Sinks,
 ) -> Result<bool, Failure> {
-    let mut out = open_sink(rt.alloc(), output)?;
-    let mut log = Log::new(rt, lines)?;
     let mut skipped = false;
     for name in names {
-        let counts = pass_one(rt, task, forms, name.as_str(), &mut out, &mut log)?;
-        skipped |= counts.refused > 0;
+        let ended = pass_one(
+            rt,
+            task,
+            forms,
+            name.as_str(),
+            &mut sinks.out,
+            &mut sinks.log,
+        )?;
+        skipped |= ended.skipped;
+        if ended.stopped {
+            break;
+        }
     }
     Ok(skipped)
 }
 
-/// Passes the messages of the inputs that the words name on to the output that they name, and returns the status.
+/// The sinks that the words name.
+fn open_sinks(rt: &HostRuntime, matches: &ArgMatches<'_>, lines: Lines) -> Result<Sinks, Failure> {
+    let alloc = rt.alloc();
+    let output = files::open_output(rt, matches.get_str("output"))?;
+    let refused = match words::refused_name(matches) {
+        Some(name) => {
+            let output = files::open_output(rt, Some(name))?;
+            Some(open_sink(alloc, output)?)
+        }
+        None => None,
+    };
+    let refusals = Refusals {
+        sink: refused,
+        stop: words::stops(matches),
+    };
+    Ok(Sinks {
+        out: open_sink(alloc, output)?,
+        log: Log::new(rt, lines, refusals)?,
+    })
+}
+
+/// Passes the messages of the inputs that the words name on to the sinks that they name, and returns whether some were skipped.
+fn pass_inputs(
+    rt: &HostRuntime,
+    matches: &ArgMatches<'_>,
+    task: Task<'_>,
+    lines: Lines,
+) -> Result<bool, Failure> {
+    let forms = Forms {
+        input: words::form(matches, "in"),
+        output: words::form(matches, "out"),
+    };
+    let names = words::inputs(rt.alloc(), matches)?;
+    let sinks = open_sinks(rt, matches, lines)?;
+    pass_each(rt, task, forms, &names, sinks)
+}
+
+/// The same, and returns the status; the files that were written get their names, or are removed.
 fn pass_all(
     rt: &HostRuntime,
     matches: &ArgMatches<'_>,
     task: Task<'_>,
     lines: Lines,
 ) -> Result<u8, Failure> {
-    let forms = Forms {
-        input: words::form(matches, "in"),
-        output: words::form(matches, "out"),
-    };
-    let names = words::inputs(rt.alloc(), matches)?;
     let named = matches.get_str("output");
-    let output = files::open_output(rt, named)?;
-    match pass_each(rt, task, forms, &names, output, lines) {
+    let refused = words::refused_name(matches);
+    if refused.is_some() && refused == named {
+        let why = "the output has this name too";
+        return Err(Failure::about(rt.alloc(), "--refused", &why));
+    }
+    match pass_inputs(rt, matches, task, lines) {
         Ok(skipped) => {
+            files::keep(rt, refused)?;
             files::keep(rt, named)?;
             Ok(if skipped { SKIPPED } else { DONE })
         }
         Err(failure) => {
+            files::give_up(rt, refused);
             files::give_up(rt, named);
             Err(failure)
         }

@@ -2,7 +2,7 @@
 
 use crate::faults::Failure;
 use crate::files::{Input, OutSink, read_file};
-use crate::log::Log;
+use crate::log::{Log, TurnAndFlush};
 use crate::words;
 use capnp_between::between::{BetweenFault, relay_between_pausing};
 use capnp_calls::{Call, CallFault};
@@ -12,7 +12,6 @@ use capnp_files::fault::FileFault;
 use capnp_io::adapters::Source;
 use capnp_loop::ends::Counts;
 use capnp_program::ahead::BoundedForm;
-use capnp_program::sources::FlushBeforeWait;
 use capnp_relay_streams::options::{ReaderOptions, RelayOptions};
 use capnp_relay_streams::relay::relay_pausing;
 use capnp_tool::schemas::RootedSchema;
@@ -260,7 +259,7 @@ impl RelayTask {
         let root = self.schema.root();
         let calls = self.calls.as_slice();
         let Some(newer) = &self.newer else {
-            let end = relay_pausing::<Source<Input>, OutSink, Log, FlushBeforeWait<I>>(
+            let end = relay_pausing::<Source<Input>, OutSink, Log, TurnAndFlush<I>>(
                 alloc,
                 source,
                 out,
@@ -272,7 +271,7 @@ impl RelayTask {
             );
             return end.map_err(BetweenFault::Relay);
         };
-        relay_between_pausing::<Source<Input>, OutSink, Log, FlushBeforeWait<I>>(
+        relay_between_pausing::<Source<Input>, OutSink, Log, TurnAndFlush<I>>(
             alloc,
             source,
             out,

@@ -5,7 +5,8 @@ use crate::files::read_file;
 use crate::words;
 use capnp_compatible::compatible::compatible_with;
 use capnp_compatible::root::Root;
-use capnp_tool::schemas::read_set;
+use capnp_tool::schema_text::schema_text;
+use capnp_tool::schemas::{read_nodes, read_set};
 use clap::ArgMatches;
 
 /// Prints a line.
@@ -16,12 +17,20 @@ fn print_line(rt: &HostRuntime, line: &str) -> Result<(), Failure> {
     }
 }
 
+/// Prints a text, which ends with a line feed.
+fn print_text(rt: &HostRuntime, text: &str) -> Result<u8, Failure> {
+    match print!(rt; "{text}") {
+        Ok(()) => Ok(0),
+        Err(_) => Err(Failure::Output),
+    }
+}
+
 /// `hagzimot check`: whether a schema keeps the rules.
 pub fn check(rt: &HostRuntime, matches: &ArgMatches<'_>) -> Result<u8, Failure> {
     let alloc = rt.alloc();
     let name = words::text(matches, "schema");
     let bytes = read_file(rt, name)?;
-    let set = match read_set(alloc, &bytes) {
+    let set = match read_set(alloc, &bytes, words::floats(matches)) {
         Ok(set) => set,
         Err(why) => return Err(Failure::schema(alloc, name, &why)),
     };
@@ -29,6 +38,21 @@ pub fn check(rt: &HostRuntime, matches: &ArgMatches<'_>) -> Result<u8, Failure> 
     let line = format!(in alloc; "{name}: {count} nodes keep all rules")?;
     print_line(rt, line.as_str())?;
     Ok(0)
+}
+
+/// `hagzimot schema`: a schema as the text of a schema file.
+pub fn schema(rt: &HostRuntime, matches: &ArgMatches<'_>) -> Result<u8, Failure> {
+    let alloc = rt.alloc();
+    let name = words::text(matches, "schema");
+    let bytes = read_file(rt, name)?;
+    let nodes = match read_nodes(alloc, &bytes, words::floats(matches)) {
+        Ok(nodes) => nodes,
+        Err(why) => return Err(Failure::schema(alloc, name, &why)),
+    };
+    match schema_text(alloc, &nodes) {
+        Ok(text) => print_text(rt, text.as_str()),
+        Err(why) => Err(Failure::about(alloc, name, &why)),
+    }
 }
 
 /// `hagzimot compatible`: whether a newer schema keeps an older one.

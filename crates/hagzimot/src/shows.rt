@@ -2,7 +2,7 @@
 
 use crate::faults::Failure;
 use crate::files::{Input, OutSink, Output, open_sink, open_source};
-use crate::log::{Lines, Log};
+use crate::log::{Lines, Log, Refusals, TurnAndFlush};
 use crate::words;
 use capnp_io::adapters::Source;
 use capnp_io::traits::Write;
@@ -10,11 +10,10 @@ use capnp_message::options::ReaderOptions;
 use capnp_packing::form::Packed;
 use capnp_program::ahead::BoundedForm;
 use capnp_program::sinks::Flush;
-use capnp_program::sources::FlushBeforeWait;
 use capnp_queries::structs::StructSchema;
 use capnp_relay_streams::options::Form;
 use capnp_stream::forms::Framed;
-use capnp_tool::show::{Chosen, ShownCounts, StreamFault, show_all};
+use capnp_tool::show::{Chosen, ShowForm, ShownCounts, StreamFault, show_all};
 use clap::ArgMatches;
 use std::alloc::Global;
 
@@ -36,7 +35,7 @@ impl Showing<'_> {
         out: &mut OutSink,
         log: &mut Log,
     ) -> Result<ShownCounts, StreamFault> {
-        show_all::<I, Source<Input>, OutSink, Log, FlushBeforeWait<I>>(
+        show_all::<I, Source<Input>, OutSink, Log, TurnAndFlush<I>>(
             alloc,
             source,
             out,
@@ -56,7 +55,8 @@ impl Showing<'_> {
         log: &mut Log,
     ) -> Result<ShownCounts, Failure> {
         let alloc = rt.alloc();
-        let mut source = open_source(rt, name)?;
+        let tape = log.begin_input()?;
+        let mut source = open_source(rt, name, &tape)?;
         let end = match self.form {
             Form::Framed => self.run_in::<Framed>(alloc, &mut source, out, log),
             Form::Packed => self.run_in::<Packed>(alloc, &mut source, out, log),
@@ -65,7 +65,7 @@ impl Showing<'_> {
         // A log that fails now has nowhere to say so.
         let _flushed_log = log.flush();
         match (end, flushed) {
-            (Err(e), _) => Err(Failure::stream(alloc, name, e.number, e.fault)),
+            (Err(e), _) => Err(Failure::stream(alloc, name, e.number, tape.start(), e.fault)),
             (Ok(_), Err(_)) => Err(Failure::Output),
             (Ok(counts), Ok(())) => Ok(counts),
         }
@@ -81,6 +81,18 @@ fn put_number(alloc: Global, out: &mut OutSink, number: u64) -> Result<(), Failu
     Ok(())
 }
 
+/// How the words ask that messages are shown.
+fn show_form(matches: &ArgMatches<'_>) -> ShowForm {
+    if matches.get_flag("count") {
+        return ShowForm::Count;
+    }
+    if matches.get_flag("json") {
+        ShowForm::Json
+    } else {
+        ShowForm::Text
+    }
+}
+
 /// `hagzimot show`.
 pub fn show(rt: &HostRuntime, matches: &ArgMatches<'_>) -> Result<u8, Failure> {
     let alloc = rt.alloc();
@@ -94,12 +106,12 @@ pub fn show(rt: &HostRuntime, matches: &ArgMatches<'_>) -> Result<u8, Failure> {
         chosen: Chosen {
             first: matches.get_one::<u64>("from").unwrap_or(1),
             last: matches.get_one::<u64>("to").unwrap_or(u64::MAX),
-            count_alone: matches.get_flag("count"),
+            form: show_form(matches),
         },
         form: words::form(matches, "in"),
     };
     let mut out = open_sink(alloc, Output::Standard(rt.stdout()))?;
-    let mut log = Log::new(rt, Lines::All)?;
+    let mut log = Log::new(rt, Lines::All, Refusals::unseen())?;
     let names = words::inputs(alloc, matches)?;
     let mut all_shown = true;
     let mut shown: u64 = 0;
@@ -108,7 +120,7 @@ pub fn show(rt: &HostRuntime, matches: &ArgMatches<'_>) -> Result<u8, Failure> {
         all_shown &= counts.not_shown == 0;
         shown = shown.saturating_add(counts.shown);
     }
-    if showing.chosen.count_alone {
+    if showing.chosen.form == ShowForm::Count {
         put_number(alloc, &mut out, shown)?;
     }
     Ok(if all_shown { 0 } else { 3 })

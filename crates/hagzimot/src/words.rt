@@ -6,6 +6,7 @@ use capnp_compatible::renamings::{RenamingFault, Renamings};
 use capnp_files::fault::FileFault;
 use capnp_files::renames_file::renames_file;
 use capnp_relay_streams::options::Form;
+use capnp_requests::request::Floats;
 use capnp_tool::schemas::RootedSchema;
 use clap::ArgMatches;
 use std::alloc::Global;
@@ -61,12 +62,35 @@ pub fn inputs(alloc: Global, words: &ArgMatches<'_>) -> Result<Vec<String>, Fail
     Ok(names)
 }
 
+/// The name of the file of messages that are skipped.
+pub fn refused_name<'a>(words: &ArgMatches<'a>) -> Option<&'a str> {
+    if words.contains_id("refused") {
+        words.get_str("refused")
+    } else {
+        None
+    }
+}
+
+/// Whether the first message that is skipped ends the run.
+pub fn stops(words: &ArgMatches<'_>) -> bool {
+    words.contains_id("on-refused") && words.get_str("on-refused") == Some("stop")
+}
+
+/// What becomes of floats in what the compiler wrote.
+pub fn floats(words: &ArgMatches<'_>) -> Floats {
+    if words.get_flag("floats-as-bits") {
+        Floats::AsBits
+    } else {
+        Floats::Refused
+    }
+}
+
 /// The schema of the file that an argument names, with the root that the words name.
 pub fn rooted(rt: &HostRuntime, words: &ArgMatches<'_>, id: &str) -> Result<RootedSchema, Failure> {
     let alloc = rt.alloc();
     let name = text(words, id);
     let bytes = read_file(rt, name)?;
-    match RootedSchema::new(alloc, &bytes, text(words, "root")) {
+    match RootedSchema::new(alloc, &bytes, floats(words), text(words, "root")) {
         Ok(schema) => Ok(schema),
         Err(why) => Err(Failure::schema(alloc, name, &why)),
     }
