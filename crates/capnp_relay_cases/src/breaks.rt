@@ -2,6 +2,7 @@
 
 use crate::case::{Case, Fault};
 use crate::given::Given;
+use capnp_compatible::all_breaks::all_breaks;
 use capnp_compatible::breaks::{Break, FieldRule, Rule};
 use capnp_compatible::compatible::first_break;
 use capnp_compatible::root::Root;
@@ -31,6 +32,32 @@ fn break_text(alloc: Global, found: Break) -> Result<String, Fault> {
         }
     };
     Ok(format!(in alloc; "{older} {newer}: {}", told.as_str())?)
+}
+
+/// The break of each pair that is reached, or `none`.
+pub fn all(alloc: Global, case: &Case) -> Result<String, Fault> {
+    let given = Given::new(alloc, case)?;
+    let (older, newer) = (given.older(alloc)?, given.newer(alloc)?);
+    let older = Root {
+        set: older.root().set(),
+        id: given.root()?,
+    };
+    let newer = Root {
+        set: newer.root().set(),
+        id: given.root()?,
+    };
+    let breaks = all_breaks(alloc, older, newer, &given.renamings(alloc)?)?;
+    if breaks.is_empty() {
+        return Ok(String::from_str(alloc, "none")?);
+    }
+    let mut told = String::new(alloc);
+    for found in breaks.as_slice() {
+        if !told.is_empty() {
+            told.push_str("; ")?;
+        }
+        told.push_str(break_text(alloc, *found)?.as_str())?;
+    }
+    Ok(told)
 }
 
 /// The first break of a case's versions, or `none`.

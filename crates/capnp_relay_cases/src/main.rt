@@ -30,6 +30,7 @@ fn answer(alloc: Global, call: &str, case: &Case) -> Result<String, Fault> {
         "show" => answers::shown(alloc, case),
         "compatible" => answers::compatibility(alloc, case),
         "first_break" => breaks::first(alloc, case),
+        "all_breaks" => breaks::all(alloc, case),
         "admitted" => answers::admission(alloc, case),
         "calls" => answers::made_calls(alloc, case),
         "schema_file" => answers::schema_text(alloc, case),
