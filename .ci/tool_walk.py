@@ -1,8 +1,8 @@
-"""Compares what docs/TOOL.md says with what the built program prints.
+"""Compares what README.md and docs/TOOL.md say with what the built program prints.
 
     python3 .ci/tool_walk.py [PROGRAM]
 
-Each block of the document that begins with ```console is a walk of commands: a line '$ COMMAND' and what the command prints, standard output before standard error. A command is `hagzimot` with its words, `cat FILE` or a pipe
+Each block of a document that begins with ```console is a walk of commands: a line '$ COMMAND' and what the command prints, standard output before standard error. A command is `hagzimot` with its words, `cat FILE` or a pipe
 of such commands; its files are those of crates/hagzimot/data, and what it writes lies beside them in a folder of its own. A last line '[status N]' tells a status that isn't 0. A command whose output differs is shown, and the
 status is 1. Nothing is written below the repository.
 
@@ -18,7 +18,7 @@ import sys
 import tempfile
 
 TOP = pathlib.Path(__file__).resolve().parent.parent
-DOCUMENT = TOP / "docs" / "TOOL.md"
+DOCUMENTS = (TOP / "README.md", TOP / "docs" / "TOOL.md")
 DATA = TOP / "crates" / "hagzimot" / "data"
 PROGRAM = TOP / "crates" / "hagzimot" / "out" / "hagzimot"
 REQUESTS = TOP / "crates" / "capnp_request_cases" / "data"
@@ -105,13 +105,8 @@ def differing_requests(program):
     return len(names), differing
 
 
-def main():
-    program = pathlib.Path(sys.argv[1]).resolve() if len(sys.argv) > 1 else PROGRAM
-    if not program.exists():
-        raise SystemExit(f"{program} is not built")
-    walks = list(commands(DOCUMENT.read_text()))
-    if not walks:
-        raise SystemExit("docs/TOOL.md has no walk")
+def differing_commands(walks, name, program):
+    """How many commands of a document print something else; each is shown."""
     differing = 0
     with tempfile.TemporaryDirectory() as folder:
         folder = pathlib.Path(folder) / "walk"
@@ -123,13 +118,27 @@ def main():
             wanted = [line.rstrip() for line in wanted]
             if got != wanted:
                 differing += 1
-                print(f"$ {command}\n--- docs/TOOL.md\n" + "\n".join(wanted) + "\n--- printed\n" + "\n".join(got) + "\n")
+                print(f"$ {command}\n--- {name}\n" + "\n".join(wanted) + "\n--- printed\n" + "\n".join(got) + "\n")
+    return differing
+
+
+def main():
+    program = pathlib.Path(sys.argv[1]).resolve() if len(sys.argv) > 1 else PROGRAM
+    if not program.exists():
+        raise SystemExit(f"{program} is not built")
+    ran = differing = 0
+    for document in DOCUMENTS:
+        walks = list(commands(document.read_text()))
+        if not walks:
+            raise SystemExit(f"{document.name} has no walk")
+        ran += len(walks)
+        differing += differing_commands(walks, document.name, program)
     requests, others = differing_requests(program)
     for name in others:
         print(f"the schema of {name}.request differs from {name}.json")
     if not requests:
         raise SystemExit(f"{REQUESTS} has no requests")
-    print(f"tool walk: {len(walks)} commands, {differing} differ; {requests} requests, {len(others)} differ")
+    print(f"tool walk: {ran} commands, {differing} differ; {requests} requests, {len(others)} differ")
     return 1 if differing or others else 0
 
 
