@@ -1,9 +1,12 @@
 //! What breaks the compatibility of two versions of a schema, in sentences.
-ghost use Rattle.std.specs.Prelude.{◌≡◌, ◌==◌, length, option_map, option_copied, slice_get, IfOk};
+ghost use Rattle.std.specs.Prelude.{◌≡◌, ◌==◌, true, false, length, option_map, option_copied, slice_get, All, IfOk, IfErr};
 ghost use Rattle.std.specs.Bool.{MatchBool};
 ghost use Rattle.capnp_model.specs.Accepted.{fields_of_kind};
 ghost use Rattle.capnp_records.specs.NodeViews.{node_kind};
+ghost use Rattle.capnp_units.specs.declared.kinds.ErrorKind.TheVariants.{OutOfMemory};
 ghost use Rattle.capnp_compatible.specs.Roots.{AreCompatibleWith};
+ghost use Rattle.capnp_compatible.specs.Breaks.{IsBreakFrom};
+ghost use Rattle.capnp_compatible.specs.AllBreaks.{AreAllBreaks};
 ghost use Rattle.capnp_compatible.specs.Renamed.{renamings_of};
 
 use crate::paths::{fields_of, node_of_id};
@@ -30,13 +33,18 @@ pub fn breaks_between(
         MatchBool (length bs.items == 0)
         (AreCompatibleWith (renamings_of renamings.now) older.entry newer.entry)
         (AreCompatibleWith (renamings_of renamings.now) older.entry newer.entry → ⊥)) }
+    ensures every { IfOk result (λ bs.
+        all ≡ true → AreAllBreaks (renamings_of renamings.now) older.entry newer.entry bs.items) }
+    ensures first { IfOk result (λ bs. all ≡ false
+        → All (IsBreakFrom (renamings_of renamings.now) older.entry newer.entry) bs.items) }
+    ensures refusal { IfErr result (λ e. e.kind ≡ OutOfMemory) }
 {
     if all {
         return all_breaks(alloc, older, newer, renamings);
     }
     let mut breaks = Vec::new(alloc);
-    if let Some(first) = first_break(alloc, older, newer, renamings)? {
-        breaks.push(first)?;
+    if let Some(broken) = first_break(alloc, older, newer, renamings)? {
+        breaks.push(broken)?;
     }
     Ok(breaks)
 }
