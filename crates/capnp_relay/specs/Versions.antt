@@ -12,6 +12,7 @@ use Rattle.capnp_queries.specs.declared.structs.StructSchema.{StructSchema}
 use Rattle.capnp_calls.specs.Roots.{record_at}
 use Rattle.capnp_compatible.specs.declared.breaks.Break.{Break}
 use Rattle.capnp_compatible.specs.Breaks.{BreaksFrom}
+use Rattle.capnp_compatible.specs.AllBreaks.{AllBreaksOf}
 
 -- The newer schema is compatible with the older.
 abbrev pub AreVersions : StructSchema → StructSchema → Type 0
@@ -24,6 +25,10 @@ AreVersionsWith rs older newer = IsCompatibleWith rs (schema_around older) (sche
 -- What breaks the compatibility, where fields are renamed.
 abbrev pub IsBreakBetween : List Renaming → StructSchema → StructSchema → Break → Type 0
 IsBreakBetween rs older newer b = BreaksFrom (renamed rs (schema_around older)) (schema_around newer) (id_of older) (id_of newer) b
+
+-- All that breaks it.
+abbrev pub AreBreaksBetween : List Renaming → StructSchema → StructSchema → List Break → Type 0
+AreBreaksBetween rs older newer bs = AllBreaksOf (renamed rs (schema_around older)) (schema_around newer) (id_of older) (id_of newer) bs
 
 -- The older record of each value is the older view of its newer record.
 abbrev pub ReadsAsOlder : StructSchema → StructSchema → Type 0

@@ -6,7 +6,9 @@ pub mod runs;
 pub mod versions;
 
 pub use crate::runs::run;
-pub use crate::versions::{admitted, admitted_with, compatible, compatible_with, first_break};
+pub use crate::versions::{
+    admitted, admitted_with, all_breaks, compatible, compatible_with, first_break,
+};
 pub use capnp_between::between::{
     BetweenFault, relay_between, relay_between_pausing, relay_between_with,
 };

@@ -1,5 +1,5 @@
 //! Versions of a schema, from the structs at their roots on.
-ghost use Rattle.std.specs.Prelude.{◌≡◌, true, map, is_none, IfOk, IfErr, IfSome};
+ghost use Rattle.std.specs.Prelude.{◌≡◌, ◌==◌, true, map, length, is_none, IfOk, IfErr, IfSome};
 ghost use Rattle.std.specs.Bool.{MatchBool};
 ghost use Rattle.capnp_units.specs.declared.kinds.ErrorKind.TheVariants.{OutOfMemory};
 ghost use Rattle.capnp_records.specs.Sets.{nodes_of};
@@ -7,14 +7,14 @@ ghost use Rattle.capnp_queries.specs.Structs.{nodes_around, id_of};
 ghost use Rattle.capnp_calls.specs.CallViews.{call_view};
 ghost use Rattle.capnp_compatible.specs.Renamed.{renamings_of};
 ghost use Rattle.capnp_compatible.specs.Ways.{IsAdmissionOf};
-ghost use Rattle.capnp_relay.specs.Versions.{AreVersions, AreVersionsWith, IsBreakBetween, ReadsAsOlder, ReadsAsOlderWith, is_admitted_beside, is_admitted_beside_with};
+ghost use Rattle.capnp_relay.specs.Versions.{AreVersions, AreVersionsWith, IsBreakBetween, AreBreaksBetween, ReadsAsOlder, ReadsAsOlderWith, is_admitted_beside, is_admitted_beside_with};
 
 use capnp_calls::Call;
 use capnp_compatible::admitted::Admission;
 use capnp_compatible::breaks::Break;
 use capnp_compatible::renamings::Renamings;
 use capnp_compatible::root::Root;
-use capnp_compatible::{admitted as admissions, compatible as versions};
+use capnp_compatible::{admitted as admissions, all_breaks as breaks, compatible as versions};
 use capnp_queries::structs::StructSchema;
 use capnp_units::errors::Result;
 use std::alloc::Global;
@@ -72,6 +72,24 @@ pub fn first_break(
     ensures refusal { IfErr result (λ e. e.kind ≡ OutOfMemory) }
 {
     versions::first_break(alloc, root_of(older), root_of(newer), renamings)
+}
+
+/// The first break of each pair of structs that is reached by pairs that are kept and is not kept itself, in the order in which they are reached; none where `compatible_with` says yes. `OutOfMemory` is the one error.
+pub fn all_breaks(
+    alloc: Global,
+    older: StructSchema<'_>,
+    newer: StructSchema<'_>,
+    renamings: &Renamings,
+) -> Result<Vec<Break>>
+    ensures answer { let rs = renamings_of renamings.now in
+        IfOk result (λ bs. MatchBool (length bs.items == 0)
+        (AreVersionsWith rs older.entry newer.entry)
+        (AreVersionsWith rs older.entry newer.entry → ⊥)) }
+    ensures all { IfOk result (λ bs.
+        AreBreaksBetween (renamings_of renamings.now) older.entry newer.entry bs.items) }
+    ensures refusal { IfErr result (λ e. e.kind ≡ OutOfMemory) }
+{
+    breaks::all_breaks(alloc, root_of(older), root_of(newer), renamings)
 }
 
 /// Whether each call under the older schema is admitted beside the newer, else which is the first that isn't, counted from 1. A call that is admitted goes by fields that the older has, writes no group as a whole that the newer extends, and sets no list element of struct type. Takes time linear in the steps of the calls times the fields of the structs on their ways, and of the groups that they write. `OutOfMemory` is the one error.

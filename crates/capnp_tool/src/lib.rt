@@ -1,6 +1,7 @@
 //! What the command does: each of its subcommands over sources and sinks, without files.
 #![tactic(auto)]
 
+pub mod breaks;
 pub mod canonical;
 pub mod convert;
 mod copies;

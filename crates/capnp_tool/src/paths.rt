@@ -1,7 +1,7 @@
 //! Where paths lead under a schema, told before any message is read.
 ghost use Rattle.std.specs.Prelude.{◌≡◌, ◌≢◌, map, All, IfSome, IfNone};
-ghost use Rattle.capnp_model.specs.Accepted.{enumerants_of_kind};
-ghost use Rattle.capnp_records.specs.NodeViews.{enumerant_of, node_kind};
+ghost use Rattle.capnp_model.specs.Accepted.{enumerants_of_kind, fields_of_kind};
+ghost use Rattle.capnp_records.specs.NodeViews.{enumerant_of, field_of, node_kind};
 
 use capnp_calls::Step;
 use capnp_records::node::{
@@ -95,7 +95,9 @@ pub fn short_name(node: &NodeRecord) -> &str {
 }
 
 /// The fields of a node; none of an enum.
-fn fields_of(node: &NodeRecord) -> &[FieldRecord] {
+pub(crate) fn fields_of(node: &NodeRecord) -> &[FieldRecord]
+    ensures { map field_of result.now ≡ fields_of_kind (node_kind node.now.body) }
+{
     match &node.body {
         NodeBody::Struct(body) => body.fields.as_slice(),
         NodeBody::Enum(_) => &[],

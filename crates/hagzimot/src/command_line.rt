@@ -223,13 +223,25 @@ fn schema_file<'a>(alloc: Global) -> Result<Command<'a>, AllocError> {
 fn compatible<'a>(alloc: Global) -> Result<Command<'a>, AllocError> {
     Command::new(alloc, "compatible")
         .about(
-            "Says whether what is written under one schema reads the same under a newer one; status 1 where it doesn't",
+            "Says whether what is written under one schema reads the same under a newer one, or which rule is broken where; status 1 where it doesn't",
         )
         .arg(file(alloc, "older", "OLD", "The older schema"))?
         .arg(file(alloc, "newer", "NEW", "The newer schema"))?
         .arg(floats_as_bits(alloc))?
         .arg(root(alloc))?
-        .arg(renames(alloc))
+        .arg(
+            Arg::new(alloc, "all")
+                .long("all")
+                .action(ArgAction::SetTrue)
+                .help("Tells each pair of nodes that breaks a rule, not the first alone"),
+        )?
+        .arg(
+            Arg::new(alloc, "both")
+                .long("both")
+                .action(ArgAction::SetTrue)
+                .help("Says the same of the older schema where messages of the newer are read"),
+        )?
+        .arg(renames(alloc).conflicts_with("both")?)
 }
 
 /// An option that makes a call.

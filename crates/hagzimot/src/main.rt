@@ -12,6 +12,7 @@ mod relay_task;
 mod reports;
 mod shows;
 mod tape;
+mod versions;
 mod words;
 
 use crate::faults::Failure;
@@ -31,7 +32,7 @@ fn run_subcommand(rt: &HostRuntime, matches: &ArgMatches<'_>) -> Result<u8, Fail
         Some(("show", words)) => shows::show(rt, words),
         Some(("check", words)) => reports::check(rt, words),
         Some(("schema", words)) => reports::schema(rt, words),
-        Some(("compatible", words)) => reports::compatible(rt, words),
+        Some(("compatible", words)) => versions::compatible(rt, words),
         _ => Ok(WRONG_WORDS),
     }
 }

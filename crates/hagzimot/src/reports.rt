@@ -1,16 +1,14 @@
-//! Subcommands that read schemas alone.
+//! Subcommands that read one schema alone.
 
 use crate::faults::Failure;
 use crate::files::read_file;
 use crate::words;
-use capnp_compatible::compatible::compatible_with;
-use capnp_compatible::root::Root;
 use capnp_tool::schema_text::schema_text;
 use capnp_tool::schemas::{read_nodes, read_set};
 use clap::ArgMatches;
 
 /// Prints a line.
-fn print_line(rt: &HostRuntime, line: &str) -> Result<(), Failure> {
+pub fn print_line(rt: &HostRuntime, line: &str) -> Result<(), Failure> {
     match println!(rt; "{line}") {
         Ok(()) => Ok(()),
         Err(_) => Err(Failure::Output),
@@ -52,38 +50,5 @@ pub fn schema(rt: &HostRuntime, matches: &ArgMatches<'_>) -> Result<u8, Failure>
     match schema_text(alloc, &nodes) {
         Ok(text) => print_text(rt, text.as_str()),
         Err(why) => Err(Failure::about(alloc, name, &why)),
-    }
-}
-
-/// `hagzimot compatible`: whether a newer schema keeps an older one.
-pub fn compatible(rt: &HostRuntime, matches: &ArgMatches<'_>) -> Result<u8, Failure> {
-    let alloc = rt.alloc();
-    let older = words::rooted(rt, matches, "older")?;
-    let newer = words::rooted(rt, matches, "newer")?;
-    let renamings = words::renamings(rt, matches)?;
-    let old = Root {
-        set: older.set(),
-        id: older.root_id(),
-    };
-    let new = Root {
-        set: newer.set(),
-        id: newer.root_id(),
-    };
-    match compatible_with(alloc, old, new, &renamings) {
-        Ok(true) => {
-            print_line(
-                rt,
-                "compatible: what is written under the older schema reads the same under the newer",
-            )?;
-            Ok(0)
-        }
-        Ok(false) => {
-            print_line(
-                rt,
-                "not compatible: from the root on, a field, a union or an enumerant is missing, lies elsewhere, or has another type or default",
-            )?;
-            Ok(1)
-        }
-        Err(_) => Err(Failure::Memory),
     }
 }
