@@ -6,8 +6,8 @@ usage: program_runs.py PROGRAM EXAMPLES CASES..
 EXAMPLES is the folder of README's examples. CASES are files of cases, one a line, as the README of capnp_relay_cases
 tells; those without a "call" are runs of the program: the arguments, the files, the input, and the status, output and
 log that are wanted. The program's status, output and log must be those, byte by byte; where a run has "messages", its
-output is judged by plain_judge.py. Ends with status 1 where one differs, where a file has no run, and where nothing
-else was to be run.
+output is judged by plain_judge.py. Ends with status 1 where one differs, where a file has no case, and where no file has
+a run.
 """
 import concurrent.futures
 import json
@@ -59,11 +59,10 @@ def difference(program, run):
     return difference_of_messages(run, seen["stdout"])
 
 
-def runs_in(name):
-    """The runs of a file, each with its line."""
+def cases_in(name):
+    """The cases of a file, each with its line."""
     with open(name, encoding="utf-8") as file:
-        cases = [(f"{name}, line {number}", json.loads(line)) for number, line in enumerate(file, 1)]
-    return [(place, case) for place, case in cases if "call" not in case]
+        return [(f"{name}, line {number}", json.loads(line)) for number, line in enumerate(file, 1)]
 
 
 def differences(program, runs):
@@ -170,11 +169,12 @@ def main(program, folder, *files):
     if not answers_the_examples(program, folder) or not refuses_words_that_are_no_text(program, folder):
         return 1
     for name in files:
-        runs = runs_in(name)
+        cases = cases_in(name)
+        runs = [(place, case) for place, case in cases if "call" not in case]
         told = differences(program, runs)
         for line in told:
             print(line)
-        if told or not runs:
+        if told or not cases:
             print(f"{name}: {len(told)} of {len(runs)} runs differ")
             return 1
         passed += len(runs)
