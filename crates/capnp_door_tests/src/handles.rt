@@ -145,12 +145,19 @@ fn roots_equal(
     Ok((texts, data == root_of(&mut two.memory)?.get_data(None)?))
 }
 
+/// The same, where the second message is new.
+fn equal_beside(
+    alloc: Global,
+    one: &mut Builder<HeapAllocator>,
+    bytes: &[u8],
+    others: &[u8],
+) -> Result<(bool, bool)> {
+    with_message(alloc, |two| roots_equal(one, two, bytes, others))
+}
+
 /// The same in two new messages.
 fn equal_in_two(alloc: Global, bytes: &[u8], others: &[u8]) -> Result<(bool, bool)> {
-    let (mut one, mut two) = (Builder::new_default(alloc), Builder::new_default(alloc));
-    let equal = roots_equal(&mut one, &mut two, bytes, others);
-    let (_one, _two) = (one.into_allocator(), two.into_allocator());
-    equal
+    with_message(alloc, |one| equal_beside(alloc, one, bytes, others))
 }
 
 #[test]
