@@ -1,5 +1,5 @@
 //! What breaks the compatibility of two versions of a schema, in sentences.
-ghost use Rattle.std.specs.Prelude.{◌≡◌, ◌==◌, true, false, length, option_map, option_copied, slice_get, All, IfOk, IfErr};
+ghost use Rattle.std.specs.Prelude.{◌≡◌, ◌==◌, ◌≤◌, true, false, length, option_map, option_copied, slice_get, All, IfOk, IfErr};
 ghost use Rattle.std.specs.Bool.{MatchBool};
 ghost use Rattle.capnp_model.specs.Accepted.{fields_of_kind};
 ghost use Rattle.capnp_records.specs.NodeViews.{node_kind};
@@ -37,6 +37,7 @@ pub fn breaks_between(
         all ≡ true → AreAllBreaks (renamings_of renamings.now) older.entry newer.entry bs.items) }
     ensures first { IfOk result (λ bs. all ≡ false
         → All (IsBreakFrom (renamings_of renamings.now) older.entry newer.entry) bs.items) }
+    ensures one { IfOk result (λ bs. all ≡ false → length bs.items ≤ 1) }
     ensures refusal { IfErr result (λ e. e.kind ≡ OutOfMemory) }
 {
     if all {
