@@ -104,7 +104,15 @@ fn answer_over<L: Allocator, M: ReaderArena>(
     answered
 }
 
-/// Answers calls in turn at the root of a message, as the model does, lists and all: the message's value, trimmed, is copied into the region and edited there, and what it becomes is written into the buffer, as its canonical words. Where each call sets a plain field, a text or data, on its way through structs and elements of lists of structs, and none of these fields is a union's member or a group, the value is edited in the buffer and the region isn't touched, as long as all that is on the way is there, a text or data has an old one whose place it takes, and no struct gets wider or narrower. A message without a value within the bounds, or with a capability, is skipped as `Value`, one whose root is a list as `Root`, one that the calls nest too deep as `Depth`.
+/// Answers calls in turn at the root of a message, as the model does, lists and all. The message's value, trimmed, is copied into the region and edited there. What it becomes is written into the buffer, as its canonical words.
+///
+/// The value is edited in the buffer, and the region isn't touched, where
+/// - each call sets a plain field, a text or data, on its way through structs and elements of lists of structs;
+/// - none of these fields is a union's member or a group;
+/// - all that is on the way is there, and a text or data has an old one whose place it takes;
+/// - no struct gets wider or narrower.
+///
+/// A message without a value within the bounds, or with a capability, is skipped as `Value`, one whose root is a list as `Root`, one that the calls nest too deep as `Depth`.
 ///
 /// The region is all zeros before, and after, whatever is answered; it need not have room for the message, whose words then come from `alloc`, as those do that the calls add past its end. The buffer grows where it is too short: to the message's own words, to those that it has after a call, and where pointers share words, so that the canonical words are more than the message's own, to a word more than the bounds allow. What is in it before doesn't matter.
 ///

@@ -61,7 +61,7 @@ pub fn list_word(size: ElementSize, count: u32) -> u64
 
 /// Allocates words for an object that the pointer at a place will name: in the pointer's segment where that has room for them, else behind a pad of one word in any segment, which may be a new one. An object without words takes none. Nothing is written.
 ///
-/// It is refused with `SizeOverflow` just where the message's words would pass 2^29 - 1, the pad counted, else as the allocator refuses the words and a pad, which is asked only where neither the pointer's segment has room for the words nor the last for these and a pad; then nothing is allocated.
+/// It is refused with `SizeOverflow` exactly where the message's words would pass 2^29 - 1, the pad counted, else as the allocator refuses the words and a pad. The allocator is asked only where neither the pointer's segment has room for the words nor the last for these and a pad. After a refusal nothing is allocated.
 pub fn allocate_near<A: BuilderArena>(arena: &mut A, slot: Place, words: u32) -> Result<Room>
     requires there { is_some (word_at (words_in (A.segments arena.old)) (place_view slot)) ≡ true }
     requires few { words ≤ 2 ^ 29 }

@@ -157,7 +157,14 @@ impl<'a, A: BuilderArena> Builder<'a, A> {
     ///
     /// It is refused with `SettingDynamicCapabilitiesIsUnsupported` where the field is a capability, or untyped and the value a capability, else with `CannotSetAnyPointerFieldToAPrimitiveValue` where the field is untyped, with `NotAStruct` where it is a group and the value no struct, and else with `TypeMismatch`; a text or data with `SizeOverflow` just where its bytes, a text's with its zero byte, or the message's words, a pad counted, would pass 2^29 - 1, else as the allocator refuses; a struct or a list as `PointerBuilder::set_struct` and `set_list` under no limit of words. Then all words stand as they were, the struct's union included, and those that were allocated for a copy are zero.
     ///
-    /// A struct into a group is refused at the first of its fields that can't be set: with `CannotSetAnyPointerFieldToAPrimitiveValue` at an untyped pointer that isn't null or is an active member, with `SettingDynamicCapabilitiesIsUnsupported` at such a capability, as `dynamic_struct::Reader::get` where a pointer can't be read as its type, and else as a copy is; at a null pointer of the active member only for want of room for its default or its empty value, with `SizeOverflow` just where that is too long, or the message's words with its next object and a pad would pass 2^29 - 1, else as the allocator refuses. Then the group has a beginning of its writes, and all else stands.
+    /// A struct into a group is refused at the first of its fields that can't be set:
+    /// - with `CannotSetAnyPointerFieldToAPrimitiveValue` at an untyped pointer that isn't null or is an active member;
+    /// - with `SettingDynamicCapabilitiesIsUnsupported` at such a capability;
+    /// - as `dynamic_struct::Reader::get` where a pointer can't be read as its type;
+    /// - at a null pointer of the active member only for want of room for its default or its empty value: with `SizeOverflow` exactly where that is too long, or the message's words with its next object and a pad would pass 2^29 - 1, else as the allocator refuses;
+    /// - else as a copy is.
+    ///
+    /// Then the group has a beginning of its writes, and all else stands.
     pub fn set<B: ReaderArena>(
         &mut self,
         field: Field<'_>,

@@ -13,7 +13,13 @@ pub fn pointers_are_read()
     gets_are_readings();
 }
 
-/// What a field shows of a struct that stands at a value is what the model reads of it there, at every type: a plain field its bits, a group the record of the same section and children, one behind a pointer what the child reads as, and a null pointer what the value of the default reads as, with 64 levels of its own whatever the message has left, else the empty value. A default has to keep the schema rules only where the pointer is null.
+/// What a field shows of a struct that stands at a value is what the model reads of it there, at every type:
+/// - a plain field its bits;
+/// - a group the record of the same section and children;
+/// - one behind a pointer what the child reads as;
+/// - a null pointer what the value of the default reads as, with 64 levels of its own whatever the message has left, else the empty value.
+///
+/// A default has to keep the schema rules only where the pointer is null.
 pub fn fields_are_read()
     ensures { FieldsAreRead }
 {
