@@ -3,7 +3,7 @@
 
 usage: program_runs.py PROGRAM EXAMPLES CASES..
 
-EXAMPLES is the folder of README's examples. CASES are files of cases, one a line, as the README of capnp_relay_cases
+EXAMPLES is the folder of README's examples. CASES are files of cases, one a line, as the README of cases_relay
 tells; those without a "call" are runs of the program: the arguments, the files, the input, and the status, output and
 log that are wanted. The program's status, output and log must be those, byte by byte; where a run has "messages", its
 output is judged by plain_judge.py. Ends with status 1 where one differs, where a file has no case, and where no file has

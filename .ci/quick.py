@@ -1,6 +1,6 @@
 #!/usr/bin/env python3
 """Refuses in seconds what would fail the gate after an hour: files out of layout, edits that no longer apply, dead links,
-dependencies that nothing cites.
+dependencies that nothing cites or that go up, a second path to an item, a second meaning of a word of the definitions.
 
 usage: quick.py    (at the top of the repository)
 
@@ -21,6 +21,8 @@ MOST_EDITS_OF_A_CRATE = 8
 # The folders of a crate that hold its text, and the most lines of a file of code.
 PARTS = ("src", "specs", "proofs")
 MOST_LINES = 400
+# The crates that pass on what stands in others.
+DOORS = ("capnp_layout", "capnp_message", "capnp_schema", "capnp_relay")
 
 
 def text_of(path):
@@ -63,6 +65,43 @@ def faults_of_uses():
         for used in uses:
             if not re.search(rf"\b{used}::|\bRattle\.{used}\.", text):
                 yield f"crates.txt: no file of {crate} cites {used}"
+
+
+def faults_of_storeys():
+    """Crates that use one of a storey above their own, and those that use one further down in crates.txt."""
+    storey, storeys, above = 0, {}, []
+    for line in text_of("crates.txt").splitlines():
+        storey += line.startswith("# ----")
+        head, _, uses = line.split("#")[0].partition(":")
+        if head.strip():
+            storeys[head.strip()] = storey
+            above += [(head.strip(), it) for it in uses.split()]
+    for crate, used in above:
+        if storeys.get(used, 0) > storeys[crate]:
+            yield f"crates.txt: {crate} uses {used} of a storey above its own"
+
+
+def faults_of_roads(crates):
+    """Items that a crate which is no door passes on from another: each has one path, and those of the doors."""
+    for crate in crates:
+        path = f"crates/{crate}/src/lib.rt"
+        if crate in DOORS or not os.path.isfile(path):
+            continue
+        for passed in re.findall(r"(?m)^pub use (\w+)::", text_of(path)):
+            if passed in crates:
+                yield f"{path} passes on what stands in {passed}"
+
+
+def faults_of_words(crates):
+    """Public names of definitions that stand in two places, so that a word would have two meanings."""
+    places = {}
+    for crate in crates:
+        for path in files_below(f"crates/{crate}/specs"):
+            for name in re.findall(r"(?m)^ *(?:pub (?:record|data)|(?:abbrev|unfoldable) pub) (\S+)", text_of(path)):
+                places.setdefault(name, []).append(path)
+    for name, paths in sorted(places.items()):
+        if len(paths) > 1:
+            yield f"{name} is defined in {' and '.join(paths)}"
 
 
 def fault_of_edit(crate, path):
@@ -174,6 +213,7 @@ def main():
     crates = listed_crates()
     found = [*faults_of_crates(crates), *faults_of_uses(), *faults_of_edits(crates), *faults_of_links(), *faults_of_samples()]
     found += [*faults_of_named_tests(), *faults_of_lengths(crates)]
+    found += [*faults_of_storeys(), *faults_of_roads(crates), *faults_of_words(crates)]
     with tempfile.TemporaryDirectory() as room:
         shutil.copy("crates.txt", room)
         with concurrent.futures.ThreadPoolExecutor(os.cpu_count()) as pool:

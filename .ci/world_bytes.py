@@ -1,5 +1,5 @@
 #!/usr/bin/env python3
-"""Runs capnp_device_cases as it was built, and prints at how many bytes devices failed.
+"""Runs cases_devices as it was built, and prints at how many bytes devices failed.
 
 usage: world_bytes.py PROGRAM FOLDER
 

@@ -1,5 +1,5 @@
 #!/usr/bin/env python3
-"""Refuses each growth of each case of capnp_growth_cases in turn, and prints how many were tried.
+"""Refuses each growth of each case of cases_growths in turn, and prints how many were tried.
 
 usage: world_cases.py PROGRAM FOLDER
 

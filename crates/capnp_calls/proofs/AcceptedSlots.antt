@@ -7,10 +7,10 @@ use Rattle.capnp_model.proofs.lemmas.KeptRules.{found_passes, behind, no_break}
 use Rattle.capnp_model.proofs.lemmas.SoundRules.{rules_kept, no_group_kind}
 use Rattle.capnp_records.specs.declared.raw.RawBrandedStructSchema.{RawBrandedStructSchema}
 use Rattle.capnp_records.proofs.lemmas.PlainStructs.{place_is_found}
-use Rattle.capnp_queries.specs.Structs.{nodes_around, schema_around, id_of, IsRecordOf}
-use Rattle.capnp_queries.specs.Handles.{IsFieldRecord}
-use Rattle.capnp_queries.specs.declared.structs.StructSchema.{StructSchema}
-use Rattle.capnp_queries.proofs.lemmas.Records.{struct_is}
+use Rattle.capnp_values_queries.specs.Structs.{nodes_around, schema_around, id_of, IsRecordOf}
+use Rattle.capnp_values_queries.specs.Handles.{IsFieldRecord}
+use Rattle.capnp_values_queries.specs.declared.structs.StructSchema.{StructSchema}
+use Rattle.capnp_values_queries.proofs.lemmas.Records.{struct_is}
 use Rattle.capnp_model.proofs.lemmas.Tests.{same_number, and_left, and_right}
 use Rattle.capnp_calls.specs.Roots.{IsRoot}
 

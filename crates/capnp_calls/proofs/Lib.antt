@@ -1,3 +1,5 @@
 pub mod lemmas
 mod AcceptedSlots
 mod GivenCalls
+mod MessageExamples
+mod Walks

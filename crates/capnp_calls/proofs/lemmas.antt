@@ -5,3 +5,5 @@ pub mod PathAnswers
 pub mod FieldSlots
 pub mod NamedFields
 pub mod ClearedGroups
+pub mod EachWay
+pub mod Kept

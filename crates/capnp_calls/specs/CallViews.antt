@@ -1,8 +1,8 @@
 -- What contracts see of calls.
 use Rattle.std.specs.Prelude.{◌≡◌, ◌^◌, nat_lt, if◌then◌else◌, Option, Some, None, option_map, IsSome, Result, Ok, Err, List, [], ◌∷◌, map, string_bytes}
 use Rattle.capnp_model.specs.Calls.{Step as ModelStep, name, index, CallValue as ModelValue, whole_number, truth, enumerant, text_value, blob_value, message, Verb as ModelVerb, get, set_to, init, initn, clear, Call as ModelCall}
-use Rattle.capnp_call_messages.specs.Frames.{one_frame, value_in}
-use Rattle.capnp_call_messages.specs.Messages.{tree_of_message}
+use Rattle.capnp_calls.specs.Frames.{one_frame, value_in}
+use Rattle.capnp_calls.specs.Messages.{tree_of_message}
 use Rattle.capnp_calls.specs.declared.call.Step.{Step}
 use Rattle.capnp_calls.specs.declared.call.Step.TheVariants as step
 use Rattle.capnp_calls.specs.declared.call.Verb.{Verb}
@@ -99,12 +99,12 @@ abbrev pub GivesFrame : Verb → Option CallValue → Type 0
 GivesFrame verb.Set (Some v) = IsFrame v
 GivesFrame _ _ = ⊥
 
--- The same along a path.
+-- `set` to such a message, along a path.
 abbrev pub SetsFrame : List Step → Verb → Option CallValue → Type 0
 SetsFrame [] v x = ⊥
 SetsFrame (s ∷ path) v x = GivesFrame v x
 
 -- What is made is refused by the fault; want of memory is one where some is wanted.
-abbrev pub IsRefusal : {A : Type 0} → Type 0 → Result A CallFault → CallFault → Type 0
-IsRefusal wants made fault.Memory = wants
-IsRefusal wants made f = made ≡ Err f
+abbrev pub IsCallRefusal : {A : Type 0} → Type 0 → Result A CallFault → CallFault → Type 0
+IsCallRefusal wants made fault.Memory = wants
+IsCallRefusal wants made f = made ≡ Err f

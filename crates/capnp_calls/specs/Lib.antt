@@ -8,3 +8,8 @@ pub mod Replies
 pub mod Sizes
 pub mod LongLists
 pub mod Paths
+pub mod Steps
+pub mod Ways
+pub mod Frames
+pub mod Messages
+pub mod Copied

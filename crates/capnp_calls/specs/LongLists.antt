@@ -7,8 +7,8 @@ use Rattle.capnp_model.specs.Calls.{Call, Content}
 use Rattle.capnp_model.specs.InKindCalls.{at_value, end_of}
 use Rattle.capnp_model.specs.Steps.{step}
 use Rattle.capnp_model.specs.Answers.{edits}
-use Rattle.capnp_queries.specs.Structs.{schema_around, id_of}
-use Rattle.capnp_queries.specs.declared.structs.StructSchema.{StructSchema}
+use Rattle.capnp_values_queries.specs.Structs.{schema_around, id_of}
+use Rattle.capnp_values_queries.specs.declared.structs.StructSchema.{StructSchema}
 use Rattle.capnp_calls.specs.Sizes.{content_len, end_content, IsDone}
 
 -- What a call puts where its path ends.

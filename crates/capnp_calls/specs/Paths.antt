@@ -6,12 +6,12 @@ use Rattle.capnp_model.specs.Printing.{fields_in}
 use Rattle.capnp_model.specs.Calls.{Step, name, Verb}
 use Rattle.capnp_model.specs.Steps.{Outcome, step_field, step_path}
 use Rattle.capnp_model.specs.Edits.{Cell, Edit, edit_named, edit_field}
-use Rattle.capnp_queries.specs.Fields.{union_in}
-use Rattle.capnp_calls.specs.Replies.{is_active_in}
+use Rattle.capnp_values_queries.specs.Fields.{union_in}
+use Rattle.capnp_calls.specs.Replies.{is_active_in_cell}
 
 -- What the record machine makes of the rest of a path at a field.
 unfoldable pub field_outcome : Schema → List Step → Verb → Option ℕ → Option ℕ → Body → Cell → Outcome Reading
-field_outcome s path verb union member body c = step_field s path verb body (only_if (is_active_in union member c) (body_of body whole_words c.section (read_child s c.kids)))
+field_outcome s path verb union member body c = step_field s path verb body (only_if (is_active_in_cell union member c) (body_of body whole_words c.section (read_child s c.kids)))
 
 -- What the record machine makes of the rest of a path at a struct or a group.
 unfoldable pub shape_outcome : Schema → Shape → List Step → Verb → Cell → Outcome Record

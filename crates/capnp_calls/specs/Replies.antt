@@ -20,5 +20,5 @@ content_reply (refused_by kind) = reply_refused kind
 content_reply _ = reply_done
 
 -- A field that is no member, or the active one of its union. (Encoding, "Structs")
-abbrev pub is_active_in : Option ℕ → Option ℕ → Cell → Bool
-is_active_in union member c = is_active member (discriminant union whole_words c.section)
+abbrev pub is_active_in_cell : Option ℕ → Option ℕ → Cell → Bool
+is_active_in_cell union member c = is_active member (discriminant union whole_words c.section)

@@ -4,8 +4,8 @@ use Rattle.capnp_model.specs.Trees.{Tree}
 use Rattle.capnp_model.specs.Readings.{Record, record_of}
 use Rattle.capnp_model.specs.Calls.{Step, name}
 use Rattle.capnp_records.specs.Sets.{IsStructOf}
-use Rattle.capnp_queries.specs.Structs.{nodes_around, schema_around, id_of}
-use Rattle.capnp_queries.specs.declared.structs.StructSchema.{StructSchema}
+use Rattle.capnp_values_queries.specs.Structs.{nodes_around, schema_around, id_of}
+use Rattle.capnp_values_queries.specs.declared.structs.StructSchema.{StructSchema}
 
 -- The root is a struct of its set, and no group.
 abbrev pub IsRoot : StructSchema → Type 0

@@ -3,7 +3,7 @@
 ghost use Rattle.std.specs.Prelude.{◌≢◌, [], IsTrue};
 ghost use Rattle.capnp_calls.specs.Actions.{is_in_range};
 
-use capnp_call_messages::message::MessageValue;
+use crate::message::MessageValue;
 use std::alloc::Global;
 use thiserror::Error;
 
@@ -22,7 +22,7 @@ pub enum Verb {
     Get,
     Set,
     Init,
-    /// a text, data or a list of so many elements
+    /// a text, data or a list of n elements
     Initn(u32),
     Clear,
 }
@@ -86,12 +86,14 @@ pub struct Call {
 
 impl Call {
     ghost use Rattle.std.specs.Prelude.{◌≡◌, map, Ok, IfOk, IfErr};
-    ghost use Rattle.capnp_calls.specs.CallViews.{step_view, action_view, verb_of, call_view, call_from, IsRefusal, SetsFrame};
+    ghost use Rattle.capnp_calls.specs.CallViews.{step_view, action_view, verb_of, call_view, call_from, IsCallRefusal, SetsFrame};
 
-    /// A call along a path, which has a step. `Set` takes a value, the other verbs take none; `Initn` at most 2^29 - 1
-    /// elements. A message is one frame of at most 2^23 words, nothing behind it, whose value has no capability, at most 64 levels
-    /// of pointers, and costs at most 2^23 words to follow; its canonical words are kept. The first of these rules that is broken
-    /// is told. `Memory`: a growth was refused, where the call sets a frame. What is given is gone after a refusal.
+    /// A call along a path, which has a step. `Set` takes a value, the other verbs take none;
+    /// `Initn` at most 2^29 - 1 elements. A message is one frame of at most 2^23 words, nothing
+    /// behind it. Its value has no capability and at most 64 levels of pointers, and costs at most
+    /// 2^23 words to follow. Its canonical words are kept. The first of these rules that is broken
+    /// is told. `Memory`: a growth was refused, where the call sets a frame. What is given is gone
+    /// after a refusal.
     pub fn new(
         alloc: Global,
         path: Vec<Step>,
@@ -100,7 +102,7 @@ impl Call {
     ) -> Result<Call, CallFault>
         ensures call { IfOk result (λ c. call_from path.items verb value ≡ Ok (call_view c)) }
         ensures refused { IfErr result (λ f.
-            IsRefusal (SetsFrame path.items verb value) (call_from path.items verb value) f) }
+            IsCallRefusal (SetsFrame path.items verb value) (call_from path.items verb value) f) }
     {
         if path.is_empty() {
             return Err(CallFault::EmptyPath);
@@ -140,13 +142,13 @@ impl Call {
 
 impl Action {
     ghost use Rattle.std.specs.Prelude.{◌≡◌, Ok, IsTrue, IfOk, IfErr};
-    ghost use Rattle.capnp_calls.specs.CallViews.{action_view, verb_from, IsRefusal, GivesFrame};
+    ghost use Rattle.capnp_calls.specs.CallViews.{action_view, verb_from, IsCallRefusal, GivesFrame};
 
     /// What the verb does with the value.
     fn new(alloc: Global, verb: Verb, value: Option<CallValue>) -> Result<Action, CallFault>
         ensures verb { IfOk result (λ a. verb_from verb value ≡ Ok (action_view a)) }
         ensures in_range { IfOk result (λ a. IsTrue (is_in_range a)) }
-        ensures refused { IfErr result (IsRefusal (GivesFrame verb value) (verb_from verb value)) }
+        ensures refused { IfErr result (IsCallRefusal (GivesFrame verb value) (verb_from verb value)) }
     {
         match (verb, value) {
             (Verb::Set, Some(value)) => Ok(Action::Set(SlotValue::new(alloc, value)?)),
@@ -168,12 +170,12 @@ impl Action {
 
 impl SlotValue {
     ghost use Rattle.std.specs.Prelude.{◌≡◌, Some, IfOk, IfErr};
-    ghost use Rattle.capnp_calls.specs.CallViews.{slot_value_view, taken_value, set_verb, IsRefusal, IsFrame};
+    ghost use Rattle.capnp_calls.specs.CallViews.{slot_value_view, taken_value, set_verb, IsCallRefusal, IsFrame};
 
     /// The value, with a message made canonical.
     fn new(alloc: Global, value: CallValue) -> Result<SlotValue, CallFault>
         ensures value { IfOk result (λ v. taken_value value ≡ Some (slot_value_view v)) }
-        ensures refused { IfErr result (IsRefusal (IsFrame value) (set_verb (taken_value value))) }
+        ensures refused { IfErr result (IsCallRefusal (IsFrame value) (set_verb (taken_value value))) }
     {
         match value {
             CallValue::Number(n) => Ok(SlotValue::Number(n)),

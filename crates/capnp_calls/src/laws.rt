@@ -1,10 +1,10 @@
 //! Laws of calls, each the contract of a function that does nothing.
 ghost use Rattle.std.specs.Prelude.{◌≡◌, false, List, map};
 ghost use Rattle.capnp_model.specs.CallRuns.{AreGiven};
-ghost use Rattle.capnp_queries.specs.declared.structs.StructSchema.{StructSchema};
+ghost use Rattle.capnp_values_queries.specs.declared.structs.StructSchema.{StructSchema};
 ghost use Rattle.capnp_calls.specs.declared.call.Call.{Call};
 ghost use Rattle.capnp_calls.specs.CallViews.{call_view};
-ghost use Rattle.capnp_queries.specs.Structs.{schema_around, id_of};
+ghost use Rattle.capnp_values_queries.specs.Structs.{schema_around, id_of};
 ghost use Rattle.capnp_calls.specs.Roots.{IsRoot};
 
 /// What calls set are values of their sorts.

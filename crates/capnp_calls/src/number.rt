@@ -17,7 +17,8 @@ pub fn unsigned_bits(number: i128, width: u32) -> Option<u64>
     }
 }
 
-/// The bits of a number with a sign, in two's complement, if it is from -2^(width - 1) to 2^(width - 1) - 1.
+/// The bits of a number with a sign, in two's complement, if it is from -2^(width - 1) to
+/// 2^(width - 1) - 1.
 pub fn signed_bits(number: i128, width: u32) -> Option<u64>
     requires some { 0 < width }
     requires most { width ≤ 64 }
@@ -38,7 +39,7 @@ pub fn signed_bits(number: i128, width: u32) -> Option<u64>
     }
 }
 
-/// The greatest number of so many bits.
+/// The greatest number of n bits.
 fn all_ones(width: u32) -> u64
     requires { width ≤ 64 }
     ensures { result ≡ 2 ^ width - 1 }

@@ -17,24 +17,24 @@ use Rattle.capnp_units.specs.declared.errors.Error.{Error}
 use Rattle.capnp_units.specs.declared.kinds.ErrorKind.TheVariants.{SizeOverflow}
 use Rattle.capnp_units.specs.declared.limiter.ReadLimiter.{ReadLimiter}
 use Rattle.capnp_model.proofs.lemmas.ByteLists.{word_of_eight}
-use Rattle.capnp_canonical.specs.Writes.{words_view}
-use Rattle.capnp_footprints.specs.Writes.{spliced, with_words, with_zeros, segment_end}
-use Rattle.capnp_footprints.proofs.lemmas.Splices.{spliced_whole}
-use Rattle.capnp_copy.specs.Allocations.{Allocates, total_words}
-use Rattle.capnp_copy.specs.Values.{Becomes}
+use Rattle.capnp_wire_canonical.specs.Writes.{words_view}
+use Rattle.capnp_model_writes.specs.Writes.{spliced, with_words, with_zeros, segment_end}
+use Rattle.capnp_model_writes.proofs.lemmas.Splices.{spliced_whole}
+use Rattle.capnp_copy_arenas.specs.Allocations.{Allocates, total_words}
+use Rattle.capnp_copy_arenas.specs.Values.{Becomes}
 use Rattle.capnp_model.specs.Encoding.{canonical_words}
 use Rattle.capnp_model.specs.Traversal.{tree_at}
 use Rattle.capnp_model.specs.Trimming.{trim}
 use Rattle.capnp_model.specs.Visits.{visits, visits_cost}
 use Rattle.capnp_model.proofs.lemmas.Chaining.{some_is}
 use Rattle.capnp_units.specs.Limits.{IsFree}
-use Rattle.capnp_object.specs.Walks.{Stopped}
-use Rattle.capnp_copy_from.specs.Copies.{BecomesCopy, CopiesValue, Unplaced}
-use Rattle.capnp_copy_from.proofs.lemmas.Filling.{value_stands}
-use Rattle.capnp_message.specs.Canonical.{GivesCanonical, HasNoRoot, CopiesWords, ReplacesRoot, IsReplaced, HasNoRoom, SetsCanonical}
+use Rattle.capnp_wire_objects.specs.Walks.{Stopped}
+use Rattle.capnp_copy_values.specs.Copies.{BecomesCopy, CopiesValue, Unplaced}
+use Rattle.capnp_copy_values.proofs.lemmas.Filling.{value_stands}
+use Rattle.capnp_message.specs.Canonical.{GivesCanonical, HasNoRoot, CopiesWordsToRoot, ReplacesRoot, IsReplaced, HasNoRoomForWords, SetsCanonical}
 use Rattle.capnp_units.specs.Segments.{words_in}
 use Rattle.capnp_message.specs.Built.{rooted, used_words}
-use Rattle.capnp_object.proofs.lemmas.Walks.{free_left, unstopped}
+use Rattle.capnp_wire_objects.proofs.lemmas.Walks.{free_left, unstopped}
 
 pub on_ok : {X Y : Type 0} (r : Result X Y) {P Q : Type 0} → OnOk r P → (P → Q) → OnOk r Q
 on_ok (Ok x) p f = f p
@@ -125,7 +125,7 @@ set_first o limit s (first ∷ rest) u old new v ws r none g is done refused kin
 -- ---- words that are copied
 
 -- what is made of words that mean a value
-made : (n : ℕ) (words : List ℕ) (t u : Segments) (x : ⊤) (v : Tree) → tree_at n (words ∷ []) root ≡ Some v → CopiesWords n words t u (Ok x) → IsReplaced n v words t u
+made : (n : ℕ) (words : List ℕ) (t u : Segments) (x : ⊤) (v : Tree) → tree_at n (words ∷ []) root ≡ Some v → CopiesWordsToRoot n words t u (Ok x) → IsReplaced n v words t u
 made n words t u x v read c =
     let copied = c.copies in
     record {
@@ -139,10 +139,10 @@ made n words t u x v read c =
     }
 
 -- words that can be read are refused for want of room alone
-full : (n : ℕ) (words : List ℕ) (t u : Segments) (e : Error) → (cost : ℕ) × (visits_cost (visits n (words ∷ []) root) ≡ Some cost) → CopiesWords n words t u (Err e) → HasNoRoom n words t u e
+full : (n : ℕ) (words : List ℕ) (t u : Segments) (e : Error) → (cost : ℕ) × (visits_cost (visits n (words ∷ []) root) ≡ Some cost) → CopiesWordsToRoot n words t u (Err e) → HasNoRoomForWords n words t u e
 full n words t u e costs c = by c.copies.why
   where
-    by : Stopped (visits n (words ∷ []) root) c.start e c.end ⊎ Unplaced (words ∷ []) (visits n (words ∷ []) root) u c.start e c.end → HasNoRoom n words t u e
+    by : Stopped (visits n (words ∷ []) root) c.start e c.end ⊎ Unplaced (words ∷ []) (visits n (words ∷ []) root) u c.start e c.end → HasNoRoomForWords n words t u e
     by (inl x) = absurd (unstopped (visits n (words ∷ []) root) costs.0 c.start c.end e costs.1 (free_left c.start c.free) x)
     by (inr x) = record {
       start = c.start;
@@ -183,7 +183,7 @@ set_again (Some n) limit k s (first ∷ rest) u old new v ws r some is g same do
     by (Ok x) c = (n, words, refl, (g, made n words (first ∷ rest) u x (trim g.value) read c))
     by (Err e) c = inr (n, words, refl, (g, why c))
       where
-        why : HasNoRoot (first ∷ rest) u e ⊎ CopiesWords n words (first ∷ rest) u (Err e) → HasNoRoot (first ∷ rest) u e ⊎ HasNoRoom n words (first ∷ rest) u e
+        why : HasNoRoot (first ∷ rest) u e ⊎ CopiesWordsToRoot n words (first ∷ rest) u (Err e) → HasNoRoot (first ∷ rest) u e ⊎ HasNoRoomForWords n words (first ∷ rest) u e
         why (inl x) = inl x
         why (inr x) = inr (full n words (first ∷ rest) u e (costs n (words ∷ []) (trim g.value) read) x)
 

@@ -4,7 +4,7 @@ use Rattle.capnp_model.specs.Segments.{Place, root}
 use Rattle.capnp_model.specs.Trees.{null}
 use Rattle.capnp_model.specs.Traversal.{tree_at}
 use Rattle.capnp_model.specs.Coverage.{span, holds}
-use Rattle.capnp_footprints.specs.Footprints.{Owns, behind, footprint}
+use Rattle.capnp_model_writes.specs.Footprints.{Owns, behind, footprint}
 
 at_most_once : (b : Bool) → (if b then 1 else 0) + 0 ≤ 1
 at_most_once true = omega arith

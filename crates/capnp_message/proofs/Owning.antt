@@ -5,12 +5,12 @@ use Rattle.std.specs.Int.{from_le_bytes, w64}
 use Rattle.std.proofs.lemmas.List.{take-map, take_at, length-map, length-take}
 use Rattle.capnp_model.specs.Segments.{Segments, root}
 use Rattle.capnp_units.specs.declared.limiter.ReadLimiter.{ReadLimiter}
-use Rattle.capnp_canonical.specs.Objects.{WritesCanonical}
-use Rattle.capnp_canonical.specs.Writes.{words_view}
+use Rattle.capnp_wire_canonical.specs.Objects.{WritesCanonical}
+use Rattle.capnp_wire_canonical.specs.Writes.{words_view}
 use Rattle.std.specs.Bool.{OnTrue, OnFalse}
 use Rattle.capnp_units.specs.declared.errors.Error.{Error}
 use Rattle.capnp_units.specs.declared.kinds.ErrorKind.TheVariants.{BufferNotLargeEnough}
-use Rattle.capnp_canonical.specs.Copies.{copy_visits}
+use Rattle.capnp_wire_canonical.specs.Copies.{copy_visits}
 use Rattle.capnp_message.specs.Canonical.{GivesCanonical, CostsWithin, TellsWhole, most_cost}
 
 -- the words that were written are those that stay

@@ -9,7 +9,7 @@ use Rattle.capnp_units.specs.declared.errors.Error.{Error}
 use Rattle.capnp_units.specs.declared.kinds.ErrorKind.{ErrorKind}
 use Rattle.capnp_units.specs.declared.kinds.ErrorKind.TheVariants.{SizeOverflow}
 use Rattle.capnp_units.specs.declared.limiter.ReadLimiter.{ReadLimiter}
-use Rattle.capnp_copy.specs.Allocations.{total_words}
+use Rattle.capnp_copy_arenas.specs.Allocations.{total_words}
 use Rattle.capnp_message.specs.Canonical.{GivesCanonical}
 use Rattle.capnp_message.proofs.Written.{not_too_many}
 

@@ -16,8 +16,8 @@ use Rattle.capnp_units.specs.declared.kinds.ErrorKind.{ErrorKind}
 use Rattle.capnp_units.specs.declared.limiter.ReadLimiter.{ReadLimiter}
 use Rattle.capnp_units.specs.declared.sizes.MessageSize.{MessageSize}
 use Rattle.capnp_units.specs.Limits.{limit_of, left_of, granted_of, less, Allows, IsPassed}
-use Rattle.capnp_object.specs.Walks.{CannotPass, Stopped, SizeGives}
-use Rattle.capnp_canonical.specs.Copies.{unless_capability, copy_visits}
+use Rattle.capnp_wire_objects.specs.Walks.{CannotPass, Stopped, SizeGives}
+use Rattle.capnp_wire_canonical.specs.Copies.{unless_capability, copy_visits}
 use Rattle.capnp_message.specs.Canonical.{most_cost, IsAsked, Suffices, TellsWhole}
 
 -- ---- a copy visits what a walk does, up to its first fault

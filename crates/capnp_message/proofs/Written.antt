@@ -4,8 +4,8 @@ use Rattle.std.specs.List.{All}
 use Rattle.std.proofs.lemmas.List.{length-map}
 use Rattle.std.proofs.lemmas.List.Elements.{All-map}
 use Rattle.capnp_model.specs.Segments.{Segments}
-use Rattle.capnp_footprints.specs.Writes.{with_zeros}
-use Rattle.capnp_copy.specs.Allocations.{total_of, total_words, Allocates}
+use Rattle.capnp_model_writes.specs.Writes.{with_zeros}
+use Rattle.capnp_copy_arenas.specs.Allocations.{total_of, total_words, Allocates}
 use Rattle.capnp_units.specs.declared.kinds.ErrorKind.{ErrorKind}
 use Rattle.capnp_units.specs.declared.kinds.ErrorKind.TheVariants.{SizeOverflow}
 use Rattle.capnp_stream.specs.Writing.{IsSegment, AreWritable}

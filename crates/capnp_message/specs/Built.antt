@@ -4,10 +4,10 @@ use Rattle.std.specs.Option.{is_some}
 use Rattle.capnp_model.specs.Segments.{Segments, root, words_at}
 use Rattle.capnp_units.specs.declared.kinds.ErrorKind.TheVariants.{OutOfBounds}
 use Rattle.capnp_units.specs.Segments.{words_in, whole_words}
-use Rattle.capnp_copy.specs.declared.allocator.Allocator.{Ghosts as Allocator}
-use Rattle.capnp_copy.specs.declared.allocator.SegmentBytes.{Ghosts as SegmentBytes}
-use Rattle.capnp_copy.specs.declared.segments.BuilderArenaImpl.{BuilderArenaImpl}
-use Rattle.capnp_copy.specs.Refusals.{IsRefusal, IsSizeOrRefusal, arena_refuses}
+use Rattle.capnp_copy_arenas.specs.declared.allocator.Allocator.{Ghosts as Allocator}
+use Rattle.capnp_copy_arenas.specs.declared.allocator.SegmentBytes.{Ghosts as SegmentBytes}
+use Rattle.capnp_copy_arenas.specs.declared.segments.BuilderArenaImpl.{BuilderArenaImpl}
+use Rattle.capnp_copy_arenas.specs.Refusals.{IsRefusal, IsSizeOrRefusal, arena_refuses}
 use Rattle.capnp_units.specs.declared.errors.Error.{Error}
 
 -- The bytes of the used words of each segment, by how many are used and what its bytes are.
@@ -38,7 +38,8 @@ lent_with {allocator = allocator} {segment = segment} x arena = segment.loans x 
 abbrev pub IsRefusalOf : {A S : Type 0} {allocator : Allocator A S} {segment : SegmentBytes S} → BuilderArenaImpl A S allocator segment → Error → Type 0
 IsRefusalOf {A = A} {S = S} {allocator = allocator} {segment = segment} arena e = IsRefusal (λ (a : BuilderArenaImpl A S allocator segment) n kind. arena_refuses a n kind) e.kind
 
--- The same, or a size passes a limit of the format.
+-- Memory was asked for, for such an arena, and refused with the error's very kind; or a size passes
+-- a limit of the format.
 abbrev pub IsSizeOrRefusalOf : {A S : Type 0} {allocator : Allocator A S} {segment : SegmentBytes S} → BuilderArenaImpl A S allocator segment → Error → Type 0
 IsSizeOrRefusalOf {A = A} {S = S} {allocator = allocator} {segment = segment} arena e = IsSizeOrRefusal (λ (a : BuilderArenaImpl A S allocator segment) n kind. arena_refuses a n kind) e
 
@@ -55,7 +56,8 @@ abbrev pub rooted : Segments → Segments
 rooted [] = (0 ∷ []) ∷ []
 rooted (words ∷ segments) = words ∷ segments
 
--- The segments of a message that goes on in memory with these bytes of words: one, or none where there are none. (Encoding, "Messages")
+-- The segments of a message that goes on in memory with these bytes of words: one, or no segment
+-- where there are no words. (Encoding, "Messages")
 abbrev pub opened_words : List ℕ → Segments
 opened_words [] = []
 opened_words (byte ∷ bytes) = whole_words (byte ∷ bytes) ∷ []

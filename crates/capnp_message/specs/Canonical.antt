@@ -13,13 +13,13 @@ use Rattle.capnp_model.specs.Visits.{Visit, visits, visits_cost}
 use Rattle.capnp_units.specs.declared.errors.Error.{Error}
 use Rattle.capnp_units.specs.declared.kinds.ErrorKind.TheVariants.{NestingLimitExceeded, OutOfBounds, OutOfMemory, BufferNotLargeEnough, SizeOverflow}
 use Rattle.capnp_units.specs.declared.limiter.ReadLimiter.{ReadLimiter}
-use Rattle.capnp_object.specs.Walks.{Walked, Stopped}
-use Rattle.capnp_canonical.specs.Checks.{TellsMessage}
-use Rattle.capnp_canonical.specs.Copies.{copy_visits}
-use Rattle.capnp_canonical.specs.Writes.{words_view}
-use Rattle.capnp_footprints.specs.Footprints.{Owns}
-use Rattle.capnp_footprints.specs.Changes.{Replaces}
-use Rattle.capnp_copy_from.specs.Copies.{BecomesCopy, CopiesValue, GrowsByZeros, TakesFew, Unplaced}
+use Rattle.capnp_wire_objects.specs.Walks.{Walked, Stopped}
+use Rattle.capnp_wire_canonical.specs.Checks.{TellsMessage}
+use Rattle.capnp_wire_canonical.specs.Copies.{copy_visits}
+use Rattle.capnp_wire_canonical.specs.Writes.{words_view}
+use Rattle.capnp_model_writes.specs.Footprints.{Owns}
+use Rattle.capnp_model_writes.specs.Changes.{Replaces}
+use Rattle.capnp_copy_values.specs.Copies.{BecomesCopy, CopiesValue, GrowsByZeros, TakesFew, Unplaced}
 use Rattle.capnp_units.specs.Limits.{IsFree}
 
 -- Nothing has levels, so that every value is refused, at no cost.
@@ -45,8 +45,8 @@ pub record Canonicalized (n : ℕ) (s : Segments) (old : ReadLimiter) (words : L
   pub few : length words < 2 ^ 29
   pub walked : Walked (copy_visits n s root) old new
 
--- The first visits were made, and they cost more than so many words.
-pub record IsTooLong (path : List Visit) (most : ℕ) (old : ReadLimiter) (e : Error) (new : ReadLimiter) : Type 0 where
+-- The first visits were made, and they cost more than n words.
+pub record ExceedsBuffer (path : List Visit) (most : ℕ) (old : ReadLimiter) (e : Error) (new : ReadLimiter) : Type 0 where
   pub before : List Visit
   pub rest : List Visit
   pub path_is : path ≡ before ++ rest
@@ -56,7 +56,8 @@ pub record IsTooLong (path : List Visit) (most : ℕ) (old : ReadLimiter) (e : E
   pub why : e.kind ≡ BufferNotLargeEnough
   pub long : most < cost
 
--- Where the first visits cost more than so much room has behind the root, they cost more than so many words.
+-- Where the first visits cost more than so much room has behind the root, they cost more than n
+-- words.
 abbrev pub Suffices : List Visit → ℕ → ℕ → Type 0
 Suffices path most room = (before rest : List Visit) (cost : ℕ) → path ≡ before ++ rest → visits_cost before ≡ Some cost → room < 1 + cost → most < cost
 
@@ -64,11 +65,11 @@ Suffices path most room = (before rest : List Visit) (cost : ℕ) → path ≡ b
 abbrev pub IsAsked : List Visit → ℕ → Type 0
 IsAsked path room = (before rest : List Visit) × (cost : ℕ) × (path ≡ before ++ rest) × (visits_cost before ≡ Some cost) × (room ≤ cost + 1)
 
--- It is told whether all visits, where none is a fault, cost no more than so many words.
+-- It is told whether all visits, where none is a fault, cost no more than n words.
 abbrev pub TellsWhole : List Visit → ℕ → Bool → Type 0
 TellsWhole path most told = (cost : ℕ) → visits_cost path ≡ Some cost → OnTrue told (cost ≤ most) × OnFalse told (most < cost)
 
--- Following a message within so many levels costs no more than the options and a message allow.
+-- Following a message within n levels costs no more than the options and a message allow.
 abbrev pub CostsWithin : Option ℕ → Option ℕ → Segments → Type 0
 CostsWithin levels limit s = (n cost : ℕ) × (levels ≡ Some n) × (visits_cost (copy_visits n s root) ≡ Some cost) × (cost ≤ most_cost limit)
 
@@ -76,27 +77,28 @@ CostsWithin levels limit s = (n cost : ℕ) × (levels ≡ Some n) × (visits_co
 abbrev pub IsWithoutMemory : ReadLimiter → Error → ReadLimiter → Type 0
 IsWithoutMemory old e new = (e.kind ≡ OutOfMemory) × (new ≡ old)
 
--- The canonical words of a message's value, within so many levels, or why there are none: its visits were stopped, it is too long, or there is no memory.
+-- The canonical words of a message's value, within n levels, or why there are none: its visits were
+-- stopped, it is too long, or there is no memory.
 abbrev pub GivesCanonical : Option ℕ → Option ℕ → Segments → ReadLimiter → Result (Vec (List ℕ) Global) Error → ReadLimiter → Type 0
 GivesCanonical None limit s old result new = IsWithoutLevels old result new
 GivesCanonical (Some n) limit s old (Ok words) new = Canonicalized n s old (words_view words.items) new
-GivesCanonical (Some n) limit s old (Err e) new = Stopped (copy_visits n s root) old e new ⊎ IsTooLong (copy_visits n s root) (most_cost limit) old e new ⊎ IsWithoutMemory old e new
+GivesCanonical (Some n) limit s old (Err e) new = Stopped (copy_visits n s root) old e new ⊎ ExceedsBuffer (copy_visits n s root) (most_cost limit) old e new ⊎ IsWithoutMemory old e new
 
 -- There is no word for the root pointer, and nothing was allocated.
 abbrev pub HasNoRoot : Segments → Segments → Error → Type 0
 HasNoRoot t u e = (is_some (words_at t root 1) ≡ false) × (e.kind ≡ OutOfBounds) × (u ≡ t)
 
 -- The value of words that begin with its root pointer is copied in place of the root's.
-pub record CopiesWords (n : ℕ) (words : List ℕ) (t u : Segments) (result : Result ⊤ Error) : Type 0 where
+pub record CopiesWordsToRoot (n : ℕ) (words : List ℕ) (t u : Segments) (result : Result ⊤ Error) : Type 0 where
   pub start : ReadLimiter
   pub end : ReadLimiter
   pub free : IsFree start
   pub copies : CopiesValue n (words ∷ []) root t u root start result end
 
--- The same, or there is no word for the root.
+-- The value of words is copied in place of the root's, or there is no word for the root.
 abbrev pub ReplacesRoot : ℕ → List ℕ → Segments → Segments → Result ⊤ Error → Type 0
-ReplacesRoot n words t u (Ok done) = CopiesWords n words t u (Ok done)
-ReplacesRoot n words t u (Err e) = HasNoRoot t u e ⊎ CopiesWords n words t u (Err e)
+ReplacesRoot n words t u (Ok done) = CopiesWordsToRoot n words t u (Ok done)
+ReplacesRoot n words t u (Err e) = HasNoRoot t u e ⊎ CopiesWordsToRoot n words t u (Err e)
 
 -- All words stand, new ones are zero, and the root has the value that it had.
 pub record RootStands (t u : Segments) : Type 0 where
@@ -114,7 +116,7 @@ pub record IsReplaced (n : ℕ) (v : Tree) (words : List ℕ) (t u : Segments) :
   pub becomes : BecomesCopy n t u root v
 
 -- There was no room for an object of canonical words, or the message would be too large with it, as the kind says. No more words were allocated than twice those that following them costs up to that object.
-pub record HasNoRoom (n : ℕ) (words : List ℕ) (t u : Segments) (e : Error) : Type 0 where
+pub record HasNoRoomForWords (n : ℕ) (words : List ℕ) (t u : Segments) (e : Error) : Type 0 where
   pub start : ReadLimiter
   pub end : ReadLimiter
   pub free : IsFree start
@@ -126,11 +128,14 @@ pub record HasNoRoom (n : ℕ) (words : List ℕ) (t u : Segments) (e : Error) :
 abbrev pub AfterCanonical : Option ℕ → Segments → ReadLimiter → ReadLimiter → (ℕ → Tree → List ℕ → Type 0) → Type 0
 AfterCanonical levels s old new P = (n : ℕ) × (words : List ℕ) × (levels ≡ Some n) × ((c : Canonicalized n s old words new) × P n c.value words)
 
--- A message without segments is set to the canonical words of a value: they are its one segment. Of any other the value of the root becomes the trimmed one. Where the words weren't given, all stands; where there was no room for them, a message without segments has none still, and any other has its root's value and all its words.
+-- A message without segments is set to the canonical words of a value: they are its one segment. Of
+-- any other the value of the root becomes the trimmed one. Where the words weren't given, all
+-- stands. Where there was no room for them, a message without segments has none still, and any
+-- other has its root's value and all its words.
 abbrev pub SetsCanonical : Option ℕ → Option ℕ → Segments → Segments → Segments → ReadLimiter → Result ⊤ Error → ReadLimiter → Type 0
 SetsCanonical levels limit s [] u old (Ok done) new = AfterCanonical levels s old new (λ n v words. u ≡ words ∷ [])
 SetsCanonical levels limit s [] u old (Err e) new =
     (u ≡ []) × (GivesCanonical levels limit s old (Err e) new ⊎ AfterCanonical levels s old new (λ n v words. e.kind ≢ SizeOverflow))
 SetsCanonical levels limit s (first ∷ rest) u old (Ok done) new = AfterCanonical levels s old new (λ n v words. IsReplaced n (trim v) words (first ∷ rest) u)
 SetsCanonical levels limit s (first ∷ rest) u old (Err e) new =
-    (GivesCanonical levels limit s old (Err e) new × (u ≡ first ∷ rest)) ⊎ AfterCanonical levels s old new (λ n v words. HasNoRoot (first ∷ rest) u e ⊎ HasNoRoom n words (first ∷ rest) u e)
+    (GivesCanonical levels limit s old (Err e) new × (u ≡ first ∷ rest)) ⊎ AfterCanonical levels s old new (λ n v words. HasNoRoot (first ∷ rest) u e ⊎ HasNoRoomForWords n words (first ∷ rest) u e)

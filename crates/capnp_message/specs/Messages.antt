@@ -15,7 +15,7 @@ abbrev pub segments_there : {S : Type 0} → Option (Reader S) → Option S
 segments_there None = None
 segments_there (Some m) = Some m.segments
 
--- The same, or the refusal.
+-- The segments of the message that may be there, or the refusal.
 abbrev pub segments_tried : {S : Type 0} → Result (Option (Reader S)) Error → Result (Option S) Error
 segments_tried (Ok o) = Ok (segments_there o)
 segments_tried (Err e) = Err e

@@ -5,14 +5,14 @@ use Rattle.capnp_model.specs.Segments.{Segments, root, words_at}
 use Rattle.capnp_model.specs.Trees.{structure, none, resized}
 use Rattle.capnp_units.specs.declared.errors.Error.{Error}
 use Rattle.capnp_units.specs.declared.sizes.StructSize.{StructSize}
-use Rattle.capnp_object.specs.Objects.{AreThere}
-use Rattle.capnp_object.specs.declared.place.Place as code
-use Rattle.capnp_wire.specs.Places.{place_view}
-use Rattle.capnp_copy.specs.Allocations.{TakesAtMost}
-use Rattle.capnp_copy.specs.Structs.{struct_at}
-use Rattle.capnp_copy.specs.Values.{Becomes, LeadsTo}
-use Rattle.capnp_copy.specs.declared.fields.StructPlace.{StructPlace}
-use Rattle.capnp_builders.specs.Gets.{StructGot, NoStructGot}
+use Rattle.capnp_wire_objects.specs.Objects.{AreThere}
+use Rattle.capnp_wire_objects.specs.declared.place.Place as code
+use Rattle.capnp_wire_objects.specs.Places.{place_view}
+use Rattle.capnp_copy_arenas.specs.Allocations.{TakesAtMost}
+use Rattle.capnp_copy_arenas.specs.Structs.{object_of_struct}
+use Rattle.capnp_copy_arenas.specs.Values.{Becomes, LeadsTo}
+use Rattle.capnp_copy_arenas.specs.declared.fields.StructPlace.{StructPlace}
+use Rattle.capnp_layout_builders.specs.Gets.{StructGot, NoStructGot}
 use Rattle.capnp_message.specs.Built.{rooted}
 
 -- The place of the root pointer.
@@ -23,16 +23,17 @@ root_slot = record { segment = 0; position = 0 }
 abbrev pub StructLies : Segments → StructPlace → Type 0
 StructLies s o = AreThere s (place_view o.start) (o.data_words + o.pointers)
 
--- A struct of zeros and nulls is made, and nothing else changes: where the pointer leads, with these sections, and its words are there; at most those are taken, and a pad's.
+-- A struct of zeros and nulls is made, and nothing else changes. It is where the pointer leads,
+-- with these sections, and its words are there. At most those are taken, and a pad's.
 abbrev pub StructPlaced : StructSize → Segments → Segments → code.Place → StructPlace → Type 0
 StructPlaced size s u slot o =
     Becomes s u (place_view slot) (structure size.data_words 0 (resized size.pointers none))
-    × LeadsTo u (place_view slot) (struct_at o)
+    × LeadsTo u (place_view slot) (object_of_struct o)
     × ((o.data_words ≡ size.data_words) × (o.pointers ≡ size.pointers))
     × StructLies u o
     × TakesAtMost s u (size.data_words + size.pointers) 1
 
--- A message of so many words has no room for such a struct and a pad.
+-- A message of n words has no room for such a struct and a pad.
 abbrev pub StructIsTooLarge : StructSize → ℕ → Type 0
 StructIsTooLarge size words = 2 ^ 29 ≤ words + (size.data_words + size.pointers + 1)
 
@@ -44,6 +45,7 @@ StructFound size s u slot o = StructGot None s u (place_view slot) size o × Str
 abbrev pub NoStructFound : StructSize → Segments → Segments → code.Place → Error → Type 0
 NoStructFound size s u slot = NoStructGot None s u (place_view slot) size
 
--- No root is got: there is no word for it and none was made, as `told` says why, and all stands as it was; or what is there is refused, as the handle's type says.
+-- No root is got. There is no word for it and none was made, as `told` says why, and all stands as
+-- it was. Or what is there is refused, as the handle's type says.
 abbrev pub NoRootFound : (Segments → Segments → code.Place → Error → Type 0) → (Error → Type 0) → Segments → Segments → Error → Type 0
 NoRootFound refuses told s u e = ((u ≡ s) × (is_some (words_at s root 1) ≡ false) × told e) ⊎ refuses (rooted s) u root_slot e

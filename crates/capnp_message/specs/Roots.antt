@@ -4,7 +4,7 @@ use Rattle.capnp_model.specs.Answers.{levels}
 use Rattle.capnp_model.specs.Kinds.{Kind}
 use Rattle.capnp_units.specs.declared.errors.Error.{Error}
 use Rattle.capnp_units.specs.declared.limiter.ReadLimiter.{ReadLimiter}
-use Rattle.capnp_object.specs.Places.{seen}
+use Rattle.capnp_wire_objects.specs.Places.{seen}
 use Rattle.capnp_wire.specs.Reads.{root_of}
 use Rattle.capnp_wire.specs.Views.{PointerView, arena_ground}
 

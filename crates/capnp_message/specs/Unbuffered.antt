@@ -3,7 +3,7 @@ use Rattle.std.specs.Prelude.{◌≡◌, ℕ, List, take, Ok, Err}
 use Rattle.std.specs.declared.result.Result.{Result}
 use Rattle.capnp_units.specs.declared.errors.Error.{Error}
 use Rattle.capnp_units.specs.declared.kinds.ErrorKind.{ErrorKind}
-use Rattle.capnp_io.specs.Counting.{KindCounts}
+use Rattle.capnp_stream_io.specs.Counting.{KindCounts}
 use Rattle.std.specs.declared.option.Option.{Option}
 use Rattle.std.specs.Io.KnownBytes.{prepend_known}
 use Rattle.capnp_message.specs.declared.unbuffered.Unbuffered.{Unbuffered}

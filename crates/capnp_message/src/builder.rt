@@ -2,22 +2,23 @@
 ghost use Rattle.std.specs.Prelude.{◌≡◌, ◌≢◌, ◌-◌, ◌*◌, ◌^◌, ◌<◌, ◌≤◌, ◌++◌, ◌∷◌, [], length, map, min, take, IfOk, IfErr, OnOk, OnErr};
 ghost use Rattle.std.specs.List.{flat_map};
 ghost use Rattle.capnp_units.specs.declared.kinds.ErrorKind.TheVariants.{OutOfMemory, SizeOverflow};
-ghost use Rattle.capnp_object.specs.Arenas.{words_before};
-ghost use Rattle.capnp_copy.specs.Refusals.{arena_refuses};
+ghost use Rattle.capnp_wire_objects.specs.Arenas.{words_before};
+ghost use Rattle.capnp_copy_arenas.specs.Refusals.{arena_refuses};
 ghost use Rattle.capnp_message.specs.Built.{used_bytes, words_held, place_held, loans_held};
-ghost use Rattle.capnp_allocators.specs.Growth.{suggested_growth};
+ghost use Rattle.capnp_message_allocators.specs.Growth.{suggested_growth};
 
-use capnp_allocators::heap::HeapAllocator;
-use capnp_copy::allocator::{Allocator, SegmentBytes};
-use capnp_copy::arena::{BuilderArena, Memory};
-use capnp_copy::segments::BuilderArenaImpl;
+use capnp_copy_arenas::allocator::{Allocator, SegmentBytes};
+use capnp_copy_arenas::arena::{BuilderArena, Memory};
+use capnp_copy_arenas::segments::BuilderArenaImpl;
+use capnp_message_allocators::heap::HeapAllocator;
 use capnp_units::errors::Result;
 use capnp_units::segments::ReaderSegments;
 use capnp_units::sizes::SegmentId;
-use capnp_wire::arena::ReaderArena;
+use capnp_wire_objects::arena::ReaderArena;
 use std::alloc::Global;
 
-/// A message that is built, over the segments of an allocator. Handles of its values hold `&mut builder.memory`.
+/// A message that is built, over the segments of an allocator. Handles of its values hold `&mut
+/// builder.memory`.
 ///
 /// It is no value that may be dropped: it ends by `into_allocator`, which gives every segment back.
 pub struct Builder<A: Allocator> {
@@ -25,7 +26,8 @@ pub struct Builder<A: Allocator> {
 }
 
 impl<A: Allocator> Builder<A> {
-    /// A message without segments. Memory for the list of them comes from `alloc`, their bytes come from the allocator.
+    /// A message without segments. Memory for the list of them comes from `alloc`, their bytes come
+    /// from the allocator.
     pub fn new(alloc: Global, allocator: A) -> Builder<A>
         ensures allocator { result.memory.arena.allocator ≡ allocator }
         ensures empty { result.memory.arena.segments.items ≡ [] }
@@ -39,7 +41,8 @@ impl<A: Allocator> Builder<A> {
 
     /// Makes the root pointer, which is null, where the message has no segment yet.
     ///
-    /// It is refused where there is none, as the allocator refuses, or with `OutOfMemory` where the list of segments can't grow; then there is none still.
+    /// Where there is none, it is refused as the allocator refuses, or with `OutOfMemory` where the
+    /// list of segments can't grow. Then there is none still.
     pub fn allocate_root(&mut self) -> Result<()>
         ensures made { OnOk result (self.old.memory.arena.segments.items ≡ []
             → words_held self.new.memory.arena ≡ (0 ∷ []) ∷ []) }
@@ -62,7 +65,8 @@ impl<A: Allocator> Builder<A> {
         Ok(())
     }
 
-    /// The used bytes of each segment, in order. Memory for the list alone comes from `alloc`; `OutOfMemory`: it was refused.
+    /// The used bytes of each segment, in order. Memory for the list alone comes from `alloc`;
+    /// `OutOfMemory`: it was refused.
     pub fn get_segments_for_output(&self, alloc: Global) -> Result<Vec<&[u8]>>
         ensures segments { IfOk result (λ v. map (λ bytes. bytes.now) v.items
             ≡ used_bytes (λ h. h.used) (λ h. A.Segment.bytes h.segment)
@@ -82,7 +86,8 @@ impl<A: Allocator> Builder<A> {
         self.memory.arena.size_in_words()
     }
 
-    /// The allocator, to which every segment was given back. There is one lent slice at most among them and in the allocator.
+    /// The allocator, to which every segment was given back. There is one lent slice at most among
+    /// them and in the allocator.
     pub fn into_allocator(self) -> A
         requires { length (loans_held self.memory.arena) ≤ 1 }
         ensures place { A.place result ≡ A.place self.memory.arena.allocator }

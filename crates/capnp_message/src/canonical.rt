@@ -4,26 +4,24 @@ ghost use Rattle.capnp_units.specs.Segments.{words_in};
 ghost use Rattle.std.specs.Prelude.{◌≡◌, ◌+◌, ◌-◌, ◌^◌, ◌<◌, min, OnOk};
 ghost use Rattle.capnp_model.specs.Segments.{root};
 ghost use Rattle.capnp_model.specs.Visits.{visits};
-ghost use Rattle.capnp_canonical.specs.Copies.{copy_visits};
+ghost use Rattle.capnp_wire_canonical.specs.Copies.{copy_visits};
 ghost use Rattle.capnp_message.specs.Canonical.{TellsCanonical, GivesCanonical, CostsWithin, IsAsked, Suffices, TellsWhole, most_cost};
 
 use crate::options::ReaderOptions;
 use crate::reader::Reader;
-use capnp_canonical::check::is_canonical_message;
-use capnp_canonical::copy::write_canonical;
-use capnp_object::place::ROOT;
-use capnp_object::size::size_at;
 use capnp_units::errors::{Error, Result};
 use capnp_units::kinds::ErrorKind;
 use capnp_units::limiter::ReadLimiter;
+use capnp_units::limits::MOST_WORDS;
 use capnp_units::segments::ReaderSegments;
 use capnp_units::sizes::Word;
-use capnp_wire::arena::ReaderArena;
 use capnp_wire::levels::levels_of;
+use capnp_wire_canonical::check::is_canonical_message;
+use capnp_wire_canonical::copy::write_canonical;
+use capnp_wire_objects::arena::ReaderArena;
+use capnp_wire_objects::place::ROOT;
+use capnp_wire_objects::size::size_at;
 use std::alloc::Global;
-
-/// The most words of a message.
-const MOST_WORDS: u64 = 0x1fff_ffff;
 
 /// Room for the canonical words of a value.
 #[derive(Clone, Copy)]
@@ -37,10 +35,11 @@ struct Room {
 fn room_for(cost: u64) -> usize
     ensures { result ≡ min cost (2 ^ 29 - 2) + 1 }
 {
-    cost.min(MOST_WORDS - 1) as usize + 1
+    cost.min(MOST_WORDS as u64 - 1) as usize + 1
 }
 
-/// One word more than those that following the root costs, as far as the options' words go, and at most those of a message.
+/// One word more than those that following the root costs, as far as the options' words go, and at
+/// most those of a message.
 fn room_of<A: ReaderArena>(arena: &A, options: ReaderOptions, levels: u32) -> Room
     ensures room { Suffices (copy_visits levels (words_in (A.segments arena.now)) root)
         (most_cost options.traversal_limit_in_words) result.words }
@@ -55,7 +54,7 @@ fn room_of<A: ReaderArena>(arena: &A, options: ReaderOptions, levels: u32) -> Ro
             let cost = limiter.granted();
             Room {
                 words: room_for(cost),
-                is_whole: cost < MOST_WORDS,
+                is_whole: cost < MOST_WORDS as u64,
             }
         }
         Err(_) => {
@@ -78,7 +77,16 @@ impl<S: ReaderSegments> Reader<S> {
 
     /// Whether the message is one segment, of the canonical words of its value. It takes no memory.
     ///
-    /// Pointers are followed, and objects paid for, up to the first difference; a capability is one. Where there is a second segment none is followed. It is refused only where a walk over the whole value would be, by the kind of the first fault, or with `ReadLimitExceeded` at the first object that costs more words than are left; under a negative nesting limit with `NestingLimitExceeded`, at no cost. A no says that it is none with more levels either, so a message that is only too deep is refused. It is exact where the segment has at most 2^29 - 1 words, the most that a message has. (Encoding, "Canonicalization")
+    /// Pointers are followed, and objects paid for, up to the first difference; a capability is
+    /// one. Where there is a second segment none is followed. It is refused only where a walk over
+    /// the whole value would be:
+    /// - with `NestingLimitExceeded` under a negative nesting limit, at no cost;
+    /// - at the first fault, by its kind;
+    /// - with `ReadLimitExceeded` at the first object that costs more words than are left.
+    ///
+    /// A no says that it is none with more levels either, so a message that is only too deep is
+    /// refused. It is exact where the segment has at most 2^29 - 1 words, the most that a message
+    /// has. (Encoding, "Canonicalization")
     pub fn is_canonical(&self, limiter: &mut ReadLimiter) -> Result<bool>
         ensures { TellsCanonical (levels self.now.options.nesting_limit)
             (words_in (S.segments self.now.segments)) limiter.old result limiter.new }
@@ -91,7 +99,15 @@ impl<S: ReaderSegments> Reader<S> {
 
     /// The canonical words of the message's value.
     ///
-    /// Pointers are followed, and objects paid for, in the order of reading. It is refused at the first fault, where a capability is one (`CapabilityInCanonical`), or with `ReadLimitExceeded` at the first object that costs more words than are left; under a negative nesting limit with `NestingLimitExceeded`, at no cost. `BufferNotLargeEnough`: what is followed costs more words than the options' limit, or than the 2^29 - 2 that a message has behind its root. `OutOfMemory`: there is none for the words; then nothing was followed. It takes memory for a word more than what is followed costs. (Encoding, "Canonicalization")
+    /// Pointers are followed, and objects paid for, in the order of reading. It is refused
+    /// - with `NestingLimitExceeded` under a negative nesting limit, at no cost;
+    /// - at the first fault, by its kind, where a capability is one (`CapabilityInCanonical`);
+    /// - with `ReadLimitExceeded` at the first object that costs more words than are left.
+    ///
+    /// `BufferNotLargeEnough`: what is followed costs more words than the options' limit, or than
+    /// the 2^29 - 2 that a message has behind its root. `OutOfMemory`: there is none for the words;
+    /// then nothing was followed. It takes memory for a word more than what is followed costs.
+    /// (Encoding, "Canonicalization")
     pub fn canonicalize(&self, alloc: Global, limiter: &mut ReadLimiter) -> Result<Vec<Word>>
         ensures given { GivesCanonical (levels self.now.options.nesting_limit)
             self.now.options.traversal_limit_in_words

@@ -1,7 +1,7 @@
 //! Whole messages in the form that a type names: framed, packed, or another.
 ghost use Rattle.std.specs.Prelude.{◌≡◌, ◌<◌, ◌⊎◌, length, IfOk, IfSome};
 ghost use Rattle.capnp_model.specs.Messages.{spelled};
-ghost use Rattle.capnp_io.specs.Writes.{Writes, sink_seen};
+ghost use Rattle.capnp_stream_io.specs.Writes.{Writes, sink_seen};
 ghost use Rattle.capnp_stream.specs.Reading.{TriesMessage, ReadsMessage, source_seen};
 ghost use Rattle.capnp_stream.specs.Filling.{TriesFilling, FillsMessage};
 ghost use Rattle.capnp_message.specs.Messages.{segments_read, segments_tried};
@@ -11,19 +11,22 @@ use crate::builder::Builder;
 use crate::laws::built_segments_can_be_written;
 use crate::options::ReaderOptions;
 use crate::reader::Reader;
-use capnp_copy::allocator::{Allocator, SegmentBytes};
+use capnp_copy_arenas::allocator::{Allocator, SegmentBytes};
 use capnp_stream::buffers::NoAllocSliceSegments;
 use capnp_stream::forms::MessageForm;
+use capnp_stream::messages::write_message_segments_in;
 use capnp_stream::segments::OwnedSegments;
-use capnp_stream::traits::{BufRead, Write};
 use capnp_stream::{frames, lent};
+use capnp_stream_io::traits::{BufRead, Write};
 use capnp_units::errors::Result;
-use capnp_writing::messages::write_message_segments_in;
 use std::alloc::Global;
 
 /// The next message in a form, or `None` where no byte is left.
 ///
-/// `InvalidNumberOfSegments`: its table counts more than 511. `MessageTooLarge`: it has more words than the options' limit. `Device`: the source failed. `OutOfMemory`: there is none for the segments. Else the form says why a piece can't be read. After a refusal less than a message was taken, and no byte behind the first that is at fault.
+/// `InvalidNumberOfSegments`: its table counts more than 511. `MessageTooLarge`: it has more words
+/// than the options' limit. `Device`: the source failed. `OutOfMemory`: there is none for the
+/// segments. Else the form says why a piece can't be read. After a refusal less than a message was
+/// taken, and no byte behind the first that is at fault.
 pub fn try_read_message_in<F: MessageForm, R: BufRead>(
     alloc: Global,
     source: &mut R,
@@ -41,7 +44,8 @@ pub fn try_read_message_in<F: MessageForm, R: BufRead>(
     }
 }
 
-/// The next message in a form. `PrematureEndOfFile`: no byte is left. Else it refuses as `try_read_message_in` does.
+/// The next message in a form. `PrematureEndOfFile`: no byte is left. Else it refuses as
+/// `try_read_message_in` does.
 pub fn read_message_in<F: MessageForm, R: BufRead>(
     alloc: Global,
     source: &mut R,
@@ -58,9 +62,11 @@ pub fn read_message_in<F: MessageForm, R: BufRead>(
     }
 }
 
-/// The next message in a form, or `None` where no byte is left. Its table and its segments lie in the buffer, and no memory is taken.
+/// The next message in a form, or `None` where no byte is left. Its table and its segments lie in
+/// the buffer, and no memory is taken.
 ///
-/// `BufferNotLargeEnough`: the buffer has fewer bytes than the table and the segments. Else it refuses as `try_read_message_in` does, but never by `OutOfMemory`.
+/// `BufferNotLargeEnough`: the buffer has fewer bytes than the table and the segments. Else it
+/// refuses as `try_read_message_in` does, but never by `OutOfMemory`.
 pub fn try_read_message_no_alloc_in<'a, F: MessageForm, R: BufRead>(
     source: &mut R,
     buffer: &'a mut [u8],
@@ -79,7 +85,8 @@ pub fn try_read_message_no_alloc_in<'a, F: MessageForm, R: BufRead>(
     }
 }
 
-/// The next message in a form, which lies in the buffer. `PrematureEndOfFile`: no byte is left. Else it refuses as `try_read_message_no_alloc_in` does.
+/// The next message in a form, which lies in the buffer. `PrematureEndOfFile`: no byte is left.
+/// Else it refuses as `try_read_message_no_alloc_in` does.
 pub fn read_message_no_alloc_in<'a, F: MessageForm, R: BufRead>(
     source: &mut R,
     buffer: &'a mut [u8],
@@ -97,9 +104,12 @@ pub fn read_message_no_alloc_in<'a, F: MessageForm, R: BufRead>(
     }
 }
 
-/// Writes the message of the used words of a builder's segments in a form; there is one segment at least.
+/// Writes the message of the used words of a builder's segments in a form; there is one segment at
+/// least.
 ///
-/// After a refusal a beginning of it was written. `OutOfMemory`: the sink wants memory, or the table of more than one segment does. `BufferNotLargeEnough`: the sink has an end, and less room than the message has bytes. `Device`: the sink failed.
+/// After a refusal a beginning of it was written. `OutOfMemory`: the sink wants memory, or the
+/// table of more than one segment does. `BufferNotLargeEnough`: the sink has an end, and less room
+/// than the message has bytes. `Device`: the sink failed.
 pub fn write_message_in<F: MessageForm, W: Write, A: Allocator>(
     alloc: Global,
     out: &mut W,

@@ -2,13 +2,13 @@
 ghost use Rattle.std.specs.Prelude.{ℕ, suc, ◌<◌, [], length};
 ghost use Rattle.capnp_model.specs.Segments.{Segments, root};
 ghost use Rattle.capnp_model.specs.Trees.{Tree, null};
-ghost use Rattle.capnp_footprints.specs.Footprints.{Owns};
-ghost use Rattle.capnp_copy.specs.Values.{Becomes};
+ghost use Rattle.capnp_model_writes.specs.Footprints.{Owns};
+ghost use Rattle.capnp_copy_arenas.specs.Values.{Becomes};
 ghost use Rattle.capnp_stream.specs.Writing.{AreWritable};
 ghost use Rattle.capnp_message.specs.Built.{used_bytes, rooted};
 
 use crate::builder::Builder;
-use capnp_copy::allocator::{Allocator, SegmentBytes};
+use capnp_copy_arenas::allocator::{Allocator, SegmentBytes};
 
 /// The used words of a builder's segments can be written, where it has a segment.
 pub fn built_segments_can_be_written<A: Allocator>(message: &Builder<A>)
@@ -17,7 +17,8 @@ pub fn built_segments_can_be_written<A: Allocator>(message: &Builder<A>)
         message.now.memory.arena.segments.items) }
 {}
 
-/// The root of a message that is built: where no segment was, it is null, and once it is set it is the value that it was set to; no word of it is taken twice.
+/// The root of a message that is built. Where no segment was, it is null, and once it is set it is
+/// the value that it was set to. No word of it is taken twice.
 pub fn roots_that_are_built()
     ensures null { (n : ℕ) → Owns n (rooted []) root null }
     ensures set { (n : ℕ) (s u : Segments) (t v : Tree) → Owns n s root t

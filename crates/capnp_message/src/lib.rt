@@ -1,4 +1,5 @@
-//! Messages: where their memory comes from, how far they are read, and whole messages that are read from streams and slices.
+//! Messages: where their memory comes from, how far they are read, and whole messages that are read
+//! from streams and slices.
 #![tactic(auto)]
 
 pub mod builder;
@@ -19,5 +20,5 @@ pub mod typed_builder;
 pub mod unbuffered;
 pub mod words;
 
-pub use capnp_allocators::{growth, heap, opening, scratch, segment, single};
-pub use capnp_stream::{adapters, memory, slice_writer, traits};
+pub use capnp_message_allocators::{growth, heap, opening, scratch, segment, single};
+pub use capnp_stream_io::{adapters, memory, slice_writer, traits};

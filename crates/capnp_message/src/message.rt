@@ -10,11 +10,11 @@ pub use crate::roots::root_of;
 pub use crate::scoped::with_message;
 pub use crate::typed::TypedReader;
 pub use crate::typed_builder::TypedBuilder;
-pub use capnp_allocators::growth::{
+pub use capnp_copy_arenas::allocator::Allocator;
+pub use capnp_message_allocators::growth::{
     AllocationStrategy, SUGGESTED_ALLOCATION_STRATEGY, SUGGESTED_FIRST_SEGMENT_WORDS,
 };
-pub use capnp_allocators::heap::HeapAllocator;
-pub use capnp_allocators::scratch::ScratchSpaceHeapAllocator;
-pub use capnp_allocators::single::SingleSegmentAllocator;
-pub use capnp_copy::allocator::Allocator;
+pub use capnp_message_allocators::heap::HeapAllocator;
+pub use capnp_message_allocators::scratch::ScratchSpaceHeapAllocator;
+pub use capnp_message_allocators::single::SingleSegmentAllocator;
 pub use capnp_units::segments::ReaderSegments;

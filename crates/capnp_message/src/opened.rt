@@ -5,14 +5,17 @@ ghost use Rattle.capnp_units.specs.declared.kinds.ErrorKind.TheVariants.{OutOfMe
 ghost use Rattle.capnp_message.specs.Built.{opened_words, words_held, place_held, loans_held};
 
 use crate::builder::Builder;
-use capnp_allocators::opening::OpensSegment;
-use capnp_copy::allocator::{Allocator, SegmentBytes};
+use capnp_copy_arenas::allocator::{Allocator, SegmentBytes};
+use capnp_message_allocators::opening::OpensSegment;
 use capnp_units::errors::Result;
 
 impl<A: OpensSegment> Builder<A> {
-    /// Takes the words that the allocator was opened with as the one segment of a message that has none yet, where they stand; what is built then goes on behind them. There is one lent slice at most in the allocator. Where it holds no words there is no segment still.
+    /// Takes the words that the allocator was opened with as the one segment of a message that has
+    /// none yet, where they stand. What is built then goes on behind them. There is one lent slice
+    /// at most in the allocator. Where it holds no words there is no segment still.
     ///
-    /// `OutOfMemory`: the list of segments can't grow; then there is no segment still, and the words were given back to the allocator, which makes them zero.
+    /// `OutOfMemory`: the list of segments can't grow; then there is no segment still, and the
+    /// words were given back to the allocator, which makes them zero.
     pub fn open(&mut self) -> Result<()>
         requires empty { self.old.memory.arena.segments.items ≡ [] }
         requires one { length (A.loans self.old.memory.arena.allocator) ≤ 1 }

@@ -8,9 +8,11 @@ use capnp_units::limiter::ReadLimiter;
 /// How far a message is read.
 #[derive(Clone, Copy, Debug, PartialEq, Eq)]
 pub struct ReaderOptions {
-    /// The most words of a message that is read from bytes, and of what is followed in it where its limiter is made of these options; `None`: any number.
+    /// The most words of a message that is read from bytes, and of what is followed in it where its
+    /// limiter is made of these options; `None`: any number.
     pub traversal_limit_in_words: Option<usize>,
-    /// The most levels of pointers, the root's the first. Under a negative limit nothing but null is read.
+    /// The most levels of pointers, the root's the first. Under a negative limit nothing but null
+    /// is read.
     pub nesting_limit: i32,
 }
 

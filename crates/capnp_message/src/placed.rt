@@ -5,40 +5,42 @@ ghost use Rattle.capnp_units.specs.Segments.{words_in};
 ghost use Rattle.capnp_units.specs.declared.errors.Error.{Error};
 ghost use Rattle.capnp_units.specs.declared.kinds.ErrorKind.TheVariants.{SizeOverflow};
 ghost use Rattle.capnp_units.specs.declared.sizes.StructSize.{StructSize};
-ghost use Rattle.capnp_object.specs.declared.place.Place as code;
-ghost use Rattle.capnp_wire.specs.Places.{place_view};
-ghost use Rattle.capnp_copy.specs.Allocations.{total_words};
-ghost use Rattle.capnp_copy.specs.Clearing.{ClearsValue};
-ghost use Rattle.capnp_copy.specs.Refusals.{IsSizeOrRefusal};
-ghost use Rattle.capnp_copy.specs.States.{HasWords};
-ghost use Rattle.capnp_copy.specs.declared.fields.StructPlace.{StructPlace};
-ghost use Rattle.capnp_builders.specs.Blobs.{DataMade, TextMade, DataGot, NoDataGot, TextGot, NoTextGot};
-ghost use Rattle.capnp_builders.specs.Inputs.{IsTooLong};
+ghost use Rattle.capnp_wire_objects.specs.declared.place.Place as code;
+ghost use Rattle.capnp_wire_objects.specs.Places.{place_view};
+ghost use Rattle.capnp_copy_arenas.specs.Allocations.{total_words};
+ghost use Rattle.capnp_copy_arenas.specs.Clearing.{ClearsValue};
+ghost use Rattle.capnp_copy_arenas.specs.Refusals.{IsSizeOrRefusal};
+ghost use Rattle.capnp_copy_arenas.specs.States.{HasWords};
+ghost use Rattle.capnp_copy_arenas.specs.declared.fields.StructPlace.{StructPlace};
+ghost use Rattle.capnp_layout_builders.specs.Blobs.{DataMade, TextMade, DataGot, NoDataGot, TextGot, NoTextGot};
+ghost use Rattle.capnp_layout_builders.specs.Inputs.{IsTooLong};
 ghost use Rattle.capnp_message.specs.Built.{rooted, words_held, place_held, loans_held, NoRootMade, IsSizeOrRefusalOf};
 ghost use Rattle.capnp_message.specs.Placed.{root_slot, StructPlaced, StructIsTooLarge, StructFound, NoStructFound, NoRootFound};
 
 use crate::builder::Builder;
 use crate::roots::begin;
 use crate::typed_builder::TypedBuilder;
-use capnp_builders::gets::struct_or_default;
-use capnp_builders::pointer_builder::PointerBuilder;
-use capnp_copy::allocator::Allocator;
-use capnp_copy::arena::{BuilderArena, Memory};
-pub use capnp_copy::bytes::BlobPlace;
-use capnp_copy::clear::clear;
-pub use capnp_copy::fields::StructPlace;
-use capnp_copy::init::init_struct;
+use capnp_copy_arenas::allocator::Allocator;
+use capnp_copy_arenas::arena::{BuilderArena, Memory};
+pub use capnp_copy_arenas::bytes::BlobPlace;
+use capnp_copy_arenas::clear::clear;
+pub use capnp_copy_arenas::fields::StructPlace;
+use capnp_copy_arenas::init::init_struct;
+use capnp_layout_builders::gets::struct_or_default;
+use capnp_layout_builders::pointer_builder::PointerBuilder;
 use capnp_text::{data, text};
 use capnp_units::errors::Result;
 pub use capnp_units::sizes::StructSize;
-use capnp_wire::place::{Place, ROOT};
+use capnp_wire_objects::place::{Place, ROOT};
 
-/// A handle that knows where its value lies and holds no memory, so that its calls take the memory of the message. One over a struct is a `PlacedStruct`.
+/// A handle that knows where its value lies and holds no memory, so that its calls take the memory
+/// of the message. One over a struct is a `PlacedStruct`.
 pub trait Placed: Sized {
-    /// From the segments before to those then, what is made in place of the value at a place, with a count, and the handle.
+    /// From the segments before to those then, what is made in place of the value at a place, with
+    /// a count, and the handle.
     ghost is_made: { Segments → Segments → code.Place → ℕ → Self → Type 0 };
 
-    /// With such a count it is too large for a message that has so many words.
+    /// With such a count it is too large for a message that has n words.
     ghost is_too_large: { ℕ → ℕ → Type 0 };
 
     /// From the segments before to those then, what is got at a place, and the handle.
@@ -47,9 +49,12 @@ pub trait Placed: Sized {
     /// Why it isn't got, and what stands then.
     ghost is_not_got: { Segments → Segments → code.Place → Error → Type 0 };
 
-    /// Puts a new value in place of the pointer's, which is cleared, with so many bytes or elements; types that count none don't look at the length.
+    /// Puts a new value in place of the pointer's, which is cleared, with n bytes or elements;
+    /// types that count none don't look at the length.
     ///
-    /// It is refused with `SizeOverflow` just where the value is too large, else as the allocator refuses; then all stands as it was.
+    /// It is refused, and all stands as it was,
+    /// - with `SizeOverflow` exactly where the value is too large;
+    /// - else as the allocator refuses.
     fn init_at<A: BuilderArena>(memory: &mut Memory<A>, place: Place, length: u32) -> Result<Self>
         requires there { HasWords (A.segments memory.old.arena) place 1 }
         requires near { place.position < 2 ^ 61 }
@@ -102,9 +107,12 @@ pub trait OwnedPlaced {
     type Builder: Placed;
 }
 
-/// Puts a struct of zeros and nulls in place of the pointer's value, which is cleared, and answers where it lies.
+/// Puts a struct of zeros and nulls in place of the pointer's value, which is cleared, and returns
+/// where it lies.
 ///
-/// It is refused with `SizeOverflow` just where the message's words would pass 2^29 - 1 with a pad counted, else as the allocator refuses; then all stands as it was.
+/// It is refused, and all stands as it was,
+/// - with `SizeOverflow` exactly where the message's words would pass 2^29 - 1 with a pad counted;
+/// - else as the allocator refuses.
 fn init_struct_at<A: BuilderArena>(
     memory: &mut Memory<A>,
     place: Place,
@@ -127,7 +135,8 @@ fn init_struct_at<A: BuilderArena>(
     init_struct(&mut memory.arena, place, size)
 }
 
-/// The struct that the pointer names, with at least these sections, as `PointerBuilder::get_struct` gives it without a default.
+/// The struct that the pointer names, with at least these sections, as `PointerBuilder::get_struct`
+/// gives it without a default.
 fn get_struct_at<A: BuilderArena>(
     memory: &mut Memory<A>,
     place: Place,
@@ -146,7 +155,8 @@ fn get_struct_at<A: BuilderArena>(
     struct_or_default(&mut memory.arena, place, size, None)
 }
 
-/// A struct is made of zeros and nulls, whatever the count. It is got with at least the sizes of its type, and refused, as by `PointerBuilder::get_struct`.
+/// A struct is made of zeros and nulls, whatever the count. It is got with at least the sizes of
+/// its type, and refused, as by `PointerBuilder::get_struct`.
 impl<T: PlacedStruct> Placed for T {
     ghost is_made = { λ s u slot n o. StructPlaced T.STRUCT_SIZE s u slot (T.place_of o) };
 
@@ -167,11 +177,12 @@ impl<T: PlacedStruct> Placed for T {
     }
 }
 
-/// Where the bytes of a text lie, its zero byte not counted; a `TextBuilder` over the place writes them.
+/// Where the bytes of a text lie, its zero byte not counted; a `TextBuilder` over the place writes
+/// them.
 #[derive(Clone, Copy)]
 pub struct TextPlace(pub BlobPlace);
 
-/// A text is made of so many zero bytes.
+/// A text is made of n zero bytes.
 impl Placed for TextPlace {
     ghost is_made = { λ s u slot n o. TextMade s u slot n o.0 };
 
@@ -200,7 +211,7 @@ impl Placed for TextPlace {
 #[derive(Clone, Copy)]
 pub struct DataPlace(pub BlobPlace);
 
-/// Data are made of so many zero bytes.
+/// Data are made of n zero bytes.
 impl Placed for DataPlace {
     ghost is_made = { λ s u slot n o. DataMade s u slot n o.0 };
 
@@ -264,9 +275,15 @@ impl OwnedPlaced for data::Owned {
 }
 
 impl<A: Allocator> Builder<A> {
-    /// Puts a new value of so many bytes or elements at the root, in place of the one that it had, which is cleared, and answers its handle.
+    /// Puts a new value of n bytes or elements at the root, in place of the one that it had, which
+    /// is cleared, and returns its handle.
     ///
-    /// It is refused with `SizeOverflow` only where the value is too large for the message, else as the allocator refuses; or with `OutOfBounds` where the first segment was allocated by hand and has no word. Then all stands as it was, but that a root that is null may have been made.
+    /// It is refused
+    /// - with `OutOfBounds` where the first segment was allocated by hand and has no word;
+    /// - with `SizeOverflow` only where the value is too large for the message;
+    /// - else as the allocator refuses.
+    ///
+    /// Then all stands as it was, but that a root that is null may have been made.
     pub fn initn_root<T: Placed>(&mut self, length: u32) -> Result<T>
         ensures made { IfOk result (T.is_made (rooted (words_held self.old.memory.arena))
             (words_held self.new.memory.arena) root_slot length) }
@@ -283,7 +300,8 @@ impl<A: Allocator> Builder<A> {
         T::init_at(&mut self.memory, ROOT, length)
     }
 
-    /// The same with no bytes or elements: a struct of zeros and nulls, for a handle over structs.
+    /// As `initn_root`, with no bytes or elements: a struct of zeros and nulls, for a handle over
+    /// structs.
     pub fn init_root<T: Placed>(&mut self) -> Result<T>
         ensures made { IfOk result (T.is_made (rooted (words_held self.old.memory.arena))
             (words_held self.new.memory.arena) root_slot 0) }
@@ -299,9 +317,14 @@ impl<A: Allocator> Builder<A> {
         self.initn_root(0)
     }
 
-    /// The handle of the value that the root has, which is made, as null, where the message has no segment yet.
+    /// The handle of the value that the root has, which is made, as null, where the message has no
+    /// segment yet.
     ///
-    /// Where there is no root it is refused as the allocator refuses, or with `OutOfBounds` where the first segment was allocated by hand and has no word, and all stands as it was; else as the type refuses it.
+    /// It is refused
+    /// - with `OutOfBounds` where the first segment was allocated by hand and has no word, and all
+    ///   stands as it was;
+    /// - where there is no root, as the allocator refuses, and all stands as it was;
+    /// - else as the type refuses it.
     pub fn get_root<T: Placed>(&mut self) -> Result<T>
         ensures got { IfOk result (T.is_got (rooted (words_held self.old.memory.arena))
             (words_held self.new.memory.arena) root_slot) }
@@ -317,7 +340,7 @@ impl<A: Allocator> Builder<A> {
 }
 
 impl<T: OwnedPlaced, A: Allocator> TypedBuilder<T, A> {
-    /// Puts a new value of so many bytes or elements at the root, as `Builder::initn_root`.
+    /// Puts a new value of n bytes or elements at the root, as `Builder::initn_root`.
     pub fn initn_root(&mut self, length: u32) -> Result<T::Builder>
         ensures made { IfOk result (T.Builder.is_made
             (rooted (words_held self.old.message.memory.arena))

@@ -1,6 +1,6 @@
 //! Whole messages that are read.
 ghost use Rattle.std.specs.Prelude.{◌≡◌, ◌-◌, ◌^◌, length, map, min};
-ghost use Rattle.capnp_object.specs.Arenas.{words_before};
+ghost use Rattle.capnp_wire_objects.specs.Arenas.{words_before};
 ghost use Rattle.capnp_wire.specs.Reads.{root_of};
 ghost use Rattle.capnp_message.specs.Roots.{ReadsRoot};
 
@@ -9,9 +9,9 @@ use capnp_units::errors::Result;
 use capnp_units::limiter::ReadLimiter;
 use capnp_units::segments::ReaderSegments;
 use capnp_units::sizes::SegmentId;
-use capnp_wire::arena::{ReaderArena, ReaderArenaImpl};
 use capnp_wire::pointer::PointerReader;
 use capnp_wire::traits::FromPointerReader;
+use capnp_wire_objects::arena::{ReaderArena, ReaderArenaImpl};
 
 /// Segments in a lent slice of slices.
 #[derive(Clone, Copy)]
@@ -43,7 +43,8 @@ impl ReaderSegments for SegmentArray<'_> {
     }
 }
 
-/// A message: its segments, and how deep a value in it may be nested. It is the arena that its handles read.
+/// A message: its segments, and how deep a value in it may be nested. It is the arena that its
+/// handles read.
 #[derive(Drop)]
 pub struct Reader<S> {
     segments: S,
@@ -51,7 +52,8 @@ pub struct Reader<S> {
 }
 
 impl<S: ReaderSegments> Reader<S> {
-    /// The message of these segments, read under these options; what is followed in it is paid for from the limiter that each call takes.
+    /// The message of these segments, read under these options; what is followed in it is paid for
+    /// from the limiter that each call takes.
     pub fn new(segments: S, options: ReaderOptions) -> Reader<S>
         ensures segments { result.segments ≡ segments }
         ensures options { result.options ≡ options }
@@ -59,7 +61,8 @@ impl<S: ReaderSegments> Reader<S> {
         Reader { segments, options }
     }
 
-    /// The root, read as a caller's type. It is refused with `OutOfBounds` where the first segment has no word, at no cost; else as the type reads a pointer.
+    /// The root, read as a caller's type. It is refused with `OutOfBounds` where the first segment
+    /// has no word, at no cost; else as the type reads a pointer.
     pub fn get_root<'a, T: FromPointerReader<'a, Reader<S>>>(
         &'a self,
         limiter: &mut ReadLimiter,
@@ -86,7 +89,8 @@ impl<S: ReaderSegments> Reader<S> {
         &self.segments
     }
 
-    /// The words of the segments that a pointer can name, the first 2^32; past the last whole word of each none counts. The count stops at 2^64 - 1.
+    /// The words of the segments that a pointer can name, the first 2^32; past the last whole word
+    /// of each none counts. The count stops at 2^64 - 1.
     pub fn size_in_words(&self) -> usize
         ensures { result ≡ min (words_before (S.segments self.now.segments)
             (min (length (S.segments self.now.segments)) (2 ^ 32))) (2 ^ 64 - 1) }

@@ -2,15 +2,15 @@
 ghost use Rattle.std.specs.Prelude.{◌≡◌, ◌≢◌, ◌⊎◌, ◌^◌, ◌<◌, ◌++◌, ◌∷◌, [], true, false, pos, length, IfOk, IfErr, OnOk, OnErr};
 ghost use Rattle.std.specs.Borrow.{sem, RestsIfErr};
 ghost use Rattle.capnp_units.specs.Segments.{words_in};
-ghost use Rattle.capnp_copy.specs.contracts.arena.Memory.{the_row};
+ghost use Rattle.capnp_copy_arenas.specs.contracts.arena.Memory.{the_row};
 ghost use Rattle.std.specs.List.{flat_map};
 ghost use Rattle.std.specs.Option.{is_some};
 ghost use Rattle.capnp_model.specs.Segments.{root, words_at};
 ghost use Rattle.capnp_units.specs.declared.kinds.ErrorKind.TheVariants.{SizeOverflow};
-ghost use Rattle.capnp_copy.specs.Allocations.{total_words};
-ghost use Rattle.capnp_copy.specs.States.{HasWords};
-ghost use Rattle.capnp_copy.specs.Values.{Becomes};
-ghost use Rattle.capnp_object.specs.Places.{seen};
+ghost use Rattle.capnp_copy_arenas.specs.Allocations.{total_words};
+ghost use Rattle.capnp_copy_arenas.specs.States.{HasWords};
+ghost use Rattle.capnp_copy_arenas.specs.Values.{Becomes};
+ghost use Rattle.capnp_wire_objects.specs.Places.{seen};
 ghost use Rattle.capnp_wire.specs.Views.{seen_pointer};
 ghost use Rattle.capnp_message.specs.Built.{used_bytes, rooted, words_held, place_held, loans_held, HasNoRootWord, NoRootMade, IsSizeOrRefusalOf};
 ghost use Rattle.capnp_message.specs.Options.{boundless};
@@ -20,21 +20,21 @@ ghost use Rattle.capnp_message.specs.Roots.{ReadsRoot, built_root};
 use crate::builder::Builder;
 use crate::options::ReaderOptions;
 use crate::reader::Reader;
-use capnp_builders::pointer_builder::PointerBuilder;
-use capnp_builders::traits::SetterInput;
-use capnp_copy::allocator::{Allocator, SegmentBytes};
-use capnp_copy::arena::{BuilderArena, Memory};
-use capnp_copy::segments::BuilderArenaImpl;
+use capnp_copy_arenas::allocator::{Allocator, SegmentBytes};
+use capnp_copy_arenas::arena::{BuilderArena, Memory};
+use capnp_copy_arenas::segments::BuilderArenaImpl;
+use capnp_layout_builders::pointer_builder::PointerBuilder;
+use capnp_layout_builders::traits::SetterInput;
 use capnp_units::errors::{Error, Result};
 use capnp_units::kinds::ErrorKind;
 use capnp_units::limiter::ReadLimiter;
-use capnp_wire::arena::ReaderArena;
 use capnp_wire::backing::Backing;
 use capnp_wire::levels::levels_of;
-use capnp_wire::place::{ROOT, has_words};
 use capnp_wire::pointer::PointerReader;
 use capnp_wire::structs::StructReader;
 use capnp_wire::traits::FromPointerReader;
+use capnp_wire_objects::arena::ReaderArena;
+use capnp_wire_objects::place::{ROOT, has_words};
 
 /// What is built was made here: no limit of words, and as many levels as there can be.
 const BOUNDLESS: ReaderOptions = ReaderOptions {
@@ -68,9 +68,11 @@ pub(crate) fn begin<A: BuilderArena>(arena: &mut A) -> Result<()>
     }
 }
 
-/// The root pointer of a message that is built in an arena, to write; it is made, as null, where there is no segment yet.
+/// The root pointer of a message that is built in an arena, to write; it is made, as null, where
+/// there is no segment yet.
 ///
-/// It is refused as the allocator refuses, or with `OutOfBounds` where the first segment was allocated by hand and has no word; then all stands as it was.
+/// It is refused as the allocator refuses, or with `OutOfBounds` where the first segment was
+/// allocated by hand and has no word; then all stands as it was.
 pub fn root_of<A: BuilderArena>(memory: &mut Memory<A>) -> Result<PointerBuilder<'_, A>>
     ensures same { IfOk result (λ p. p.memory.ghost_name ≡ memory.entry.ghost_name) }
     ensures place { IfOk result (λ p. p.place ≡ root_slot) }
@@ -95,7 +97,8 @@ pub fn root_of<A: BuilderArena>(memory: &mut Memory<A>) -> Result<PointerBuilder
     })
 }
 
-/// The root pointer to read: null where the arena has no segment. It is refused with `OutOfBounds` where the first segment has no word.
+/// The root pointer to read: null where the arena has no segment. It is refused with `OutOfBounds`
+/// where the first segment has no word.
 fn root_to_read<A: Allocator>(
     arena: &BuilderArenaImpl<A>,
 ) -> Result<PointerReader<'_, BuilderArenaImpl<A>>>
@@ -113,9 +116,15 @@ fn root_to_read<A: Allocator>(
 }
 
 impl<A: Allocator> Builder<A> {
-    /// Sets the root to a value, in place of the one that it had, which is cleared. Texts and data are copied.
+    /// Sets the root to a value, in place of the one that it had, which is cleared. Texts and data
+    /// are copied.
     ///
-    /// It is refused with `SizeOverflow` only where the value is too large for the message, else as the allocator refuses; or with `OutOfBounds` where the first segment was allocated by hand and has no word. Then all stands as it was, but that a root that is null may have been made.
+    /// It is refused
+    /// - with `OutOfBounds` where the first segment was allocated by hand and has no word;
+    /// - with `SizeOverflow` only where the value is too large for the message;
+    /// - else as the allocator refuses.
+    ///
+    /// Then all stands as it was, but that a root that is null may have been made.
     pub fn set_root<T, V: SetterInput<T> + Drop>(&mut self, value: V) -> Result<()>
         ensures value { OnOk result (Becomes (rooted (words_held self.old.memory.arena))
             (words_held self.new.memory.arena) root (V.tree value)) }
@@ -133,9 +142,11 @@ impl<A: Allocator> Builder<A> {
         V::set_pointer_builder(pointer, value, false)
     }
 
-    /// The root to read, as a caller's type, at any depth. Where nothing was written it is null, which costs nothing.
+    /// The root to read, as a caller's type, at any depth. Where nothing was written it is null,
+    /// which costs nothing.
     ///
-    /// It is refused with `OutOfBounds`, at no cost, where the first segment was allocated by hand and has no word; else as the type reads a pointer.
+    /// It is refused with `OutOfBounds`, at no cost, where the first segment was allocated by hand
+    /// and has no word; else as the type reads a pointer.
     pub fn get_root_as_reader<'a, T: FromPointerReader<'a, BuilderArenaImpl<A>>>(
         &'a self,
         limiter: &mut ReadLimiter,
@@ -148,7 +159,8 @@ impl<A: Allocator> Builder<A> {
         T::get_from_pointer(&pointer, limiter, None)
     }
 
-    /// The message to read, under no limit of words and as many levels as there can be. `into_segments` gives the builder back.
+    /// The message to read, under no limit of words and as many levels as there can be.
+    /// `into_segments` gives the builder back.
     pub fn into_reader(self) -> Reader<Builder<A>>
         ensures { result ≡ record { segments = self; options = boundless } }
     {

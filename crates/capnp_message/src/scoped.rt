@@ -3,12 +3,14 @@ ghost use Rattle.std.specs.Prelude.{◌≡◌, []};
 ghost use Rattle.std.specs.Fn.{FnOnceReturnsAtMut};
 
 use crate::builder::Builder;
-use capnp_allocators::heap::HeapAllocator;
+use capnp_message_allocators::heap::HeapAllocator;
 use std::alloc::Global;
 
-/// Hands a new message over the heap, which has no segment yet, to a function, and gives its memory back then. Returns what the function returns.
+/// Hands a new message over the heap, which has no segment yet, to a function, and gives its memory
+/// back then. Returns what the function returns.
 ///
-/// A `Builder` isn't dropped, so a function that holds one can't leave by `?`; the function that is handed over only borrows it, and can.
+/// A `Builder` isn't dropped, so a function that holds one can't leave by `?`; the function that is
+/// handed over only borrows it, and can.
 pub fn with_message<R, F: FnOnce(&mut Builder<HeapAllocator>) -> R>(alloc: Global, build: F) -> R
     requires { F.IsAlwaysCallable build }
     ensures { (new : _) × (built : _) × (new.memory.arena.segments.items ≡ [])

@@ -4,7 +4,7 @@ ghost use Rattle.capnp_units.specs.Errors.{kind_of};
 ghost use Rattle.capnp_units.specs.Segments.{words_in};
 ghost use Rattle.capnp_units.specs.declared.kinds.ErrorKind.{ErrorKind};
 ghost use Rattle.capnp_model.specs.Messages.{plain_words, flat_at, frame};
-ghost use Rattle.capnp_io.specs.Writes.{Writes, sink_seen};
+ghost use Rattle.capnp_stream_io.specs.Writes.{Writes, sink_seen};
 ghost use Rattle.capnp_stream.specs.Buffers.{buffer_segments, found_segments};
 ghost use Rattle.capnp_stream.specs.Pieces.{is_framed_fault};
 ghost use Rattle.capnp_stream.specs.Reading.{TriesMessage, ReadsMessage, source_seen};
@@ -20,25 +20,28 @@ use crate::forms::{
 use crate::laws::built_segments_can_be_written;
 use crate::options::ReaderOptions;
 use crate::reader::Reader;
-use capnp_copy::allocator::{Allocator, SegmentBytes};
+use capnp_copy_arenas::allocator::{Allocator, SegmentBytes};
 pub use capnp_stream::buffers::{
     BufferSegments, NoAllocBufferSegments, NoAllocSliceSegments, SliceSegments,
 };
 pub use capnp_stream::flat::NoAllocSegmentTableInfo;
 pub use capnp_stream::forms::Framed;
 pub use capnp_stream::frames::SEGMENTS_COUNT_LIMIT;
-pub use capnp_stream::segments::{OwnedSegments, SegmentLengthsBuilder};
-use capnp_stream::slices;
-use capnp_stream::traits::{BufRead, Write};
-use capnp_units::errors::Result;
-pub use capnp_writing::messages::{
+pub use capnp_stream::messages::{
     compute_serialized_size_in_words, write_message_segments, write_message_segments_to_words,
 };
+pub use capnp_stream::segments::{OwnedSegments, SegmentLengthsBuilder};
+use capnp_stream::slices;
+use capnp_stream_io::traits::{BufRead, Write};
+use capnp_units::errors::Result;
 use std::alloc::Global;
 
 /// The next framed message, or `None` where no byte is left.
 ///
-/// `InvalidNumberOfSegments`: its table counts more than 511. `MessageTooLarge`: it has more words than the options' limit. `FailedToFillTheWholeBuffer`: the bytes end before it does. `Device`: the source failed. `OutOfMemory`: there is none for the segments. After a refusal less than a message was taken, and no byte behind the first that is at fault.
+/// `InvalidNumberOfSegments`: its table counts more than 511. `MessageTooLarge`: it has more words
+/// than the options' limit. `FailedToFillTheWholeBuffer`: the bytes end before it does. `Device`:
+/// the source failed. `OutOfMemory`: there is none for the segments. After a refusal less than a
+/// message was taken, and no byte behind the first that is at fault.
 pub fn try_read_message<R: BufRead>(
     alloc: Global,
     source: &mut R,
@@ -52,7 +55,8 @@ pub fn try_read_message<R: BufRead>(
     try_read_message_in::<Framed, R>(alloc, source, options)
 }
 
-/// The next framed message. `PrematureEndOfFile`: no byte is left. Else it refuses as `try_read_message` does.
+/// The next framed message. `PrematureEndOfFile`: no byte is left. Else it refuses as
+/// `try_read_message` does.
 pub fn read_message<R: BufRead>(
     alloc: Global,
     source: &mut R,
@@ -66,9 +70,11 @@ pub fn read_message<R: BufRead>(
     read_message_in::<Framed, R>(alloc, source, options)
 }
 
-/// The next framed message, or `None` where no byte is left. It lies in the buffer as it was read, and no memory is taken.
+/// The next framed message, or `None` where no byte is left. It lies in the buffer as it was read,
+/// and no memory is taken.
 ///
-/// `BufferNotLargeEnough`: the buffer has fewer bytes than the message. Else it refuses as `try_read_message` does, but never by `OutOfMemory`.
+/// `BufferNotLargeEnough`: the buffer has fewer bytes than the message. Else it refuses as
+/// `try_read_message` does, but never by `OutOfMemory`.
 pub fn try_read_message_no_alloc<'a, R: BufRead>(
     source: &mut R,
     buffer: &'a mut [u8],
@@ -82,7 +88,8 @@ pub fn try_read_message_no_alloc<'a, R: BufRead>(
     try_read_message_no_alloc_in::<Framed, R>(source, buffer, options)
 }
 
-/// The next framed message, which lies in the buffer as it was read. `PrematureEndOfFile`: no byte is left. Else it refuses as `try_read_message_no_alloc` does.
+/// The next framed message, which lies in the buffer as it was read. `PrematureEndOfFile`: no byte
+/// is left. Else it refuses as `try_read_message_no_alloc` does.
 pub fn read_message_no_alloc<'a, R: BufRead>(
     source: &mut R,
     buffer: &'a mut [u8],
@@ -96,9 +103,13 @@ pub fn read_message_no_alloc<'a, R: BufRead>(
     read_message_no_alloc_in::<Framed, R>(source, buffer, options)
 }
 
-/// The framed message at the front of the slice, which then begins behind it. Its segments are lent from the slice.
+/// The framed message at the front of the slice, which then begins behind it. Its segments are lent
+/// from the slice.
 ///
-/// `MessageEndsPrematurely`: no byte is left, or the segments are cut. `FailedToFillTheWholeBuffer`: the table is cut. `InvalidNumberOfSegments` and `MessageTooLarge` as for streams. `OutOfMemory`: there is none for the table. After a refusal the slice is as it was.
+/// `MessageEndsPrematurely`: no byte is left, or the segments are cut.
+/// `FailedToFillTheWholeBuffer`: the table is cut. `InvalidNumberOfSegments` and `MessageTooLarge`
+/// as for streams. `OutOfMemory`: there is none for the table. After a refusal the slice is as it
+/// was.
 pub fn read_message_from_flat_slice<'a>(
     alloc: Global,
     slice: &mut &'a [u8],
@@ -119,7 +130,7 @@ pub fn read_message_from_flat_slice<'a>(
     }
 }
 
-/// The same, which takes no memory.
+/// The message as by the function above, which takes no memory.
 pub fn read_message_from_flat_slice_no_alloc<'a>(
     slice: &mut &'a [u8],
     options: ReaderOptions,
@@ -137,9 +148,12 @@ pub fn read_message_from_flat_slice_no_alloc<'a>(
     }
 }
 
-/// Writes the framed message of the used words of a builder's segments, of which there is one at least.
+/// Writes the framed message of the used words of a builder's segments, of which there is one at
+/// least.
 ///
-/// After a refusal a beginning of it was written. `OutOfMemory`: the sink wants memory, or the table of more than one segment does. `BufferNotLargeEnough`: the sink has an end, and less room than the message has bytes. `Device`: the sink failed.
+/// After a refusal a beginning of it was written. `OutOfMemory`: the sink wants memory, or the
+/// table of more than one segment does. `BufferNotLargeEnough`: the sink has an end, and less room
+/// than the message has bytes. `Device`: the sink failed.
 pub fn write_message<W: Write, A: Allocator>(
     alloc: Global,
     out: &mut W,
@@ -153,7 +167,8 @@ pub fn write_message<W: Write, A: Allocator>(
     write_message_in::<Framed, W, A>(alloc, out, message)
 }
 
-/// The framed message of the used words of a builder's segments, of which there is one at least, as bytes. `OutOfMemory`: they, or the table of more than one segment, want memory.
+/// The framed message of the used words of a builder's segments, of which there is one at least, as
+/// bytes. `OutOfMemory`: they, or the table of more than one segment, want memory.
 pub fn write_message_to_words<A: Allocator>(alloc: Global, message: &Builder<A>) -> Result<Vec<u8>>
     requires { 0 < length message.now.memory.arena.segments.items }
     ensures text { IfOk result (λ v. v.items ≡ frame (words_held message.now.memory.arena)) }

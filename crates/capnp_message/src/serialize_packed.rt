@@ -2,8 +2,8 @@
 ghost use Rattle.std.specs.Prelude.{◌≡◌, ◌<◌, ◌⊎◌, length, IfOk, IfSome};
 ghost use Rattle.capnp_model.specs.Packing.{unpacked};
 ghost use Rattle.capnp_model.specs.Messages.{packed_message};
-ghost use Rattle.capnp_io.specs.Writes.{Writes, sink_seen};
-ghost use Rattle.capnp_packing.specs.Streams.{is_packed_fault};
+ghost use Rattle.capnp_stream_io.specs.Writes.{Writes, sink_seen};
+ghost use Rattle.capnp_stream_packed.specs.Streams.{is_packed_fault};
 ghost use Rattle.capnp_stream.specs.Reading.{TriesMessage, ReadsMessage, source_seen};
 ghost use Rattle.capnp_stream.specs.Filling.{TriesFilling, FillsMessage};
 ghost use Rattle.capnp_message.specs.Messages.{segments_read, segments_tried};
@@ -16,19 +16,23 @@ use crate::forms::{
 };
 use crate::options::ReaderOptions;
 use crate::reader::Reader;
-use capnp_copy::allocator::{Allocator, SegmentBytes};
-pub use capnp_packing::form::Packed;
-pub use capnp_packing::serialize_packed::{write_message_segments, write_segment};
-pub use capnp_packing::streams::{PackedRead, PackedWrite};
+use capnp_copy_arenas::allocator::{Allocator, SegmentBytes};
 use capnp_stream::buffers::NoAllocSliceSegments;
 use capnp_stream::segments::OwnedSegments;
-use capnp_stream::traits::{BufRead, Write};
+use capnp_stream_io::traits::{BufRead, Write};
+pub use capnp_stream_packed::form::Packed;
+pub use capnp_stream_packed::serialize_packed::{write_message_segments, write_segment};
+pub use capnp_stream_packed::streams::{PackedRead, PackedWrite};
 use capnp_units::errors::Result;
 use std::alloc::Global;
 
 /// The next packed message, or `None` where no byte is left.
 ///
-/// `InvalidNumberOfSegments`: its table counts more than 511. `MessageTooLarge`: it has more words than the options' limit. `PrematureEndOfPackedInput`, `FailedToFillTheWholeBuffer` and `PackedInputDidNotEndCleanlyOnASegmentBoundary`: a piece of it can't be read. `Device`: the source failed. `OutOfMemory`: there is none for the segments. After a refusal less than a message was taken, and no byte behind the first that is at fault.
+/// `InvalidNumberOfSegments`: its table counts more than 511. `MessageTooLarge`: it has more words
+/// than the options' limit. `PrematureEndOfPackedInput`, `FailedToFillTheWholeBuffer` and
+/// `PackedInputDidNotEndCleanlyOnASegmentBoundary`: a piece of it can't be read. `Device`: the
+/// source failed. `OutOfMemory`: there is none for the segments. After a refusal less than a
+/// message was taken, and no byte behind the first that is at fault.
 pub fn try_read_message<R: BufRead>(
     alloc: Global,
     source: &mut R,
@@ -42,7 +46,8 @@ pub fn try_read_message<R: BufRead>(
     try_read_message_in::<Packed, R>(alloc, source, options)
 }
 
-/// The next packed message. `PrematureEndOfFile`: no byte is left. Else it refuses as `try_read_message` does.
+/// The next packed message. `PrematureEndOfFile`: no byte is left. Else it refuses as
+/// `try_read_message` does.
 pub fn read_message<R: BufRead>(
     alloc: Global,
     source: &mut R,
@@ -56,9 +61,11 @@ pub fn read_message<R: BufRead>(
     read_message_in::<Packed, R>(alloc, source, options)
 }
 
-/// The next packed message, or `None` where no byte is left. Its table and its segments lie unpacked in the buffer, and no memory is taken.
+/// The next packed message, or `None` where no byte is left. Its table and its segments lie
+/// unpacked in the buffer, and no memory is taken.
 ///
-/// `BufferNotLargeEnough`: the buffer has fewer bytes than the table and the segments unpacked. Else it refuses as `try_read_message` does, but never by `OutOfMemory`.
+/// `BufferNotLargeEnough`: the buffer has fewer bytes than the table and the segments unpacked.
+/// Else it refuses as `try_read_message` does, but never by `OutOfMemory`.
 pub fn try_read_message_no_alloc<'a, R: BufRead>(
     source: &mut R,
     buffer: &'a mut [u8],
@@ -72,7 +79,8 @@ pub fn try_read_message_no_alloc<'a, R: BufRead>(
     try_read_message_no_alloc_in::<Packed, R>(source, buffer, options)
 }
 
-/// The next packed message, which lies unpacked in the buffer behind its table. `PrematureEndOfFile`: no byte is left. Else it refuses as `try_read_message_no_alloc` does.
+/// The next packed message, which lies unpacked in the buffer behind its table.
+/// `PrematureEndOfFile`: no byte is left. Else it refuses as `try_read_message_no_alloc` does.
 pub fn read_message_no_alloc<'a, R: BufRead>(
     source: &mut R,
     buffer: &'a mut [u8],
@@ -86,9 +94,12 @@ pub fn read_message_no_alloc<'a, R: BufRead>(
     read_message_no_alloc_in::<Packed, R>(source, buffer, options)
 }
 
-/// Writes the packed message of the used words of a builder's segments, of which there is one at least.
+/// Writes the packed message of the used words of a builder's segments, of which there is one at
+/// least.
 ///
-/// After a refusal a beginning of it was written. `OutOfMemory`: the sink wants memory, or the table of more than one segment does. `BufferNotLargeEnough`: the sink has an end, and less room than the message has bytes. `Device`: the sink failed.
+/// After a refusal a beginning of it was written. `OutOfMemory`: the sink wants memory, or the
+/// table of more than one segment does. `BufferNotLargeEnough`: the sink has an end, and less room
+/// than the message has bytes. `Device`: the sink failed.
 pub fn write_message<W: Write, A: Allocator>(
     alloc: Global,
     out: &mut W,

@@ -28,7 +28,8 @@ impl<S: ReaderSegments, T> TypedReader<S, T> {
         }
     }
 
-    /// The root. It is refused with `OutOfBounds` where the first segment has no word, at no cost; else as the type reads a pointer.
+    /// The root. It is refused with `OutOfBounds` where the first segment has no word, at no cost;
+    /// else as the type reads a pointer.
     pub fn get<'a>(&'a self, limiter: &mut ReadLimiter) -> Result<T::Reader>
     where
         T: Owned<'a, Reader<S>>,
@@ -55,7 +56,7 @@ impl<S: ReaderSegments, T> TypedReader<S, T> {
 }
 
 impl<S: ReaderSegments> Reader<S> {
-    /// The same message, whose root is read as what `T` says.
+    /// This message, whose root is read as what `T` says.
     pub fn into_typed<T>(self) -> TypedReader<S, T>
         ensures { result.message ≡ self }
     {

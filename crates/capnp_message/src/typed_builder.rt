@@ -4,19 +4,19 @@ ghost use Rattle.std.specs.Borrow.{sem};
 ghost use Rattle.std.specs.List.{flat_map};
 ghost use Rattle.capnp_model.specs.Segments.{root};
 ghost use Rattle.capnp_units.specs.declared.kinds.ErrorKind.TheVariants.{SizeOverflow};
-ghost use Rattle.capnp_copy.specs.Allocations.{total_words};
-ghost use Rattle.capnp_copy.specs.Values.{Becomes};
+ghost use Rattle.capnp_copy_arenas.specs.Allocations.{total_words};
+ghost use Rattle.capnp_copy_arenas.specs.Values.{Becomes};
 ghost use Rattle.capnp_message.specs.Built.{used_bytes, rooted, words_held, place_held, loans_held, NoRootMade, IsSizeOrRefusalOf};
-ghost use Rattle.capnp_allocators.specs.Growth.{suggested_growth};
+ghost use Rattle.capnp_message_allocators.specs.Growth.{suggested_growth};
 ghost use Rattle.capnp_message.specs.Options.{boundless};
 ghost use Rattle.capnp_message.specs.Roots.{ReadsRoot, built_root};
 
 use crate::builder::Builder;
 use crate::typed::TypedReader;
-use capnp_allocators::heap::HeapAllocator;
-use capnp_builders::traits::SetterInput;
-use capnp_copy::allocator::{Allocator, SegmentBytes};
-use capnp_copy::segments::BuilderArenaImpl;
+use capnp_copy_arenas::allocator::{Allocator, SegmentBytes};
+use capnp_copy_arenas::segments::BuilderArenaImpl;
+use capnp_layout_builders::traits::SetterInput;
+use capnp_message_allocators::heap::HeapAllocator;
 use capnp_units::errors::Result;
 use capnp_units::limiter::ReadLimiter;
 use capnp_wire::traits::Owned;
@@ -25,7 +25,8 @@ use std::marker::PhantomData;
 
 /// A message that is built, whose root is what `T` says.
 ///
-/// It is no value that may be dropped: its message ends by `into_allocator`. Handles of its values take `&mut typed.message.memory`.
+/// It is no value that may be dropped: its message ends by `into_allocator`. Handles of its values
+/// take `&mut typed.message.memory`.
 pub struct TypedBuilder<T, A: Allocator> {
     pub message: Builder<A>,
     root: PhantomData<T>,
@@ -61,7 +62,8 @@ impl<T, A: Allocator> TypedBuilder<T, A> {
         self.message.set_root(value)
     }
 
-    /// The root to read, at any depth, null where nothing was written. It is refused as by `Builder::get_root_as_reader`.
+    /// The root to read, at any depth, null where nothing was written. It is refused as by
+    /// `Builder::get_root_as_reader`.
     pub fn get_root_as_reader<'a>(&'a self, limiter: &mut ReadLimiter) -> Result<T::Reader>
     where
         T: Owned<'a, BuilderArenaImpl<A>>,
@@ -107,7 +109,7 @@ impl<T> TypedBuilder<T, HeapAllocator> {
 }
 
 impl<A: Allocator> Builder<A> {
-    /// The same message, whose root is what `T` says.
+    /// This message, whose root is what `T` says.
     pub fn into_typed<T>(self) -> TypedBuilder<T, A>
         ensures { result.message ≡ self }
     {

@@ -3,13 +3,14 @@ ghost use Rattle.std.specs.Prelude.{◌≡◌, ◌≤◌, [], length, IfErr, OnO
 ghost use Rattle.std.specs.Io.{ReadsAtMost};
 ghost use Rattle.std.specs.Io.KnownBytes.{Keeps, IsAtEnd, ReadConsumes, prepend_known};
 ghost use Rattle.capnp_units.specs.declared.kinds.ErrorKind.{ErrorKind};
-ghost use Rattle.capnp_io.specs.Counting.{Counts};
+ghost use Rattle.capnp_stream_io.specs.Counting.{Counts};
 
-use capnp_stream::traits::{BufRead, Read};
+use capnp_stream_io::traits::{BufRead, Read};
 use capnp_units::errors::{Error, Result};
 use capnp_units::kinds::ErrorKind;
 
-/// A source over a reader, which reads what it is asked for and no byte more, but for one where it is to tell whether there is one.
+/// A source over a reader, which reads what it is asked for and no byte more, but for one where it
+/// is to tell whether there is one.
 ///
 /// A refusal of the reader, by any kind, is one by `Device`, and nothing else is refused.
 #[derive(Drop)]
@@ -38,7 +39,8 @@ impl<R: Read> Unbuffered<R> {
         }
     }
 
-    /// The reader. It is one byte at most ahead of what was taken, and that where no message was read since the source told whether a byte is left; the byte is lost.
+    /// The reader. It is one byte at most ahead of what was taken, and only where no message was
+    /// read since the source told whether a byte is left. The byte is lost.
     pub fn into_inner(self) -> R
         ensures inner { result ≡ self.inner }
         ensures ahead { length (front_bytes self) ≤ 1 }

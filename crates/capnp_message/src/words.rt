@@ -4,34 +4,33 @@ ghost use Rattle.std.specs.List.{flat_map};
 ghost use Rattle.capnp_model.specs.Answers.{levels};
 ghost use Rattle.capnp_units.specs.Segments.{words_in};
 ghost use Rattle.capnp_units.specs.declared.kinds.ErrorKind.TheVariants.{OutOfMemory, SizeOverflow};
-ghost use Rattle.capnp_canonical.specs.Writes.{words_view};
-ghost use Rattle.capnp_copy.specs.Allocations.{words_used};
-ghost use Rattle.capnp_copy.specs.Memory.{ZeroFrom};
-ghost use Rattle.capnp_copy.specs.Refusals.{arena_refuses};
+ghost use Rattle.capnp_wire_canonical.specs.Writes.{words_view};
+ghost use Rattle.capnp_copy_arenas.specs.Allocations.{words_used};
+ghost use Rattle.capnp_copy_arenas.specs.Memory.{ZeroFrom};
+ghost use Rattle.capnp_copy_arenas.specs.Refusals.{arena_refuses};
 ghost use Rattle.capnp_message.specs.Built.{words_held, place_held, loans_held, lent_with, IsRefusalOf};
 ghost use Rattle.capnp_message.specs.Canonical.{GivesCanonical, ReplacesRoot, SetsCanonical};
 
 use crate::builder::Builder;
 use crate::options::DEFAULT_READER_OPTIONS;
 use crate::reader::{Reader, SegmentArray};
-use capnp_copy::allocator::{Allocator, SegmentBytes};
-use capnp_copy::arena::BuilderArena;
-use capnp_copy_from::copy::copy_from;
+use capnp_copy_arenas::allocator::{Allocator, SegmentBytes};
+use capnp_copy_arenas::arena::BuilderArena;
+use capnp_copy_values::copy::copy_from;
 use capnp_model::laws::{
     trimmed_values, values_on_walks, values_that_are_read, words_mean_their_value,
 };
 use capnp_units::errors::{Error, Result};
 use capnp_units::kinds::ErrorKind;
 use capnp_units::limiter::ReadLimiter;
+use capnp_units::limits::MOST_WORDS;
 use capnp_units::segments::ReaderSegments;
 use capnp_units::sizes::{Word, words_as_bytes};
-use capnp_wire::place::{Place, ROOT, has_words};
+use capnp_wire_objects::place::{Place, ROOT, has_words};
 use std::alloc::Global;
 
-/// The most words that a message may have.
-const MOST_WORDS: usize = 0x1fff_ffff;
-
-/// Sets the root to the value of words that begin with its pointer, in place of the value that it had, which is cleared.
+/// Sets the root to the value of words that begin with its pointer, in place of the value that it
+/// had, which is cleared.
 fn replace_root<A: BuilderArena>(arena: &mut A, words: &[Word], levels: u32) -> Result<()>
     ensures copy { ReplacesRoot levels (words_view words.now) (words_in (A.segments arena.old))
         (words_in (A.segments arena.new)) result }
@@ -49,7 +48,10 @@ fn replace_root<A: BuilderArena>(arena: &mut A, words: &[Word], levels: u32) -> 
 impl<A: Allocator> Builder<A> {
     /// Makes a message that has no segment yet of these words, as its one segment; they are copied.
     ///
-    /// It is refused with `SizeOverflow` just where there are more than 2^29 - 1, else as the allocator refuses, or with `OutOfMemory` where the list of segments can't grow; then there is no segment still.
+    /// It is refused, and there is no segment still,
+    /// - with `SizeOverflow` exactly where there are more than 2^29 - 1 words;
+    /// - with `OutOfMemory` where the list of segments can't grow;
+    /// - else as the allocator refuses.
     pub fn set_words(&mut self, words: &[Word]) -> Result<()>
         requires empty { self.old.memory.arena.segments.items ≡ [] }
         ensures words { OnOk result (words_held self.new.memory.arena ≡ words_view words.now ∷ []) }
@@ -61,7 +63,7 @@ impl<A: Allocator> Builder<A> {
         ensures loans { loans_held self.new.memory.arena ≡ A.loans self.old.memory.arena.allocator }
     {
         let count = words.len();
-        if count > MOST_WORDS {
+        if count > MOST_WORDS as usize {
             return Err(Error::from(ErrorKind::SizeOverflow));
         }
         match self.memory.arena.allocate_anywhere(count as u32) {
@@ -78,9 +80,20 @@ impl<A: Allocator> Builder<A> {
         }
     }
 
-    /// Sets the root to the value of a message, as its canonical copy, in place of the value that it had, which is cleared. Where the message has no segment yet, the canonical words are its one segment then.
+    /// Sets the root to the value of a message, as its canonical copy, in place of the value that
+    /// it had, which is cleared. Where the message has no segment yet, the canonical words are its
+    /// one segment then.
     ///
-    /// It is refused as `Reader::canonicalize` is, and then nothing was allocated. Where there is no segment, it is refused then as `set_words`, and there is none still. Else with `OutOfBounds` where the first segment has no word, and nothing was allocated; with `SizeOverflow` just where a count, or the message's words with the next object and a pad, would pass 2^29 - 1; or as the allocator refuses. Then the root has the value that it had, all words stand as they were, and those that were allocated are zero: no more than twice those that following the canonical words costs.
+    /// It is refused
+    /// - as `Reader::canonicalize` is, and then nothing was allocated;
+    /// - where there is no segment, as `set_words`, and there is none still;
+    /// - with `OutOfBounds` where the first segment has no word, and nothing was allocated;
+    /// - with `SizeOverflow` exactly where a count, or the message's words with the next object and
+    ///   a pad, would pass 2^29 - 1;
+    /// - else as the allocator refuses.
+    ///
+    /// Then the root has the value that it had, and all words stand as they were. Those that were
+    /// allocated are zero: no more than twice those that following the canonical words costs.
     pub fn set_root_canonical<S: ReaderSegments>(
         &mut self,
         alloc: Global,
@@ -110,9 +123,12 @@ impl<A: Allocator> Builder<A> {
         replace_root(&mut self.memory.arena, &words, levels)
     }
 
-    /// Takes a segment of which so many words are used already, from the first on, as the one segment of a message that has none yet. The words behind them are zero, and there is one lent slice at most in it and in the allocator. What is built then goes on behind those words.
+    /// Takes a segment of which n words are used already, from the first on, as the one segment of
+    /// a message that has none yet. The words behind them are zero, and there is one lent slice at
+    /// most in it and in the allocator. What is built then goes on behind those words.
     ///
-    /// `OutOfMemory`: the list of segments can't grow; then the segment was given back to the allocator, which makes it zero.
+    /// `OutOfMemory`: the list of segments can't grow; then the segment was given back to the
+    /// allocator, which makes it zero.
     pub fn hold_segment(&mut self, segment: A::Segment, used: u32) -> Result<()>
         requires empty { self.old.memory.arena.segments.items ≡ [] }
         requires inside { 8 * used ≤ length (A.Segment.bytes segment) }

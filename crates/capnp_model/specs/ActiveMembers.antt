@@ -34,13 +34,13 @@ abbrev pub SparesName : (List Step → Body → Type 0) → List ℕ → List St
 SparesName behind n path m way fs = (member other : Option ℕ) (body last : Body) → target_of n fs ≡ target member body → target_of m fs ≡ target other last
     → (bytes_eq n m ≡ true → behind way body) × (bytes_eq n m ≡ false → path ≡ [] → AreMembers member other → ⊥)
 
--- The same of a step into a pointer's value or an element.
+-- As SparesName, of a step into a pointer's value or an element.
 abbrev pub SparesValue : Schema → Step → List Step → (List Step → Body → Type 0) → (List Step → Ty → Type 0) → List Step → Ty → Type 0
 SparesValue s (name n) path f e (name m ∷ way) (struct id) = SparesName f n path m way (fields_in (s.shape_of id))
 SparesValue s (index k) path f e (index j ∷ way) (list ty) = (k == j) ≡ true → e way ty
 SparesValue s step path f e way ty = Unit {0}
 
--- The same of a step through a field.
+-- As SparesName, of a step through a field.
 abbrev pub SparesField : Schema → Step → List Step → (List Step → Body → Type 0) → (List Step → Ty → Type 0) → List Step → Body → Type 0
 SparesField s step path f e way (pointer_slot i ty d) = SparesValue s step path f e way ty
 SparesField s (name n) path f e (name m ∷ way) (group_slot g) = SparesName f n path m way (fields_in g)
@@ -52,12 +52,13 @@ abbrev mutual
   SparesBehind s [] way body = ⊥
   SparesBehind s (st ∷ path) way body = SparesField s st path (SparesBehind s path) (SparesElement s path) way body
 
-  -- The same from an element on.
+  -- From an element on, which is on both paths: a call that ends here writes it whole.
   pub SparesElement : Schema → List Step → List Step → Ty → Type 0
   SparesElement s [] way ty = ⊥
   SparesElement s (st ∷ path) way ty = SparesValue s st path (SparesBehind s path) (SparesElement s path) way ty
 
--- A call along the first path writes nothing that the second goes through, both from a struct on: no field or element on it, and no other member of a union whose member is on it.
+-- A call along the first path writes nothing that the second goes through, both from a struct on.
+-- It writes no field or element on it, and no other member of a union whose member is on it.
 abbrev pub Spares : Schema → List Step → List Step → Fields → Type 0
 Spares s (name n ∷ path) (name m ∷ way) fs = SparesName (SparesBehind s path) n path m way fs
 Spares s path way fs = Unit {0}

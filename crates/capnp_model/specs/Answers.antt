@@ -1,4 +1,4 @@
--- What is answered to one message.
+-- The answer to one message.
 use Rattle.std.specs.Prelude.{◌≡◌, ℕ, ℤ, pos, negsuc, Bool, false, not, ◌&&◌, nat_le, if◌then◌else◌, Option, Some, None, List, [], ◌∷◌}
 use Rattle.capnp_model.specs.Chains.{◌>>=◌, ◌provided◌}
 use Rattle.capnp_model.specs.Kinds.{Kind, UnreadablePointer}
@@ -51,7 +51,8 @@ pub data Answer : Type 0 where
   refused_value refused_root refused_depth : Answer
   written : Segments → List Reply → Answer
 
--- The most words that following a message may cost, none where any number may, and the most levels of pointers.
+-- The most words that following a message may cost, `None` where any number may, and the most
+-- levels of pointers.
 pub record Limits : Type 0 where
   pub words : Option ℕ
   pub nesting : ℤ
@@ -61,7 +62,7 @@ abbrev pub levels : ℤ → Option ℕ
 levels (pos n) = Some n
 levels (negsuc n) = None
 
--- So many levels are within a nesting limit.
+-- n levels are within a nesting limit.
 abbrev pub keeps_nesting : ℕ → ℤ → Bool
 keeps_nesting n (pos limit) = nat_le n limit
 keeps_nesting n (negsuc k) = false
@@ -92,6 +93,6 @@ answer_value s quoted id calls nesting (Some _) = refused_root
 unfoldable pub answer : Schema → (List ℕ → List ℕ) → ℕ → List Call → Limits → Segments → Answer
 answer s quoted id calls limits segments = answer_value s quoted id calls limits.nesting (value_within limits segments)
 
--- The answer that a relay gives, in the canonical form: just the one above.
+-- The answer that a relay gives, in the canonical form: exactly the one above.
 abbrev pub IsAnswer : Schema → (List ℕ → List ℕ) → ℕ → List Call → Limits → Segments → Answer → Type 0
 IsAnswer s quoted id calls limits segments a = a ≡ answer s quoted id calls limits segments

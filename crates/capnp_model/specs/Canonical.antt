@@ -8,7 +8,8 @@ use Rattle.capnp_model.specs.Trimming.{trim}
 use Rattle.capnp_model.specs.Traversal.{tree_at}
 use Rattle.capnp_model.specs.Encoding.{canonical_words}
 
--- The canonical words of the value at a place, where it is there within so many levels and has no capability.
+-- The canonical words of the value at a place, where it is there within n levels and has no
+-- capability.
 abbrev pub canonical_at : ℕ → Segments → Place → Option (List ℕ)
 canonical_at n s p = tree_at n s p >>= λ t. canonical_words (trim t) provided not (has_capability t)
 
@@ -16,7 +17,7 @@ canonical_at n s p = tree_at n s p >>= λ t. canonical_words (trim t) provided n
 unfoldable pub is_canonical_at : ℕ → Segments → Place → Bool
 is_canonical_at n s p = passes (λ ws. passes (bytes_eq ws) (words_at s p (length ws))) (canonical_at n s p)
 
--- Whether segments are just one, of these words.
+-- Whether segments are exactly one, of these words.
 abbrev pub is_one_segment : Segments → List ℕ → Bool
 is_one_segment (there ∷ []) ws = bytes_eq ws there
 is_one_segment _ ws = false

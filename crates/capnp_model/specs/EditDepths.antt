@@ -8,6 +8,7 @@ abbrev pub verb_depth : Verb → ℕ
 verb_depth (set_to (message t)) = max 1 (depth t)
 verb_depth _ = 1
 
--- The levels at which a call can leave a value: each step goes one level down, and what stands there is the verb's value or the default of a field, which has at most 64 levels.
+-- The levels at which a call can leave a value. Each step goes one level down. What stands there is
+-- the verb's value or a field's default, which has at most 64 levels.
 abbrev pub call_depth : Call → ℕ
 call_depth c = length c.path + max 64 (verb_depth c.verb)

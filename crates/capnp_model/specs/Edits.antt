@@ -1,4 +1,4 @@
--- The same calls on trees.
+-- Calls on trees.
 use Rattle.std.specs.Prelude.{◌≡◌, ℕ, zero, suc, ◌*◌, ◌%◌, ◌^◌, max, Bool, true, false, bit_xor, Option, Some, None, List, [], ◌∷◌, ◌++◌}
 use Rattle.capnp_model.specs.Sections.{number_of, with_bits}
 use Rattle.capnp_model.specs.Trees.{Tree, null, structure, plain_list, pointer_list, struct_list, Trees, none, ◌▸◌, Elements, no_elements, element, child, with_child, resized, padded_to, widened, size_bits, plain_elements}
@@ -56,7 +56,7 @@ unfoldable mutual
   pub cleared : Shape → Edit
   cleared (shape nid words pointers union fs) c = cleared_fields fs (mark union (Some 0) c)
 
-  -- The same of its fields.
+  -- The fields of a cleared group: those that are no members, and member 0.
   pub cleared_fields : Fields → Edit
   cleared_fields no_fields c = c
   cleared_fields (field n member body fs) c = cleared_fields fs (edit_if (is_kept member) (cleared_body body) c)
@@ -173,7 +173,7 @@ abbrev pub elements_of_pointers : ℕ → Trees → Elements
 elements_of_pointers p none = no_elements
 elements_of_pointers p (t ▸ ts) = element 0 (padded_to p (t ▸ none)) (elements_of_pointers p ts)
 
--- Elements with at least so many pointers.
+-- Elements with at least n pointers.
 abbrev pub padded_elements : ℕ → Elements → Elements
 padded_elements p no_elements = no_elements
 padded_elements p (element section kids es) = element section (padded_to p kids) (padded_elements p es)

@@ -11,7 +11,8 @@ struct_pointer offset d k = 4 * offset + 2 ^ 32 * d + 2 ^ 48 * k
 abbrev pub list_pointer : ℕ → ℕ → ℕ → ℕ
 list_pointer offset size n = 1 + 4 * offset + 2 ^ 32 * size + 2 ^ 35 * n
 
--- The pointer to a value that begins so many words behind it. An empty struct lies at the pointer itself, at offset -1.
+-- The pointer to a value that begins n words behind it. An empty struct lies at the pointer itself,
+-- at offset -1.
 abbrev pub pointer : ℕ → Tree → ℕ
 pointer gap null = 0
 pointer gap (structure zero section none) = struct_pointer (2 ^ 30 - 1) 0 0
@@ -31,7 +32,8 @@ abbrev mutual
   body (struct_list d k es) = struct_pointer (element_count es) d k ∷ (cells 0 d k es ++ element_bodies es)
   body (capability i) = []
 
-  -- Pointers in a row, with so many words of the object behind them, and so many of other targets before theirs.
+  -- Pointers in a row, with n words of the object behind them, and m words of other targets before
+  -- theirs.
   pub links : ℕ → ℕ → Trees → List ℕ
   links behind before none = []
   links behind before (t ▸ ts) = pointer (tree_count ts + behind + before) t ∷ links behind (before + length (body t)) ts
@@ -41,7 +43,7 @@ abbrev mutual
   bodies none = []
   bodies (t ▸ ts) = body t ++ bodies ts
 
-  -- The words of the elements of a list of structs, with so many words of other targets before theirs.
+  -- The words of the elements of a list of structs, with n words of other targets before theirs.
   pub cells : ℕ → ℕ → ℕ → Elements → List ℕ
   cells before d k no_elements = []
   cells before d k (element section kids es) =

@@ -1,4 +1,4 @@
--- Values, defaults and calls whose lists have just the sizes that a schema names.
+-- Values, defaults and calls whose lists have exactly the sizes that a schema names.
 use Rattle.std.specs.Prelude.{ℕ, Bool, true, ◌&&◌, ◌==◌, IsTrue, List, [], ◌∷◌, ◌++◌}
 use Rattle.std.specs.List.{AllByRecursion, list_all, list_any}
 use Rattle.capnp_model.specs.Trees.{Tree, structure}

@@ -7,7 +7,7 @@ use Rattle.capnp_model.specs.Segments.{Segments}
 use Rattle.capnp_model.specs.Bytes.{bytes_of_words, words_in_bytes, taken}
 use Rattle.capnp_model.specs.Packing.{packed, unpacked}
 
--- Reads so many words, a piece, from the front of bytes, and gives the bytes behind.
+-- Reads n words, a piece, from the front of bytes, and returns the bytes behind as well.
 abbrev pub Reader : Type 0
 Reader = ℕ → List ℕ → Result (List ℕ × List ℕ) Kind
 
@@ -25,7 +25,7 @@ abbrev pub cut : List ℕ → List ℕ → Segments
 cut [] words = []
 cut (n ∷ ns) words = take n words ∷ cut ns (drop n words)
 
--- Whether so many words keep a limit, where there is one.
+-- Whether n words keep a limit, where there is one.
 abbrev pub within : ℕ → Option ℕ → Bool
 within words None = true
 within words (Some limit) = nat_le words limit
@@ -41,7 +41,8 @@ behind_first table read limit [] bytes = Err InvalidNumberOfSegments
 behind_first table read limit (less_one ∷ first_length) bytes =
     guard (nat_lt less_one 511) InvalidNumberOfSegments and_then λ _. table ((less_one + 1) / 2) bytes and_then λ others. behind_lengths read limit (take (less_one + 1) (first_length ++ halves others.0)) others.1
 
--- The segments of the message at the front of bytes, and the bytes behind it, by a reader of the table and one of the segments; else the kind of the first part that can't be read.
+-- The segments of the message at the front of bytes, and the bytes behind it, by a reader of the
+-- table and one of the segments. Else the kind of the first part that can't be read.
 abbrev pub message_by : Reader → Reader → Option ℕ → List ℕ → Result (Segments × List ℕ) Kind
 message_by table read limit bytes = table 1 bytes and_then λ first. behind_first table read limit (halves first.0) first.1
 

@@ -8,18 +8,20 @@ pub data Marked : ℕ → List ℕ → List ℕ → Type 0 where
   marked_zero : {t : ℕ} {text word : List ℕ} → t % 2 ≡ 0 → Marked (t / 2) text word → Marked t text (0 ∷ word)
   marked_byte : {t : ℕ} {text word : List ℕ} (b : ℕ) → t % 2 ≡ 1 → Marked (t / 2) text word → Marked t (b ∷ text) (b ∷ word)
 
--- The bytes of so many words, as they are.
+-- The bytes of n words, as they are.
 pub data AsTheyAre : ℕ → List ℕ → List ℕ → Type 0 where
   are_none : AsTheyAre zero [] []
   are_more : {k : ℕ} {text words : List ℕ} (word : List ℕ) → length word ≡ 8 → AsTheyAre k text words → AsTheyAre (suc k) (word ++ text) (from_le_bytes w64 word ∷ words)
 
--- Groups, one behind the other, spell words: a word by its tag and the bytes that it marks; after the tag 0 a count of further zero words; after the tag 255, which marks all bytes, a count of further words, as they are.
+-- Groups, one behind the other, spell words. A group is a word's tag and the bytes that it marks.
+-- After the tag 0 stands a count of further zero words. After the tag 255, which marks all bytes,
+-- stands a count of further words, and these as they are.
 pub data Spell : List ℕ → List ℕ → Type 0 where
   spell_nothing : Spell [] []
   spell_word : {text rest words : List ℕ} (t : ℕ) (word : List ℕ) → t ≢ 0 → t ≢ 255 → length word ≡ 8 → Marked t text word → Spell rest words → Spell (t ∷ (text ++ rest)) (from_le_bytes w64 word ∷ words)
   spell_zeros : {rest words : List ℕ} (k : ℕ) → Spell rest words → Spell (0 ∷ k ∷ rest) (0 ∷ (replicate k 0 ++ words))
   spell_verbatim : {text rest run words : List ℕ} (k : ℕ) (word : List ℕ) → length word ≡ 8 → AsTheyAre k text run → Spell rest words → Spell (255 ∷ (word ++ (k ∷ (text ++ rest)))) (from_le_bytes w64 word ∷ (run ++ words))
 
--- A text is a piece of these words: groups that spell just them, so that no run passes its end.
+-- A text is a piece of these words: groups that spell exactly them, so that no run passes its end.
 abbrev pub IsPiece : List ℕ → List ℕ → Type 0
 IsPiece text words = Spell text words

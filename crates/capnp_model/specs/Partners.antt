@@ -24,13 +24,13 @@ abbrev pub same_key : (ℕ × List ℕ) → (ℕ × List ℕ) → Bool
 same_key a b = b.0 == a.0 && bytes_eq b.1 a.1
 
 -- No two of the names are the same.
-abbrev pub are_apart : List (ℕ × List ℕ) → Bool
-are_apart [] = true
-are_apart (k ∷ ks) = not (list_any (same_key k) ks) && are_apart ks
+abbrev pub are_distinct_names : List (ℕ × List ℕ) → Bool
+are_distinct_names [] = true
+are_distinct_names (k ∷ ks) = not (list_any (same_key k) ks) && are_distinct_names ks
 
 -- No two renamings of one node have the same older or the same newer name.
 abbrev pub are_one_to_one : List Renaming → Bool
-are_one_to_one rs = are_apart (map (λ r. (r.node, r.older)) rs) && are_apart (map (λ r. (r.node, r.newer)) rs)
+are_one_to_one rs = are_distinct_names (map (λ r. (r.node, r.older)) rs) && are_distinct_names (map (λ r. (r.node, r.newer)) rs)
 
 abbrev mutual
   -- A struct or a group by the names of its fields' partners.
@@ -49,7 +49,7 @@ abbrev mutual
   renamed_body rs (pointer_slot i ty d) = pointer_slot i ty d
   renamed_body rs (group_slot g) = group_slot (renamed_shape rs g)
 
--- The same, and itself where nothing is renamed.
+-- A field whose group has its partners' names, and itself where nothing is renamed.
 abbrev pub in_newer_words : List Renaming → Shape → Shape
 in_newer_words [] g = g
 in_newer_words (r ∷ rs) g = renamed_shape (r ∷ rs) g

@@ -63,7 +63,7 @@ opaque_text _ = codes "<opaque pointer>"
 -- The form of a text.
 pub data Style : Type 0 where
   on_one_line : Style
-  -- at so many levels
+  -- at n levels
   indented : ℕ → Style
 
 -- The form one level deeper.
@@ -163,7 +163,7 @@ abbrev pub Nulls : Type 0
 Nulls = Style → Ty → Tree → Option (List ℕ)
 
 unfoldable mutual
-  -- The text of a reading, or none where a fault is met.
+  -- The text of a reading, or `None` where a fault is met.
   pub print : Schema → (List ℕ → List ℕ) → Nulls → Style → As → Reading → Option (List ℕ)
   print s quoted nulls style how inactive = None
   print s quoted nulls style how null_pointer = nulls style (type_of_as how) (default_of_as how)

@@ -51,8 +51,8 @@ only_child r (suc i) ty = null_pointer
 
 -- ---- the fields of a struct
 
--- How far a data section goes. Behind the words of a struct there are zeros, since the section is a number; an element of a
--- plain list has just its bits.
+-- How far a data section goes. Behind the words of a struct there are zeros, since the section is a
+-- number; an element of a plain list has exactly its bits.
 pub data Extent : Type 0 where
   whole_words : Extent
   just_bits : ℕ → Extent
@@ -105,7 +105,8 @@ expected_size (plain p) = size_of_width (width p)
 expected_size (struct id) = 7
 expected_size _ = 6
 
--- Elements of so many bits and pointers can be read as elements of the expected size; those of structs need nothing.
+-- Elements of n bits and pointers can be read as elements of the expected size; those of structs
+-- need nothing.
 abbrev pub have_room : ℕ → ℕ → ℕ → Bool
 have_room bits pointers expected = nat_le (if nat_lt expected 6 then size_bits expected else 0) bits && nat_le (if expected == 6 then 1 else 0) pointers
 

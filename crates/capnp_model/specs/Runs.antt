@@ -58,7 +58,8 @@ abbrev pub EndsBy : Reader → Option ℕ → List ℕ → End → Type 0
 EndsBy read limit rest finished = rest ≡ []
 EndsBy read limit rest (broken kind) = (rest ≡ [] → ⊥) × (message_at read limit rest ≡ Err kind)
 
--- A run over bytes: the messages that they begin with are answered in order, what is written and logged is that of the answers, and the rest ends the run.
+-- A run over bytes: the messages that they begin with are answered in order. What is written and
+-- logged is that of the answers, and the rest ends the run.
 pub record IsRun (read : Reader) (write : Writer) (limit : Option ℕ) (is_answer : Segments → Answer → Type 0) (bytes output log : List ℕ) (end : End) : Type 0 where
   pub messages : List Segments
   pub answers : List Answer

@@ -13,12 +13,12 @@ unfoldable mutual
   object_words (pointer_list ts) = tree_count ts + each_object_words ts
   object_words (struct_list words pointers es) = 1 + element_object_words words es
 
-  -- The same of values in a row.
+  -- The words of the objects of values in a row, at every depth.
   pub each_object_words : Trees → ℕ
   each_object_words none = 0
   each_object_words (t ▸ ts) = object_words t + each_object_words ts
 
-  -- The same of elements with so many data words each, with their own words.
+  -- The words of elements with n data words each, and those of their objects at every depth.
   pub element_object_words : ℕ → Elements → ℕ
   element_object_words words no_elements = 0
   element_object_words words (element section kids es) = words + tree_count kids + each_object_words kids + element_object_words words es

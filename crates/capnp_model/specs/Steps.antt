@@ -1,4 +1,4 @@
--- The record machine: what a call answers at a record, and the record after it.
+-- The record machine: what a call replies at a record, and the record after it.
 use Rattle.std.specs.Prelude.{ℕ, zero, suc, Bool, true, false, Option, Some, None, List, [], ◌∷◌}
 use Rattle.std.specs.Str.{bytes_eq}
 use Rattle.capnp_model.specs.Kinds.{Kind, FieldNotFound, NotAStruct, InitnIsOnlyValidForListTextOrDataFields, InactiveMember, IndexOutOfRange, WrongStep, UnreadablePointer}

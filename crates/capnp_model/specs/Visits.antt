@@ -26,7 +26,7 @@ list_visits below pads p of_pointers size n ws = Ok (pads + n) ∷ from_each bel
 list_visits below pads p of_structs size n ws =
     visits_of (λ t. Ok (pads + (n + 1 + (if t.data_words + t.pointers == 0 then t.count else 0))) ∷ from_elements below (after p 1) t.data_words t.pointers t.count) (tag_in ws)
 
--- An object behind so many words of pads, and the pointers in it, where its words are there.
+-- An object behind n words of pads, and the pointers in it, where its words are there.
 abbrev pub object_visits : Segments → (Place → List Visit) → ℕ → Object → List Visit
 object_visits s below pads nothing = Ok pads ∷ []
 object_visits s below pads (a_capability i) = Ok pads ∷ []
@@ -66,12 +66,12 @@ unfoldable mutual
   pointers_of (pointer_list ts) = 1 + each_pointers_of ts
   pointers_of (struct_list words pointers es) = 1 + element_pointers_of es
 
-  -- The same of values in a row.
+  -- How many pointers a walk over values in a row follows.
   pub each_pointers_of : Trees → ℕ
   each_pointers_of none = 0
   each_pointers_of (t ▸ ts) = pointers_of t + each_pointers_of ts
 
-  -- The same of the values in elements.
+  -- How many pointers a walk over the values in elements follows.
   pub element_pointers_of : Elements → ℕ
   element_pointers_of no_elements = 0
   element_pointers_of (element section kids es) = each_pointers_of kids + element_pointers_of es

@@ -49,7 +49,8 @@ pub fn sections_are_words()
     ensures { (n section : ℕ) → section < 2 ^ (64 * n) → section_of (words_of n section) ≡ section }
 {}
 
-/// Bits that lie in one word of a section are those of the word, in reading and in writing; behind the words there are zeros.
+/// Bits that lie in one word of a section are those of the word, in reading and in writing; behind
+/// the words there are zeros.
 pub fn bits_in_words()
     ensures read { (words : List ℕ) (i j width : ℕ) → i < length words → j + width ≤ 64
         → bits_at (64 * i + j) width (section_of words) ≡ bits_at j width (slice_index words i) }
@@ -70,7 +71,8 @@ pub fn numbers_one_by_one()
     ensures zeros { (n : ℕ) → section_of (replicate n 0) ≡ 0 }
 {}
 
-/// What is read keeps the nesting limit, is the same under any other that its depth keeps, and fits its spelling.
+/// What is read keeps the nesting limit, is the same under any other that its depth keeps, and fits
+/// its spelling.
 pub fn values_that_are_read()
     ensures deep { (n : ℕ) (s : Segments) (p : Place) (t : Tree) → tree_at n s p ≡ Some t
         → depth t ≤ n }
@@ -79,7 +81,8 @@ pub fn values_that_are_read()
     ensures fits { (n : ℕ) (s : Segments) (p : Place) (t : Tree) → tree_at n s p ≡ Some t → Fits t }
 {}
 
-/// What the function reads is what the relation by cases says, and that is at most one value for a place.
+/// What the function reads is what the relation by cases says, and that is at most one value for a
+/// place.
 pub fn values_as_a_relation()
     ensures read { (n : ℕ) (s : Segments) (p : Place) (t : Tree) → Means n s p t
         → tree_at n s p ≡ Some t }
@@ -89,7 +92,7 @@ pub fn values_as_a_relation()
         → Means m s p u → t ≡ u }
 {}
 
-/// A value is read just where no fault is met.
+/// A value is read exactly where no fault is met.
 pub fn faults_of_values()
     ensures read { (n : ℕ) (s : Segments) (p : Place) (t : Tree) → tree_at n s p ≡ Some t
         → faults_at n s p ≡ [] }
@@ -130,7 +133,8 @@ pub fn fitting_values()
     ensures zeros { (n : ℕ) → n < 2 ^ 29 → Fits (plain_list 2 n 0) }
 {}
 
-/// The words of a value mean the value, also where a first segment goes on behind them; so equal words are those of equal values.
+/// The words of a value mean the value, also where a first segment goes on behind them; so equal
+/// words are those of equal values.
 pub fn words_mean_their_value()
     ensures means { (t : Tree) (n : ℕ) → Fits t → depth t ≤ n
         → length (canonical_words t) ≤ 2 ^ 29 → tree_at n (canonical_words t ∷ []) root ≡ Some t }
@@ -143,7 +147,8 @@ pub fn words_mean_their_value()
         → AreWords (canonical_words t) }
 {}
 
-/// The objects of a value have no more words than following its pointer costs, and the canonical words of the trimmed value at most one more, that of the root.
+/// The objects of a value have no more words than following its pointer costs, and the canonical
+/// words of the trimmed value at most one more, that of the root.
 pub fn words_within_costs()
     ensures whole { (n : ℕ) (s : Segments) (p : Place) (t : Tree) → tree_at n s p ≡ Some t
         → length (body t) ≤ cost_at n s p }
@@ -151,7 +156,8 @@ pub fn words_within_costs()
         → length (canonical_words (trim t)) ≤ cost_at n s p + 1 }
 {}
 
-/// The canonical words of a value mean the trimmed value, are equal just for equal trimmed values, and are their own canonical words.
+/// The canonical words of a value mean the trimmed value, are equal exactly for equal trimmed
+/// values, and are their own canonical words.
 pub fn canonical_messages()
     ensures means { (n : ℕ) (s : Segments) (p : Place) (t : Tree) → tree_at n s p ≡ Some t
         → cost_at n s p < 2 ^ 29 → tree_at n (canonical_words (trim t) ∷ []) root ≡ Some (trim t) }
@@ -165,7 +171,7 @@ pub fn canonical_messages()
         → canonical_words (trim u) ≡ canonical_words (trim t) }
 {}
 
-/// The test for canonical words at a place holds just where they stand.
+/// The test for canonical words at a place holds exactly where they stand.
 pub fn canonical_tests_at_places()
     ensures holds { (n : ℕ) (s : Segments) (p : Place) → is_canonical_at n s p ≡ true
         → (t : Tree) × (tree_at n s p ≡ Some t) × (has_capability t ≡ false)
@@ -179,7 +185,8 @@ pub fn canonical_tests_at_places()
         → slice_get s 0 ≡ Some (canonical_words t ++ more) → is_canonical_at n s root ≡ true }
 {}
 
-/// The test for a canonical message holds just where the canonical words of its value are its one segment, and so of each canonical copy.
+/// The test for a canonical message holds exactly where the canonical words of its value are its
+/// one segment, and so of each canonical copy.
 pub fn canonical_tests()
     ensures holds_of { (n : ℕ) (s : Segments) → is_canonical_message n s ≡ true → (t : Tree)
         × (tree_at n s root ≡ Some t) × (has_capability t ≡ false)
@@ -192,20 +199,22 @@ pub fn canonical_tests()
         → is_canonical_message n (canonical_words (trim t) ∷ []) ≡ true }
 {}
 
-/// The words of a value's objects are those behind its pointer, and it has a capability just where some are counted.
+/// The words of a value's objects are those behind its pointer, and it has a capability exactly
+/// where some are counted.
 pub fn sizes_of_values()
     ensures words { (t : Tree) → object_words t ≡ length (body t) }
     ensures none { (t : Tree) → capability_count t ≡ 0 → has_capability t ≡ false }
     ensures no_count { (t : Tree) → has_capability t ≡ false → capability_count t ≡ 0 }
 {}
 
-/// Unpacking what is packed gives the words, and takes just their bytes.
+/// Unpacking what is packed gives the words, and takes exactly their bytes.
 pub fn packed_words()
     ensures { (ws rest : List ℕ) → AreWords ws
         → unpacked (length ws) (packed ws ++ rest) ≡ Ok (ws, rest) }
 {}
 
-/// A written message is read, whatever follows it, and is a text of its segments; canonical words can be written.
+/// A written message is read, whatever follows it, and is a text of its segments; canonical words
+/// can be written.
 pub fn written_messages()
     ensures framed { (limit : Option ℕ) (s : Segments) (rest : List ℕ) → CanSpell limit s
         → frame_at limit (frame s ++ rest) ≡ Ok (s, rest) }
@@ -220,7 +229,8 @@ pub fn written_messages()
         → Packs limit (packed_message s) s }
 {}
 
-/// Bytes at whose front a message is read begin with its text, and bytes behind a text change nothing.
+/// Bytes at whose front a message is read begin with its text, and bytes behind a text change
+/// nothing.
 pub fn texts_of_messages()
     ensures framed_front { (limit : Option ℕ) (b : List ℕ) (s : Segments) (rest : List ℕ)
         → frame_at limit b ≡ Ok (s, rest) → (x : List ℕ) × (b ≡ x ++ rest) × Frames limit x s }
@@ -248,7 +258,8 @@ pub fn texts_by_their_fronts()
         → Packs limit b s → Packs limit c u → b ++ x ≡ c ++ y → (b ≡ c) × (s ≡ u) }
 {}
 
-/// The record of a struct depends on nothing but the bits and the pointers of its schema's slots and discriminants.
+/// The record of a struct depends on nothing but the bits and the pointers of its schema's slots
+/// and discriminants.
 pub fn records_of_own_bits()
     ensures { (g : Shape) (v w : View) → SameAll (areas_of g) v w
         → shape_record g v.size v.section v.kids ≡ shape_record g w.size w.section w.kids }
@@ -276,7 +287,7 @@ pub fn records_of_trimmed_values()
         → record_of s id (trim t) ≡ record_of s id t }
 {}
 
-/// Messages within the limits with equal trimmed values are answered alike.
+/// Messages within the limits with equal trimmed values have equal answers.
 pub fn answers_to_equal_values()
     ensures { (s : Schema) (quoted : List ℕ → List ℕ) (id : ℕ) (calls : List Call)
         (limits : Limits) (a b : Segments) (t u : Tree) → value_within limits a ≡ Some t
@@ -306,7 +317,8 @@ pub fn views_along_versions()
         ≡ projected (schema_of a) x (record_of (schema_of c) z t) }
 {}
 
-/// A walk over a value without a fault costs what following its pointers costs, and follows just its pointers, nulls included; the faults of any value are those that a walk meets.
+/// A walk over a value without a fault costs what following its pointers costs, and follows exactly
+/// its pointers, nulls included. The faults of any value are those that a walk meets.
 pub fn values_on_walks()
     ensures cost { (n : ℕ) (s : Segments) (p : Place) (t : Tree) → tree_at n s p ≡ Some t
         → visits_cost (visits n s p) ≡ Some (cost_at n s p) }
@@ -321,7 +333,8 @@ pub fn values_on_walks()
         → faults_among (visits n s p) ≡ faults_at n s p }
 {}
 
-/// A walk that is refused at a visit has followed no more pointers than it began with and one for each word that it paid.
+/// A walk that is refused at a visit has followed no more pointers than it began with and one for
+/// each word that it paid.
 pub fn refused_walks()
     ensures value { (n : ℕ) (s : Segments) (p : Place) (before : List Visit) (last : Visit)
         (rest : List Visit) (paid : ℕ) → visits n s p ≡ before ++ last ∷ rest

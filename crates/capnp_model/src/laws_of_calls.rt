@@ -14,7 +14,8 @@ ghost use Rattle.capnp_model.specs.EditDepths.{call_depth};
 ghost use Rattle.capnp_model.specs.Accepted.{IsAccepted, schema_of};
 ghost use Rattle.capnp_model.specs.Answers.{edits};
 
-/// A call leaves a value no deeper than the value was, or than its path, its own value and the defaults on the way allow; and so do calls in turn.
+/// A call leaves a value no deeper than the value was, or than its path, its own value and the
+/// defaults on the way allow. So do calls in turn.
 pub fn depths_of_edited_values()
     ensures one { (nodes : List Node) (id : ℕ) (c : Call) (t : Tree)
         → depth (edit (schema_of nodes) id c t) ≤ max (depth t) (call_depth c) }
@@ -23,7 +24,9 @@ pub fn depths_of_edited_values()
         → depth (edits (schema_of nodes) id calls t) ≤ max (depth t) k }
 {}
 
-/// What a path leads to is led to after a call that spares it: so a union member stays active, one that only a newer schema has as well, unless a call writes a member of that union, or a group, a pointer or a list's element that holds it.
+/// What a path leads to is led to after a call that spares it. So a union member stays active, one
+/// that only a newer schema has as well. A call doesn't spare it that writes a member of that
+/// union, or a group, a pointer or a list's element that holds it.
 pub fn members_that_stay_active()
     ensures { (nodes : List Node) → IsAccepted nodes
         → (id : ℕ) (c : Call) (t : Tree) (r : Record) (way : List Step)

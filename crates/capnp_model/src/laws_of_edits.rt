@@ -1,4 +1,5 @@
-//! Laws of calls: the record machine and the edits of values are one. Each is the contract of a function that does nothing.
+//! Laws of calls: the record machine and the edits of values are one. Each is the contract of a
+//! function that does nothing.
 
 ghost use Rattle.std.specs.Prelude.{◌≡◌, ℕ, ◌*◌, ◌^◌, ◌<◌, true, false, List, [], ◌∷◌, Option};
 ghost use Rattle.capnp_model.specs.Trees.{Tree, structure, Trees, tree_count};
@@ -16,7 +17,8 @@ ghost use Rattle.capnp_model.specs.Views.{SameAll};
 ghost use Rattle.capnp_model.specs.Answers.{replies, edits, opened_root};
 ghost use Rattle.capnp_model.specs.Accepted.{Area, are_apart, areas_of, IsAccepted, schema_of};
 
-/// The record of an edited value is what the record machine makes of the record, for calls along names that end at a slot.
+/// The record of an edited value is what the record machine makes of the record, for calls along
+/// names that end at a slot.
 pub fn records_of_edited_values()
     ensures { (nodes : List Node) → IsAccepted nodes → (id : ℕ)
         → (schema_of nodes).is_group id ≡ false → (c : Call) → IsInRange c.verb
@@ -26,7 +28,8 @@ pub fn records_of_edited_values()
         → record_of (schema_of nodes) id (edit (schema_of nodes) id c t) ≡ r }
 {}
 
-/// The record of an edited value is what the record machine makes of the record, for every call; the next calls can start from the value.
+/// The record of an edited value is what the record machine makes of the record, for every call;
+/// the next calls can start from the value.
 pub fn records_after_one_call()
     ensures reads { (nodes : List Node) (id : ℕ) (c : Call) (calls : List Call) (t : Tree)
         → IsStart nodes id (c ∷ calls) t → (r : Record)
@@ -36,7 +39,8 @@ pub fn records_after_one_call()
         → IsStart nodes id (c ∷ calls) t → IsStart nodes id calls (edit (schema_of nodes) id c t) }
 {}
 
-/// Calls one after the other give the value whose record they make of the record, and the replies that they give at the records; the next calls can start from it.
+/// Calls one after the other give the value whose record they make of the record, and the replies
+/// that they give at the records. The next calls can start from it.
 pub fn records_after_calls()
     ensures reads { (nodes : List Node) (id : ℕ) (calls : List Call) (t : Tree)
         → IsStart nodes id calls t
@@ -59,7 +63,8 @@ pub fn root_beside_its_schema()
         (view_of_value (schema_of nodes) (edits (schema_of nodes) id calls t)) }
 {}
 
-/// What is written after the calls on a message's value reads as what the calls make of the record of the value that was read.
+/// What is written after the calls on a message's value reads as what the calls make of the record
+/// of the value that was read.
 pub fn records_of_written_values()
     ensures kinds { (s : Schema) (t : Tree) (ty : Ty) → in_kind s (trim t) ty ≡ in_kind s t ty }
     ensures start { (nodes : List Node) (id : ℕ) (calls : List Call) (t : Tree)
@@ -74,7 +79,8 @@ pub fn records_of_written_values()
         ≡ record_replies (schema_of nodes) quoted id calls (record_of (schema_of nodes) id t) }
 {}
 
-/// A group that is set from a struct is the last beginning of its writes, the first of which marks the union.
+/// A group that is set from a struct is the last beginning of its writes, the first of which marks
+/// the union.
 pub fn groups_set_by_writes()
     ensures whole { (s : Schema) (union member : Option ℕ) (g : Shape) (words : ℕ) (from c : Cell)
         → edit_field s [] (set_to (message (structure words from.section from.kids))) union member
@@ -85,7 +91,8 @@ pub fn groups_set_by_writes()
         (group_slot g) c) }
 {}
 
-/// A struct put into an element of a list has just the words and the pointers of the list's elements.
+/// A struct put into an element of a list has exactly the words and the pointers of the list's
+/// elements.
 pub fn structs_in_elements_are_cut()
     ensures words { (words pointers id w section : ℕ) (kids : Trees) (c : Cell)
         → (put_in_element words pointers (struct id) (object (structure w section kids))

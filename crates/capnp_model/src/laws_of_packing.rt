@@ -3,7 +3,8 @@ ghost use Rattle.std.specs.Prelude.{◌≡◌, ℕ, List, ◌++◌, length, Ok};
 ghost use Rattle.capnp_model.specs.Packing.{unpacked};
 ghost use Rattle.capnp_model.specs.PackingGrammar.{IsPiece};
 
-/// The machine that unpacks reads just the texts of the grammar: a piece gives its words, whatever follows it, and what gives words begins with a piece of them.
+/// The machine that unpacks reads exactly the texts of the grammar: a piece gives its words,
+/// whatever follows it, and what gives words begins with a piece of them.
 pub fn packing_as_a_relation()
     ensures read { (text words rest : List ℕ) → IsPiece text words
         → unpacked (length words) (text ++ rest) ≡ Ok (words, rest) }

@@ -33,7 +33,8 @@ pub fn runs_in_two_forms()
         → x.messages ≡ y.messages → (output ≡ others) × (log ≡ lines) }
 {}
 
-/// Messages with pairwise equal trimmed values, all within the limits, give equal output and equal logs.
+/// Messages with pairwise equal trimmed values, all within the limits, give equal output and equal
+/// logs.
 pub fn runs_over_equal_values()
     ensures { (w : Work) (read other : Reader) (write : Writer)
         (bytes texts output log others lines : List ℕ) (end last : End)
@@ -42,7 +43,8 @@ pub fn runs_over_equal_values()
         → HaveOneValueEach w.limits x.messages y.messages → (output ≡ others) × (log ≡ lines) }
 {}
 
-/// What a refused message held changes nothing of any other answer: the output is the same, and so is the log but for its own line.
+/// What a refused message held changes nothing of any other answer: the output is the same, and so
+/// is the log but for its own line.
 pub fn runs_past_a_refused_message()
     ensures { (w : Work) (read other : Reader) (write : Writer)
         (bytes texts output log others lines : List ℕ) (end last : End)

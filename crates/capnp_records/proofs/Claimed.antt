@@ -9,7 +9,7 @@ use Rattle.capnp_records.specs.declared.area.Area.{Area}
 use Rattle.capnp_records.specs.declared.marks.Marks.{Marks}
 use Rattle.capnp_records.specs.Storage.{areas_seen}
 use Rattle.capnp_records.specs.Claims.{claims_are_apart}
-use Rattle.capnp_records.specs.Marks.{mark_at, AllowsAll, Refuses, Puts, most_mark, level_mark}
+use Rattle.capnp_records.specs.Marks.{mark_at, AllowsAll, HasMarkAbove, MarksAreas, most_mark, level_mark}
 use Rattle.capnp_records.proofs.Forward.{forward, forward_all}
 use Rattle.capnp_records.proofs.Marked.{is_wide, clash, IsMarked, AreWide, apart_is_pairs, allowed, refused, marked_more, nothing_marked, wide_areas}
 
@@ -30,18 +30,18 @@ module _ (m : Marks) (done rest all : List (Bool × List ModelArea)) (x : Bool �
   wide_here : list_all is_wide x.1 ≡ true
   wide_here = ap (list_all is_wide) (sym is) ∙ wide_areas as'
 
-  pub walked_on : (n : Marks) → AllowsAll m (areas_seen as') (most_mark x.0) → Puts m n (areas_seen as') (level_mark x.0) → IsWalked n (done ++ x ∷ []) rest all
+  pub walked_on : (n : Marks) → AllowsAll m (areas_seen as') (most_mark x.0) → MarksAreas m n (areas_seen as') (level_mark x.0) → IsWalked n (done ++ x ∷ []) rest all
   walked_on n a p =
       let free : list_any (λ d. clash d x) done ≡ false = allowed m x done w.marked w.wide wide_here (subst (λ (xs : List ModelArea). AllowsAll m xs (most_mark x.0)) is a) in
       record {
         decides = sym (ap (λ b. not b && forward clash (done ++ x ∷ []) rest) free) ∙ w.decides;
-        marked = marked_more m n done x w.marked (subst (λ (xs : List ModelArea). Puts m n xs (level_mark x.0)) is p);
+        marked = marked_more m n done x w.marked (subst (λ (xs : List ModelArea). MarksAreas m n xs (level_mark x.0)) is p);
         wide = list_all-append (λ c. list_all is_wide c.1) done (x ∷ []) ∙ both (list_all (λ c. list_all is_wide c.1) done) (list_all is_wide x.1 && true) w.wide (both (list_all is_wide x.1) true wide_here refl);
       }
 
-  pub walked_out : Refuses m (areas_seen as') (most_mark x.0) → false ≡ claims_are_apart all
+  pub walked_out : HasMarkAbove m (areas_seen as') (most_mark x.0) → false ≡ claims_are_apart all
   walked_out r =
-      let met : list_any (λ d. clash d x) done ≡ true = refused m x done w.marked (subst (λ (xs : List ModelArea). Refuses m xs (most_mark x.0)) is r) in
+      let met : list_any (λ d. clash d x) done ≡ true = refused m x done w.marked (subst (λ (xs : List ModelArea). HasMarkAbove m xs (most_mark x.0)) is r) in
       sym (ap (λ b. not b && forward clash (done ++ x ∷ []) rest) met) ∙ w.decides
 
 -- ---- fields in a list

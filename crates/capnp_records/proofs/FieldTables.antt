@@ -3,13 +3,13 @@ use Rattle.std.proofs.Common.{◌≡◌, ℕ, zero, suc, ◌<◌, Bool, true, fa
 use Rattle.capnp_model.specs.Schemas.{StructNode, NodeKind, struct_node, enum_node, Node}
 use Rattle.capnp_model.specs.Accepted.{find_node, fields_of_kind, IsAccepted}
 use Rattle.capnp_model.proofs.lemmas.Tests.{same_number, and_left}
-use Rattle.capnp_records.specs.Sets.{has_struct, is_at, struct_in, struct_found}
+use Rattle.capnp_records.specs.Sets.{has_struct, is_at, struct_of_kind, struct_found}
 use Rattle.capnp_records.specs.Tables.{members_in, others_in, AreByName, AreNodesByName, AreTablesOf}
 use Rattle.capnp_records.specs.declared.tables.FieldTables.{FieldTables as Places}
 use Rattle.capnp_records.proofs.lemmas.PlainStructs.{place_is_found}
 use Rattle.capnp_records.proofs.lemmas.FieldPlaces.{same_length, same_at, in_range}
 
-kind_is : (k : NodeKind) (s : StructNode) → struct_in k ≡ Some s → k ≡ struct_node s
+kind_is : (k : NodeKind) (s : StructNode) → struct_of_kind k ≡ Some s → k ≡ struct_node s
 kind_is (struct_node r) s e = let is : r ≡ s = cc e in ap struct_node is
 kind_is (enum_node es) s e = absurd (cc e)
 
@@ -29,7 +29,7 @@ tables_at nodes accepted ts members others by_name k id t at e s h = by (slice_g
     by (Some n) q b =
         let is : n.id ≡ id = same_number n.id id (and_left (n.id == id) (has_struct n) b) in
         let found : find_node nodes id ≡ Some n = ap (find_node nodes) (sym is) ∙ place_is_found nodes accepted k n q in
-        let kind : n.kind ≡ struct_node s = kind_is n.kind s (sym (ap (λ (o : Option Node). elim o as (λ (p : Option Node). Option StructNode) [ None ↦ None | Some m ↦ struct_in m.kind ]) found) ∙ h) in
+        let kind : n.kind ≡ struct_node s = kind_is n.kind s (sym (ap (λ (o : Option Node). elim o as (λ (p : Option Node). Option StructNode) [ None ↦ None | Some m ↦ struct_of_kind m.kind ]) found) ∙ h) in
         let lt : k < length ts = subst (λ (l : ℕ). k < l) (sym (same_length (λ (x : Places). x.members.items) (λ m. members_in m.kind) ts nodes members)) (in_range nodes k n q) in
         record {
           members = same_at (λ (x : Places). x.members.items) (λ m. members_in m.kind) ts nodes k t n members lt e q ∙ ap members_in kind;

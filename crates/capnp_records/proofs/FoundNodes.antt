@@ -4,7 +4,7 @@ use Rattle.capnp_model.specs.Schemas.{Enumerant, StructNode, Node}
 use Rattle.capnp_model.specs.Accepted.{find_node, IsAccepted}
 use Rattle.capnp_model.proofs.lemmas.Tests.{same_number, and_left}
 use Rattle.capnp_records.specs.NodeViews.{node_of, node_kind}
-use Rattle.capnp_records.specs.Sets.{is_at, struct_in, enumerants_in, struct_found, enumerants_found}
+use Rattle.capnp_records.specs.Sets.{is_at, struct_of_kind, enumerants_in, struct_found, enumerants_found}
 use Rattle.capnp_records.specs.declared.node.NodeBody.{NodeBody}
 use Rattle.capnp_records.specs.declared.node.NodeRecord.{NodeRecord}
 use Rattle.capnp_records.proofs.lemmas.PlainStructs.{at_place, place_is_found}
@@ -16,9 +16,9 @@ node_found test xs accepted k id x h e =
     let is : x.id ≡ id = same_number x.id id (and_left (x.id == id) (test (node_of x)) there.1) in
     ap (find_node (map node_of xs)) (sym is) ∙ place_is_found (map node_of xs) accepted k (node_of x) there.0
 
-pub struct_found_at : (test : Node → Bool) (xs : List NodeRecord) → IsAccepted (map node_of xs) → (k id : ℕ) (x : NodeRecord) (s : StructNode) → is_at test (map node_of xs) k id ≡ true → x ≡ get_or xs k x → struct_in (node_kind x.body) ≡ Some s → struct_found (map node_of xs) id ≡ Some s
+pub struct_found_at : (test : Node → Bool) (xs : List NodeRecord) → IsAccepted (map node_of xs) → (k id : ℕ) (x : NodeRecord) (s : StructNode) → is_at test (map node_of xs) k id ≡ true → x ≡ get_or xs k x → struct_of_kind (node_kind x.body) ≡ Some s → struct_found (map node_of xs) id ≡ Some s
 struct_found_at test xs accepted k id x s h e is =
-    ap (λ (o : Option Node). elim o as (λ (p : Option Node). Option StructNode) [ None ↦ None | Some n ↦ struct_in n.kind ]) (node_found test xs accepted k id x h e) ∙ is
+    ap (λ (o : Option Node). elim o as (λ (p : Option Node). Option StructNode) [ None ↦ None | Some n ↦ struct_of_kind n.kind ]) (node_found test xs accepted k id x h e) ∙ is
 
 pub enum_found_at : (test : Node → Bool) (xs : List NodeRecord) → IsAccepted (map node_of xs) → (k id : ℕ) (x : NodeRecord) (es : List Enumerant) → is_at test (map node_of xs) k id ≡ true → x ≡ get_or xs k x → enumerants_in (node_kind x.body) ≡ Some es → enumerants_found (map node_of xs) id ≡ Some es
 enum_found_at test xs accepted k id x es h e is =

@@ -10,7 +10,7 @@ use Rattle.capnp_records.specs.declared.area.Area.TheVariants as A
 use Rattle.capnp_records.specs.declared.marks.Marks.{Marks}
 use Rattle.capnp_records.specs.Storage.{areas_in, areas_seen}
 use Rattle.capnp_records.specs.Claims.{claims_are_apart}
-use Rattle.capnp_records.specs.Marks.{has, covers, mark_at, AllowsAll, Refuses, Puts, most_mark, level_mark}
+use Rattle.capnp_records.specs.Marks.{has, covers, mark_at, AllowsAll, HasMarkAbove, MarksAreas, most_mark, level_mark}
 use Rattle.capnp_records.proofs.lemmas.ListTests.{list_any-append, list_all-flat_map}
 use Rattle.capnp_records.proofs.Forward.{pairs}
 
@@ -35,7 +35,7 @@ seen_at (b ∷ as') (suc i) a pointer k lt is h =
     list_any-append (λ x. has x pointer k) (areas_in b) (areas_seen as')
     ∙ or_there (covers (areas_in b) pointer k) (covers (areas_seen as') pointer k) (seen_at as' i a pointer k (omega arith) is h)
 
-pub refused_at : (m : Marks) (as' : List Area) (i : ℕ) (a : Area) (most : ℕ) → i < length as' → a ≡ get_or as' i a → Refuses m (areas_in a) most → Refuses m (areas_seen as') most
+pub refused_at : (m : Marks) (as' : List Area) (i : ℕ) (a : Area) (most : ℕ) → i < length as' → a ≡ get_or as' i a → HasMarkAbove m (areas_in a) most → HasMarkAbove m (areas_seen as') most
 refused_at m as' i a most lt is r = record { pointer = r.pointer; number = r.number; covered = seen_at as' i a r.pointer r.number lt is r.covered; above = r.above }
 
 -- ---- marks after two puts
@@ -46,7 +46,7 @@ put_twice true false level x y z h k = k ∙ h
 put_twice false true level x y z h k = k ∙ ap (max level) h
 put_twice false false level x y z h k = k ∙ h
 
-pub puts_more : (old m n : Marks) (as' : List Area) (i : ℕ) (a : Area) (level : ℕ) → i < length as' → a ≡ get_or as' i a → Puts old m (areas_seen (take i as')) level → Puts m n (areas_in a) level → Puts old n (areas_seen (take (i + 1) as')) level
+pub puts_more : (old m n : Marks) (as' : List Area) (i : ℕ) (a : Area) (level : ℕ) → i < length as' → a ≡ get_or as' i a → MarksAreas old m (areas_seen (take i as')) level → MarksAreas m n (areas_in a) level → MarksAreas old n (areas_seen (take (i + 1) as')) level
 puts_more old m n as' i a level lt is h g pointer k =
     put_twice (covers (areas_seen (take i as')) pointer k) (covers (areas_in a) pointer k) level (mark_at old pointer k) (mark_at m pointer k) (mark_at n pointer k) (h pointer k) (g pointer k)
     ∙ ap (λ (b : Bool). elim b as (λ (t : Bool). ℕ) [ true ↦ max level (mark_at old pointer k) | false ↦ mark_at old pointer k ])
@@ -211,7 +211,7 @@ allowed m x done h v w a = none_clash x done v w (λ pointer k e. sym (h x.0 poi
     low : (n k : ℕ) → k ≤ n → nat_lt n k ≡ false
     low n k g = grind (arith, nat_tests)
 
-pub refused : (m : Marks) (x : Bool × List ModelArea) (done : List (Bool × List ModelArea)) → IsMarked m done → Refuses m x.1 (most_mark x.0) → list_any (λ d. clash d x) done ≡ true
+pub refused : (m : Marks) (x : Bool × List ModelArea) (done : List (Bool × List ModelArea)) → IsMarked m done → HasMarkAbove m x.1 (most_mark x.0) → list_any (λ d. clash d x) done ≡ true
 refused m x done h r = some_clash x done r.pointer r.number r.covered (sym (h x.0 r.pointer r.number) ∙ high (most_mark x.0) (mark_at m r.pointer r.number) r.above)
   where
     high : (n k : ℕ) → n < k → nat_lt n k ≡ true
@@ -225,7 +225,7 @@ raised true false v = grind (arith, nat_tests)
 raised false true v = grind (arith, nat_tests)
 raised false false v = grind (arith, nat_tests)
 
-pub marked_more : (m n : Marks) (done : List (Bool × List ModelArea)) (x : Bool × List ModelArea) → IsMarked m done → Puts m n x.1 (level_mark x.0) → IsMarked n (done ++ x ∷ [])
+pub marked_more : (m n : Marks) (done : List (Bool × List ModelArea)) (x : Bool × List ModelArea) → IsMarked m done → MarksAreas m n x.1 (level_mark x.0) → IsMarked n (done ++ x ∷ [])
 marked_more m n done x h p member pointer k =
     ap (nat_lt (most_mark member)) (p pointer k)
     ∙ by (covers x.1 pointer k) refl

@@ -8,7 +8,7 @@ use Rattle.capnp_model.specs.Accepted.{find_node, Area, share, are_apart, union_
 use Rattle.capnp_model.proofs.lemmas.Tests.{and_assoc, and_swap}
 use Rattle.capnp_records.specs.NodeViews.{kind_of_field, field_of}
 use Rattle.capnp_records.specs.declared.node.FieldRecord.{FieldRecord}
-use Rattle.capnp_records.specs.Claims.{claim_in, claims_in, areas_claimed, claims_are_apart, groups_have_no_overlap, IsWritten, IsUnwritten}
+use Rattle.capnp_records.specs.Claims.{claim_in, claims_in, areas_claimed, claims_are_apart, groups_have_no_overlap, IsWrittenOut, IsUnwritten}
 
 pub areas_and_more : (cs : List (Bool × List Area)) (c : Bool × List Area) → areas_claimed (cs ++ c ∷ []) ≡ areas_claimed cs ++ c.1
 areas_and_more [] c = append_none c.1
@@ -117,7 +117,7 @@ unfolding shape_in kind_shape
 no_struct nodes zero id n h es k = unwritten nodes zero id refl
 no_struct nodes (suc levels) id n h es k = unwritten nodes (suc levels) id (ap (shape_of_node (λ g. shape_in nodes levels g)) h ∙ ap (kind_shape (λ g. shape_in nodes levels g) n) k)
 
-pub written : (nodes : List Node) (levels id : ℕ) (n : Node) (s : StructNode) → 0 < levels → find_node nodes id ≡ Some n → n.kind ≡ struct_node s → IsWritten nodes levels id s
+pub written : (nodes : List Node) (levels id : ℕ) (n : Node) (s : StructNode) → 0 < levels → find_node nodes id ≡ Some n → n.kind ≡ struct_node s → IsWrittenOut nodes levels id s
 unfolding shape_in kind_shape
 written nodes zero id n s d h k = absurd (omega arith)
 written nodes (suc levels) id n s d h k =

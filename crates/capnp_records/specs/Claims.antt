@@ -26,8 +26,8 @@ claims_are_apart (c ∷ cs) = list_all (λ d. (c.0 && d.0) || are_apart c.1 d.1)
 abbrev pub groups_have_no_overlap : (ℕ → Shape) → List Field → Bool
 groups_have_no_overlap groups fs = list_all (λ f. body_has_no_overlap (field_body groups f.kind)) fs
 
--- What is written out of an id at so many levels is the struct or the group.
-pub record IsWritten (nodes : List Node) (levels id : ℕ) (s : StructNode) : Type 0 where
+-- What is written out of an id at n levels is the struct or the group.
+pub record IsWrittenOut (nodes : List Node) (levels id : ℕ) (s : StructNode) : Type 0 where
   pub deep : 0 < levels
   pub areas : areas_of (shape_in nodes levels id) ≡ areas_claimed (claims_in (λ g. shape_in nodes (levels - 1) g) s)
   pub apart : has_no_overlap (shape_in nodes levels id) ≡ (claims_are_apart (claims_in (λ g. shape_in nodes (levels - 1) g) s) && groups_have_no_overlap (λ g. shape_in nodes (levels - 1) g) s.fields)

@@ -6,6 +6,6 @@ use Rattle.capnp_records.specs.declared.fault.SchemaFault.{SchemaFault}
 use Rattle.capnp_records.specs.declared.fault.SchemaFault.TheVariants.{Rule, Memory}
 
 -- The fault is the first broken rule and the first node that breaks it, or want of memory.
-abbrev pub IsRefusalOf : List Node → SchemaFault → Type 0
-IsRefusalOf nodes (Rule rule node) = fault_of nodes ≡ Some (rule, node)
-IsRefusalOf nodes Memory = ⊤
+abbrev pub IsSchemaRefusal : List Node → SchemaFault → Type 0
+IsSchemaRefusal nodes (Rule rule node) = fault_of nodes ≡ Some (rule, node)
+IsSchemaRefusal nodes Memory = ⊤

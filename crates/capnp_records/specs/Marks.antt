@@ -25,15 +25,15 @@ abbrev pub AllowsAll : Marks → List Area → ℕ → Type 0
 AllowsAll m xs most = (pointer : Bool) (k : ℕ) → covers xs pointer k ≡ true → mark_at m pointer k ≤ most
 
 -- A mark of the areas is above it.
-pub record Refuses (m : Marks) (xs : List Area) (most : ℕ) : Type 0 where
+pub record HasMarkAbove (m : Marks) (xs : List Area) (most : ℕ) : Type 0 where
   pub pointer : Bool
   pub number : ℕ
   pub covered : covers xs pointer number ≡ true
   pub above : most < mark_at m pointer number
 
 -- The areas are marked by at least the level, and nothing else is changed.
-abbrev pub Puts : Marks → Marks → List Area → ℕ → Type 0
-Puts old new xs level = (pointer : Bool) (k : ℕ) → mark_at new pointer k ≡ elim (covers xs pointer k) [ true ↦ max level (mark_at old pointer k) | false ↦ mark_at old pointer k ]
+abbrev pub MarksAreas : Marks → Marks → List Area → ℕ → Type 0
+MarksAreas old new xs level = (pointer : Bool) (k : ℕ) → mark_at new pointer k ≡ elim (covers xs pointer k) [ true ↦ max level (mark_at old pointer k) | false ↦ mark_at old pointer k ]
 
 -- Marks of one kind in a row are at most the highest from a place up to another, or one is above it.
 abbrev pub AllAtMost : List ℕ → ℕ → ℕ → ℕ → Type 0

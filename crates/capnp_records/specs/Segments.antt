@@ -4,8 +4,8 @@ use Rattle.capnp_model.specs.Trees.{Tree, null, capability, structure, plain_lis
 use Rattle.capnp_model.specs.Schemas.{type_of}
 use Rattle.capnp_model.specs.Accepted.{opens_as}
 use Rattle.capnp_units.specs.Sizes.{size_number}
-use Rattle.capnp_object.specs.declared.object.Object.{Object}
-use Rattle.capnp_object.specs.declared.object.Object.TheVariants as object
+use Rattle.capnp_wire_objects.specs.declared.object.Object.{Object}
+use Rattle.capnp_wire_objects.specs.declared.object.Object.TheVariants as object
 use Rattle.capnp_records.specs.NodeViews.{type_record_of}
 use Rattle.capnp_records.specs.declared.segment.Wanted.{Wanted}
 use Rattle.capnp_records.specs.declared.segment.Wanted.TheVariants.{Anything, Of}

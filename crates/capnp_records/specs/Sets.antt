@@ -32,13 +32,13 @@ abbrev pub IsEnumOf : List Node → RawEnumSchema → Type 0
 IsEnumOf nodes raw = is_at is_enum_node nodes raw.number raw.id ≡ true
 
 -- What a node says of a struct or a group.
-abbrev pub struct_in : NodeKind → Option StructNode
-struct_in (struct_node s) = Some s
-struct_in (enum_node es) = None
+abbrev pub struct_of_kind : NodeKind → Option StructNode
+struct_of_kind (struct_node s) = Some s
+struct_of_kind (enum_node es) = None
 
 -- The struct or the group of an id.
 abbrev pub struct_found : List Node → ℕ → Option StructNode
-struct_found nodes id = elim (find_node nodes id) [ None ↦ None | Some n ↦ struct_in n.kind ]
+struct_found nodes id = elim (find_node nodes id) [ None ↦ None | Some n ↦ struct_of_kind n.kind ]
 
 -- The enumerants of an enum.
 abbrev pub enumerants_in : NodeKind → Option (List Enumerant)

@@ -26,10 +26,10 @@ bits_in (Bits n) = n
 bits_in Pointer = 0
 
 -- A value takes some bits.
-abbrev pub IsWide : Storage → Type 0
-IsWide Nothing = ⊤
-IsWide (Bits n) = 0 < n
-IsWide Pointer = ⊤
+abbrev pub TakesBits : Storage → Type 0
+TakesBits Nothing = ⊤
+TakesBits (Bits n) = 0 < n
+TakesBits Pointer = ⊤
 
 -- An area as the model lists it.
 abbrev pub areas_in : Area → List ModelArea

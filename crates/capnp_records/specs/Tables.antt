@@ -17,7 +17,7 @@ abbrev pub place_from : ℕ → ℕ → List Field → ℕ
 place_from d i [] = 0
 place_from d i (f ∷ fs) = if is_member_at d f then i else place_from d (suc i) fs
 
--- The places of so many members, by their values from one on.
+-- The places of n members, by their values from one on.
 abbrev pub members_from : List Field → ℕ → ℕ → List ℕ
 members_from fs d zero = []
 members_from fs d (suc n) = place_from d 0 fs ∷ members_from fs (suc d) n

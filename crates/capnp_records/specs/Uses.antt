@@ -6,7 +6,7 @@ use Rattle.capnp_model.specs.Schemas.{Node}
 use Rattle.capnp_model.specs.Accepted.{groups_used, uses_of}
 use Rattle.capnp_records.specs.declared.groups.GroupUses.{GroupUses}
 
--- Whether what is there so many times is there once.
+-- Whether what is there n times is there once.
 abbrev pub once_in : ℕ → Option Bool
 once_in zero = None
 once_in (suc n) = Some (n == 0)

@@ -2,7 +2,7 @@
 
 ghost use Rattle.std.specs.Prelude.{◌<◌};
 
-/// Bits of the data section: as wide as a value, behind so many of that width.
+/// Bits of the data section: as wide as a value, behind n of that width.
 #[derive(Clone, Copy)]
 pub(crate) struct Span {
     pub(crate) width: u32,

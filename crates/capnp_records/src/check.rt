@@ -3,7 +3,7 @@
 ghost use Rattle.std.specs.Prelude.{◌≡◌, ◌<◌, ◌||◌, not, map, length, take, get_or, None, IfOk, IfErr, OnOk};
 ghost use Rattle.capnp_model.specs.Accepted.{is_kept_by, first_break, fault_of, on_struct, has_good_union, is_struct_node, has_no_overlap, shape_in};
 ghost use Rattle.capnp_records.specs.NodeViews.{node_of};
-ghost use Rattle.capnp_records.specs.Faults.{IsRefusalOf};
+ghost use Rattle.capnp_records.specs.Faults.{IsSchemaRefusal};
 ghost use Rattle.capnp_records.specs.Listed.{listed};
 ghost use Rattle.capnp_records.specs.Uses.{AreUses};
 
@@ -94,7 +94,7 @@ fn first_break(
 /// Whether the nodes keep the rules.
 pub(crate) fn check(alloc: Global, nodes: Nodes<'_>) -> Result<(), SchemaFault>
     ensures kept { OnOk result (fault_of (listed nodes.entry) ≡ None) }
-    ensures refused { IfErr result (λ fault. IsRefusalOf (listed nodes.entry) fault) }
+    ensures refused { IfErr result (λ fault. IsSchemaRefusal (listed nodes.entry) fault) }
 {
     let uses = GroupUses::new(alloc, nodes)?;
     for rule in 1..RULES + 1 {

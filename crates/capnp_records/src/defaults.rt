@@ -1,4 +1,5 @@
-//! The rule of kinds: a plain slot has a default of its kind, a pointer slot one of its kind or none.
+//! The rule of kinds: a plain slot has a default of its kind, a pointer slot one of its kind or
+//! none.
 
 ghost use Rattle.std.specs.Prelude.{◌≡◌, map, option_map, Some};
 ghost use Rattle.std.specs.List.{list_all};
@@ -7,11 +8,7 @@ ghost use Rattle.capnp_model.specs.Accepted.{is_default_of, has_good_default, fi
 ghost use Rattle.capnp_records.specs.NodeViews.{base_of, type_record_of, value_of, kind_of_field, field_of, node_of};
 
 use crate::node::{BaseType, FieldBody, FieldRecord, NodeBody, NodeRecord, TypeRecord, Value};
-
-/// The most bytes of a text, whose list has a zero byte more, and of data.
-const MOST_TEXT: usize = 0x1fff_fffe;
-
-const MOST_DATA: usize = 0x1fff_ffff;
+use capnp_units::limits::MOST_WORDS;
 
 // A float, which no accepted schema names, counts as Void.
 fn is_default_of_base(base: BaseType, default: &Option<Value>) -> bool
@@ -72,8 +69,8 @@ fn is_value_of(base: BaseType, value: &Value) -> bool
             let _n = *n;
             matches!(base, BaseType::Enum(_))
         }
-        Value::Text(bytes) => matches!(base, BaseType::Text) && bytes.len() <= MOST_TEXT,
-        Value::Data(bytes) => matches!(base, BaseType::Data) && bytes.len() <= MOST_DATA,
+        Value::Text(bytes) => matches!(base, BaseType::Text) && bytes.len() < MOST_WORDS as usize,
+        Value::Data(bytes) => matches!(base, BaseType::Data) && bytes.len() <= MOST_WORDS as usize,
         Value::List(_) => false,
         Value::Struct(_) => matches!(base, BaseType::Struct(_)),
         Value::AnyPointer | Value::Interface => false,

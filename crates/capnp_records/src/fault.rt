@@ -8,8 +8,8 @@ use thiserror::Error;
 /// Why node records make no schema set.
 #[derive(Clone, Copy, Debug, PartialEq, Eq, Error)]
 pub enum SchemaFault {
-    /// The number of the first rule that is broken, and the place of the first node that breaks it. The model's
-    /// `specs/Accepted.antt` numbers the rules.
+    /// The number of the first rule that is broken, and the place of the first node that breaks it.
+    /// The model's `specs/Accepted.antt` numbers the rules.
     #[error("node {node} breaks schema rule {rule}")]
     Rule { rule: u32, node: usize },
     /// Memory ran out.

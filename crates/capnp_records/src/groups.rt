@@ -1,4 +1,5 @@
-//! The rule of groups: a group is used by exactly one group field, in no cycle, and fits into its holder.
+//! The rule of groups: a group is used by exactly one group field, in no cycle, and fits into its
+//! holder.
 
 ghost use Rattle.std.specs.Prelude.{ℕ, ◌≡◌, ◌<◌, ◌==◌, nat_eq, nat_lt, if◌then◌else◌, true, Some, [], ◌∷◌, map, length, get_or, option_map, option_copied, count_by, IfOk};
 ghost use Rattle.std.specs.HashMap.{get};
@@ -18,7 +19,8 @@ use std::collections::{HashMap, HashSet};
 
 // ---- uses
 
-/// What is known of the groups that fields are: the groups of accepted nodes are looked up, not searched.
+/// What is known of the groups that fields are: the groups of accepted nodes are looked up, not
+/// searched.
 #[derive(Drop)]
 pub(crate) struct GroupUses {
     /// Whether a group of an id is one field's, or several's.
@@ -130,7 +132,8 @@ fn depth_in(depths: &HashMap<u64, usize>, id: u64) -> usize
     }
 }
 
-/// How deep groups stand: those of structs that are no groups at 1, and each further one below. What isn't met so has no depth.
+/// How deep groups stand: those of structs that are no groups at 1, and each further one below.
+/// What isn't met so has no depth.
 fn depths_of(alloc: Global, nodes: Nodes<'_>) -> Result<HashMap<u64, usize>, AllocError> {
     let mut depths = HashMap::new(alloc);
     let mut ids = Vec::new(alloc);
@@ -307,7 +310,8 @@ fn meets_itself(alloc: Global, nodes: Nodes<'_>, node: &NodeRecord) -> Result<bo
     Ok(has_group(&ids, node.id))
 }
 
-/// Whether a group is met below itself. Only where some group isn't apart are the groups below gone through.
+/// Whether a group is met below itself. Only where some group isn't apart are the groups below gone
+/// through.
 fn is_in_cycle(
     alloc: Global,
     nodes: Nodes<'_>,

@@ -1,4 +1,5 @@
-//! The schema layer of Cap'n Proto: node records as a caller writes them, and sets of them that keep the schema rules.
+//! The schema layer of Cap'n Proto: node records as a caller writes them, and sets of them that
+//! keep the schema rules.
 #![tactic(auto)]
 
 mod area;

@@ -3,7 +3,7 @@
 ghost use Rattle.std.specs.Prelude.{◌≡◌, ◌≤◌, ◌<◌, IfOk, get_or, vec_len};
 ghost use Rattle.std.specs.Bool.{MatchBool};
 ghost use Rattle.capnp_records.specs.Storage.{areas_in};
-ghost use Rattle.capnp_records.specs.Marks.{AllowsAll, Refuses, Puts, AllAtMost, OneAbove, Raised};
+ghost use Rattle.capnp_records.specs.Marks.{AllowsAll, HasMarkAbove, MarksAreas, AllAtMost, OneAbove, Raised};
 
 use crate::area::Area;
 use std::alloc::{AllocError, Global};
@@ -60,7 +60,7 @@ impl Marks {
     ghost use Rattle.std.specs.Prelude.{◌≡◌, ℕ, Bool, IfOk};
     ghost use Rattle.std.specs.Bool.{MatchBool};
     ghost use Rattle.capnp_records.specs.Storage.{areas_in};
-    ghost use Rattle.capnp_records.specs.Marks.{mark_at, AllowsAll, Refuses, Puts};
+    ghost use Rattle.capnp_records.specs.Marks.{mark_at, AllowsAll, HasMarkAbove, MarksAreas};
 
     pub(crate) fn new(alloc: Global) -> Marks
         ensures { (pointer : Bool) (k : ℕ) → mark_at result pointer k ≡ 0 }
@@ -73,7 +73,7 @@ impl Marks {
 
     /// Whether no mark of the area is above the highest.
     pub(crate) fn allows(&self, area: Area, most: u8) -> bool
-        ensures { MatchBool result (AllowsAll self.now (areas_in area) most) (Refuses self.now
+        ensures { MatchBool result (AllowsAll self.now (areas_in area) most) (HasMarkAbove self.now
             (areas_in area) most) }
     {
         match area {
@@ -91,7 +91,7 @@ impl Marks {
 
     /// Makes the marks of the area at least the level.
     pub(crate) fn put(&mut self, area: Area, level: u8) -> Result<(), AllocError>
-        ensures { IfOk result (λ _. Puts self.old self.new (areas_in area) level) }
+        ensures { IfOk result (λ _. MarksAreas self.old self.new (areas_in area) level) }
     {
         match area {
             Area::Empty => Ok(()),

@@ -28,7 +28,7 @@ pub enum BaseType {
     Capability,
 }
 
-/// A type: so many times a list of the base.
+/// A type: n times a list of the base.
 #[derive(Clone, Copy, PartialEq, Eq, Debug)]
 pub struct TypeRecord {
     pub list_count: u32,

@@ -1,4 +1,6 @@
-//! The rule of places: two fields of a struct or a group share a bit or a pointer, those of their groups included, only where they are two members of its union, and none shares a bit with its discriminant.
+//! The rule of places. Two fields of a struct or a group share a bit or a pointer, those of their
+//! groups included, only where they are two members of its union. None shares a bit with its
+//! discriminant.
 
 ghost use Rattle.std.specs.Prelude.{◌≡◌, ◌++◌, is_some, map, IfOk, IfSome, IfNone};
 ghost use Rattle.std.specs.Bool.{MatchBool};
@@ -6,8 +8,8 @@ ghost use Rattle.capnp_model.specs.Accepted.{field_body, shape_in, union_place, 
 ghost use Rattle.capnp_records.specs.Listed.{listed};
 ghost use Rattle.capnp_records.specs.NodeViews.{member_of, kind_of_field, field_of, struct_of};
 ghost use Rattle.capnp_records.specs.Storage.{areas_seen};
-ghost use Rattle.capnp_records.specs.Marks.{AllowsAll, Refuses, Puts, most_mark, level_mark};
-ghost use Rattle.capnp_records.specs.Claims.{claim_in, claims_in, claims_are_apart, areas_claimed, groups_have_no_overlap, IsWritten, IsUnwritten};
+ghost use Rattle.capnp_records.specs.Marks.{AllowsAll, HasMarkAbove, MarksAreas, most_mark, level_mark};
+ghost use Rattle.capnp_records.specs.Claims.{claim_in, claims_in, claims_are_apart, areas_claimed, groups_have_no_overlap, IsWrittenOut, IsUnwritten};
 
 use crate::area::{Area, Span};
 use crate::marks::Marks;
@@ -18,10 +20,10 @@ use std::alloc::{AllocError, Global};
 
 // ---- what fields take
 
-/// The struct or the group that is written out of an id at so many levels.
+/// The struct or the group that is written out of an id at n levels.
 fn struct_at<'a>(nodes: Nodes<'a>, levels: usize, id: u64) -> Option<&'a StructRecord>
     ensures missing { IfNone result (IsUnwritten (listed nodes.entry) levels id) }
-    ensures found { IfSome result (λ holder. IsWritten (listed nodes.entry) levels id
+    ensures found { IfSome result (λ holder. IsWrittenOut (listed nodes.entry) levels id
         (struct_of holder.now)) }
 {
     if levels == 0 {
@@ -122,7 +124,7 @@ fn is_member(field: &FieldRecord) -> bool
 /// Whether no mark of the areas is above the highest.
 fn allows_all(marks: &Marks, areas: &[Area], most: u8) -> bool
     ensures { MatchBool result (AllowsAll marks.now (areas_seen areas.now) most)
-        (Refuses marks.now (areas_seen areas.now) most) }
+        (HasMarkAbove marks.now (areas_seen areas.now) most) }
 {
     for area in areas {
         if !marks.allows(*area, most) {
@@ -134,7 +136,7 @@ fn allows_all(marks: &Marks, areas: &[Area], most: u8) -> bool
 
 /// Makes the marks of the areas at least the level.
 fn put_all(marks: &mut Marks, areas: &[Area], level: u8) -> Result<(), AllocError>
-    ensures { IfOk result (λ _. Puts marks.old marks.new (areas_seen areas.now) level) }
+    ensures { IfOk result (λ _. MarksAreas marks.old marks.new (areas_seen areas.now) level) }
 {
     for area in areas {
         marks.put(*area, level)?;

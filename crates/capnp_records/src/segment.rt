@@ -9,23 +9,23 @@ ghost use Rattle.capnp_model.specs.Schemas.{base_type, lists_of, type_of};
 ghost use Rattle.capnp_model.specs.Readings.{expected_size, have_room, is_accepted_as};
 ghost use Rattle.capnp_model.specs.Accepted.{opens_as, is_good_segment};
 ghost use Rattle.capnp_units.specs.Segments.{words_in};
-ghost use Rattle.capnp_canonical.specs.Standing.{IsSmall};
+ghost use Rattle.capnp_wire_canonical.specs.Standing.{IsSmall};
 ghost use Rattle.capnp_records.specs.NodeViews.{base_of, type_record_of};
 ghost use Rattle.capnp_records.specs.Segments.{form_of, wants};
 
 use crate::node::{BaseType, TypeRecord};
-use capnp_canonical::check::is_canonical_message;
 use capnp_model::laws::values_on_walks;
-use capnp_object::arena::{ReaderArena, ReaderArenaImpl};
-use capnp_object::laws::values_by_levels;
-use capnp_object::object::{Object, object_at};
-use capnp_object::place::ROOT;
 use capnp_units::limiter::ReadLimiter;
+use capnp_wire_canonical::check::is_canonical_message;
+use capnp_wire_objects::arena::{ReaderArena, ReaderArenaImpl};
+use capnp_wire_objects::laws::values_by_levels;
+use capnp_wire_objects::object::{Object, object_at};
+use capnp_wire_objects::place::ROOT;
 
 /// The most levels of a value that stands in a node record.
 const MOST_LEVELS: u32 = 64;
 
-/// Under so many bytes are fewer than 2^29 words.
+/// Fewer bytes than these 2^32 are fewer than 2^29 words.
 const TOO_MANY_BYTES: usize = 0x1_0000_0000;
 
 /// What is asked of a value.
@@ -77,7 +77,7 @@ fn size_bits(size: u64) -> u64
     }
 }
 
-/// Whether elements of so many bits and pointers can be read as elements of the size.
+/// Whether elements of n bits and pointers can be read as elements of the size.
 fn have_room(bits: u64, pointers: u64, expected: u64) -> bool
     ensures { result ≡ have_room bits pointers expected }
 {
@@ -155,7 +155,8 @@ fn is_wanted<A: ReaderArena>(arena: &A, wanted: Wanted) -> bool
 
 // ---- canonical bytes
 
-/// Whether a message under 2^29 words is one segment, of the canonical words of a value of at most 64 levels without capabilities.
+/// Whether a message under 2^29 words is one segment, of the canonical words of a value of at most
+/// 64 levels without capabilities.
 fn is_canonical<A: ReaderArena>(arena: &A) -> bool
     requires { IsSmall (words_in (A.segments arena.now)) root }
     ensures { result ≡ is_canonical_message 64 (words_in (A.segments arena.now)) }
@@ -168,7 +169,8 @@ fn is_canonical<A: ReaderArena>(arena: &A) -> bool
     }
 }
 
-/// Whether the bytes are a canonical value under 2^29 words, of at most 64 levels and without capabilities, which is as it is wanted.
+/// Whether the bytes are a canonical value under 2^29 words, of at most 64 levels and without
+/// capabilities, which is as it is wanted.
 pub(crate) fn is_good_segment(bytes: &[u8], wanted: Wanted) -> bool
     ensures { result ≡ is_good_segment (wants wanted) bytes.now }
 {

@@ -36,17 +36,18 @@ impl SchemaSet {
     ghost use Rattle.std.specs.Prelude.{◌≡◌, true, false, map, slice_get, Some, None, IfOk, IfErr, IfNone, IfSome};
     ghost use Rattle.capnp_model.specs.Accepted.{IsAccepted, is_struct_node, is_enum_node, find_node, names_a};
     ghost use Rattle.capnp_records.specs.NodeViews.{node_of, struct_of, enumerant_of};
-    ghost use Rattle.capnp_records.specs.Faults.{IsRefusalOf};
+    ghost use Rattle.capnp_records.specs.Faults.{IsSchemaRefusal};
     ghost use Rattle.capnp_model.specs.Schemas.{StructNode};
     ghost use Rattle.capnp_records.specs.Tables.{AreTablesOf};
     ghost use Rattle.capnp_records.specs.Sets.{nodes_of, has_struct, is_at, struct_found, enumerants_found, IsStructOf, IsNodeOf, IsEnumOf};
 
-    /// The set of the nodes, where they keep the rules. The rules are tried by number, each over the nodes in order, and
-    /// the first that is broken is answered with the place of the first node that breaks it.
+    /// The set of the nodes, where they keep the rules. The rules are tried by number, each over
+    /// the nodes in order, and the first that is broken is answered with the place of the first
+    /// node that breaks it.
     pub fn new(nodes: Vec<NodeRecord>) -> Result<SchemaSet, SchemaFault>
         ensures nodes { IfOk result (λ set. nodes_of set ≡ map node_of nodes.items) }
         ensures accepted { IfOk result (λ set. IsAccepted (nodes_of set)) }
-        ensures refused { IfErr result (λ fault. IsRefusalOf (map node_of nodes.items) fault) }
+        ensures refused { IfErr result (λ fault. IsSchemaRefusal (map node_of nodes.items) fault) }
     {
         let alloc = *nodes.allocator();
         let places = places_of(alloc, &nodes)?;

@@ -4,7 +4,7 @@ ghost use Rattle.std.specs.Prelude.{◌≡◌, ◌<◌, ◌≤◌, Option};
 ghost use Rattle.capnp_model.specs.Schemas.{Value, base_type, type_of};
 ghost use Rattle.capnp_model.specs.Accepted.{slot_body, areas_of_body, has_its_place};
 ghost use Rattle.capnp_records.specs.NodeViews.{base_of, type_record_of, kind_of_field, struct_of};
-ghost use Rattle.capnp_records.specs.Storage.{storage_of, bits_in, IsWide, areas_in};
+ghost use Rattle.capnp_records.specs.Storage.{storage_of, bits_in, TakesBits, areas_in};
 
 use crate::area::{Area, Span};
 use crate::node::{BaseType, FieldBody, StructRecord, TypeRecord};
@@ -13,7 +13,7 @@ use crate::node::{BaseType, FieldBody, StructRecord, TypeRecord};
 #[derive(Clone, Copy)]
 pub(crate) enum Storage {
     Nothing,
-    /// So many bits of the data section.
+    /// n bits of the data section.
     Bits(u32),
     Pointer,
 }
@@ -22,7 +22,7 @@ pub(crate) enum Storage {
 fn storage_of_base(base: BaseType) -> Storage
     ensures same { result ≡ storage_of (base_type (base_of base)) }
     ensures narrow { bits_in result ≤ 64 }
-    ensures wide { IsWide result }
+    ensures wide { TakesBits result }
 {
     match base {
         BaseType::Void | BaseType::Float32 | BaseType::Float64 => Storage::Nothing,
@@ -43,7 +43,7 @@ fn storage_of_base(base: BaseType) -> Storage
 pub(crate) fn storage_of(ty: TypeRecord) -> Storage
     ensures same { result ≡ storage_of (type_of (type_record_of ty)) }
     ensures narrow { bits_in result ≤ 64 }
-    ensures wide { IsWide result }
+    ensures wide { TakesBits result }
 {
     if ty.list_count > 0 {
         return Storage::Pointer;

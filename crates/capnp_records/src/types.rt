@@ -33,7 +33,7 @@ pub(crate) fn has_no_float(alloc: Global, node: &NodeRecord) -> Result<bool, All
     Ok(are_no_floats(&types))
 }
 
-// ---- 5. A struct type names a struct that is no group, an enum type an enum, a group field a group.
+// ---- 5. A struct type names a struct, not a group; an enum type an enum, a group field a group.
 
 fn names_its_sort(nodes: Nodes<'_>, base: BaseType) -> bool
     ensures { result ≡ names_its_sort (listed nodes.entry) (base_of base) }

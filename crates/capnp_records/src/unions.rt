@@ -1,4 +1,5 @@
-//! The rule of unions: the members' values are 0 to the count less one, each once, and the discriminant lies in its section.
+//! The rule of unions: the members' values are 0 to the count less one, each once, and the
+//! discriminant lies in its section.
 
 ghost use Rattle.std.specs.Prelude.{◌≡◌, ◌&&◌, ◌++◌, nat_lt, map, filter_map, IfOk};
 ghost use Rattle.std.specs.List.{list_all};

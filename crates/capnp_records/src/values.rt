@@ -1,4 +1,5 @@
-//! The rules of bytes: a struct or list default is canonical and null or of its type, and so is each struct or list value of an annotation, of whatever type.
+//! The rules of bytes: a struct or list default is canonical and null or of its type. So is each
+//! struct or list value of an annotation, of whatever type.
 
 ghost use Rattle.std.specs.Prelude.{◌≡◌, true, map, Some};
 ghost use Rattle.std.specs.List.{list_all, flat_map};

@@ -6,8 +6,8 @@ use Rattle.capnp_model.specs.Accepted.{schema_of}
 use Rattle.capnp_model.specs.Partners.{Renaming}
 use Rattle.capnp_model.specs.Admitted.{is_admitted, is_admitted_with}
 use Rattle.capnp_units.specs.declared.errors.Error.{Error}
-use Rattle.capnp_compatible.specs.declared.admitted.Admission.{Admission}
-use Rattle.capnp_compatible.specs.Ways.{IsAdmissionOf}
+use Rattle.capnp_calls_versions.specs.declared.admitted.Admission.{Admission}
+use Rattle.capnp_calls_versions.specs.Ways.{IsAdmissionOf}
 
 -- the same nodes and ids admit the same calls
 pub same_admission : (r : Result Admission Error) (calls : List Call) (n m a b : List Node) (i j k l : ℕ) → n ≡ a → m ≡ b → i ≡ k → j ≡ l → IfOk r (IsAdmissionOf (is_admitted (schema_of n) (schema_of m) i j) calls) → IfOk r (IsAdmissionOf (is_admitted (schema_of a) (schema_of b) k l) calls)

@@ -6,19 +6,19 @@ use Rattle.capnp_model.specs.Projection.{projected}
 use Rattle.capnp_model.specs.Partners.{Renaming, renamed}
 use Rattle.capnp_model.specs.Compatible.{IsCompatible, IsCompatibleWith}
 use Rattle.capnp_model.specs.Admitted.{is_admitted, is_admitted_with}
-use Rattle.capnp_versions.specs.RenamedViews.{projected_with}
-use Rattle.capnp_queries.specs.Structs.{schema_around, id_of}
-use Rattle.capnp_queries.specs.declared.structs.StructSchema.{StructSchema}
+use Rattle.capnp_model_versions.specs.RenamedViews.{projected_with}
+use Rattle.capnp_values_queries.specs.Structs.{schema_around, id_of}
+use Rattle.capnp_values_queries.specs.declared.structs.StructSchema.{StructSchema}
 use Rattle.capnp_calls.specs.Roots.{record_at}
-use Rattle.capnp_compatible.specs.declared.breaks.Break.{Break}
-use Rattle.capnp_compatible.specs.Breaks.{BreaksFrom}
-use Rattle.capnp_compatible.specs.AllBreaks.{AllBreaksOf}
+use Rattle.capnp_calls_versions.specs.declared.breaks.Break.{Break}
+use Rattle.capnp_calls_versions.specs.Breaks.{BreaksFrom}
+use Rattle.capnp_calls_versions.specs.AllBreaks.{AllBreaksOf}
 
 -- The newer schema is compatible with the older.
 abbrev pub AreVersions : StructSchema → StructSchema → Type 0
 AreVersions older newer = IsCompatible (schema_around older) (schema_around newer) (id_of older) (id_of newer)
 
--- The same with renamed fields.
+-- The newer schema, with renamed fields, is compatible with the older.
 abbrev pub AreVersionsWith : List Renaming → StructSchema → StructSchema → Type 0
 AreVersionsWith rs older newer = IsCompatibleWith rs (schema_around older) (schema_around newer) (id_of older) (id_of newer)
 
@@ -34,14 +34,15 @@ AreBreaksBetween rs older newer bs = AllBreaksOf (renamed rs (schema_around olde
 abbrev pub ReadsAsOlder : StructSchema → StructSchema → Type 0
 ReadsAsOlder older newer = (t : Tree) → record_at older t ≡ projected (schema_around older) (id_of older) (record_at newer t)
 
--- The same with renamed fields, each by its older name.
+-- The older record of each value is the older view of its newer record with renamed fields, each by
+-- its older name.
 abbrev pub ReadsAsOlderWith : List Renaming → StructSchema → StructSchema → Type 0
 ReadsAsOlderWith rs older newer = (t : Tree) → record_at older t ≡ projected_with rs (schema_around older) (id_of older) (record_at newer t)
 
 -- A call under the older schema is admitted beside the newer.
-abbrev pub is_admitted_beside : StructSchema → StructSchema → Call → Bool
-is_admitted_beside older newer c = is_admitted (schema_around older) (schema_around newer) (id_of older) (id_of newer) c
+abbrev pub is_admitted_under : StructSchema → StructSchema → Call → Bool
+is_admitted_under older newer c = is_admitted (schema_around older) (schema_around newer) (id_of older) (id_of newer) c
 
--- The same with renamed fields.
+-- A call under the older schema is admitted beside the newer, with renamed fields.
 abbrev pub is_admitted_beside_with : List Renaming → StructSchema → StructSchema → Call → Bool
 is_admitted_beside_with rs older newer c = is_admitted_with rs (schema_around older) (schema_around newer) (id_of older) (id_of newer) c

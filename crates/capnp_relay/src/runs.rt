@@ -1,28 +1,33 @@
 //! Calls in turn at a record.
 ghost use Rattle.std.specs.Prelude.{◌≡◌, map, IfOk, IfErr};
-ghost use Rattle.capnp_copy.specs.Deep.{IsDeep};
-ghost use Rattle.capnp_copy.specs.Refusals.{IsSizeOrRefusal};
-ghost use Rattle.capnp_dynamic.specs.Builders.{IsReady, words_around};
+ghost use Rattle.capnp_copy_arenas.specs.Deep.{IsDeep};
+ghost use Rattle.capnp_copy_arenas.specs.Refusals.{IsSizeOrRefusal};
+ghost use Rattle.capnp_schema_structs.specs.Builders.{IsReady, words_around_struct};
 ghost use Rattle.capnp_calls.specs.CallViews.{call_view};
 ghost use Rattle.capnp_calls.specs.Replies.{reply_view};
 ghost use Rattle.capnp_calls.specs.Roots.{IsRoot};
-ghost use Rattle.capnp_run.specs.Handles.{IsSameHandle};
-ghost use Rattle.capnp_run.specs.Runs.{RunsAt};
-ghost use Rattle.capnp_relay.specs.Runs.{EndsAt};
+ghost use Rattle.capnp_calls_run.specs.Handles.{IsSameHandle};
+ghost use Rattle.capnp_calls_run.specs.Runs.{RunsAt};
+ghost use Rattle.capnp_relay.specs.Runs.{CallsStopAt};
 
 use capnp_calls::Call;
 use capnp_calls::reply::Reply;
-use capnp_copy::arena::BuilderArena;
-use capnp_dynamic::dynamic_struct;
-use capnp_run::builder::run as run_at;
-use capnp_run::fault::RunFault;
+use capnp_calls_run::builder::run as run_at;
+use capnp_calls_run::fault::RunFault;
+use capnp_copy_arenas::arena::BuilderArena;
+use capnp_schema_structs::dynamic_struct;
 use capnp_units::errors::{Error, Result};
 use capnp_units::kinds::ErrorKind;
 use std::alloc::Global;
 
-/// Answers calls in turn at a struct. Each is tested whole on what the struct reads as, then written; one that is refused changes nothing, and doesn't stop the next. The handle stays where it was.
+/// Answers calls in turn at a struct. Each is tested whole on what the struct reads as, then
+/// written; one that is refused changes nothing, and doesn't stop the next. The handle stays where
+/// it was.
 ///
-/// It is refused with `SizeOverflow` where a call puts a text or data of 2^29 bytes or more, its last zero counted, or a list of structs of 2^29 words or more; else with `OutOfMemory`, or as the allocator refuses. Then the calls before it are written.
+/// It is refused, and the calls before it are written then,
+/// - with `SizeOverflow` where a call puts a text or data of 2^29 bytes or more, its last zero
+///   counted, or a list of structs of 2^29 words or more;
+/// - else with `OutOfMemory`, or as the allocator refuses.
 pub fn run<A: BuilderArena>(
     alloc: Global,
     root: &mut dynamic_struct::Builder<'_, A>,
@@ -31,11 +36,11 @@ pub fn run<A: BuilderArena>(
     requires arena { IsDeep A.segments A.nesting }
     requires ready { IsReady A.segments root.old }
     requires root { IsRoot root.old.schema }
-    ensures all { let words = words_around A.segments in IfOk result (λ told.
+    ensures all { let words = words_around_struct A.segments in IfOk result (λ told.
         RunsAt (words root.old) (words root.new) root.old.place root.old.schema
         (map call_view calls.now) (map reply_view told.items)) }
-    ensures ends { let words = words_around A.segments in IfErr result
-        (EndsAt (IsSizeOrRefusal A.refuses) (words root.old) (words root.new)
+    ensures ends { let words = words_around_struct A.segments in IfErr result
+        (CallsStopAt (IsSizeOrRefusal A.refuses) (words root.old) (words root.new)
         root.old.place root.old.schema (map call_view calls.now)) }
     ensures handle { IsSameHandle root.old root.new }
     ensures books { A.books root.new.memory.now.arena ≡ A.books root.old.memory.now.arena }

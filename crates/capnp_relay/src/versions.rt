@@ -3,20 +3,20 @@ ghost use Rattle.std.specs.Prelude.{◌≡◌, ◌==◌, true, map, length, is_n
 ghost use Rattle.std.specs.Bool.{MatchBool};
 ghost use Rattle.capnp_units.specs.declared.kinds.ErrorKind.TheVariants.{OutOfMemory};
 ghost use Rattle.capnp_records.specs.Sets.{nodes_of};
-ghost use Rattle.capnp_queries.specs.Structs.{nodes_around, id_of};
+ghost use Rattle.capnp_values_queries.specs.Structs.{nodes_around, id_of};
 ghost use Rattle.capnp_calls.specs.CallViews.{call_view};
-ghost use Rattle.capnp_compatible.specs.Renamed.{renamings_of};
-ghost use Rattle.capnp_compatible.specs.Ways.{IsAdmissionOf};
-ghost use Rattle.capnp_relay.specs.Versions.{AreVersions, AreVersionsWith, IsBreakBetween, AreBreaksBetween, ReadsAsOlder, ReadsAsOlderWith, is_admitted_beside, is_admitted_beside_with};
+ghost use Rattle.capnp_calls_versions.specs.Renamed.{renamings_of};
+ghost use Rattle.capnp_calls_versions.specs.Ways.{IsAdmissionOf};
+ghost use Rattle.capnp_relay.specs.Versions.{AreVersions, AreVersionsWith, IsBreakBetween, AreBreaksBetween, ReadsAsOlder, ReadsAsOlderWith, is_admitted_under, is_admitted_beside_with};
 
 use capnp_calls::Call;
-use capnp_compatible::admitted::Admission;
-use capnp_compatible::breaks::Break;
-use capnp_compatible::renamings::Renamings;
-use capnp_compatible::root::Root;
-use capnp_compatible::{admitted as admissions, all_breaks as breaks, compatible as versions};
-use capnp_queries::structs::StructSchema;
+use capnp_calls_versions::admitted::Admission;
+use capnp_calls_versions::breaks::Break;
+use capnp_calls_versions::renamings::Renamings;
+use capnp_calls_versions::root::Root;
+use capnp_calls_versions::{admitted as admissions, all_breaks as breaks, compatible as versions};
 use capnp_units::errors::Result;
+use capnp_values_queries::structs::StructSchema;
 use std::alloc::Global;
 
 /// Where a version begins.
@@ -30,7 +30,10 @@ fn root_of(schema: StructSchema<'_>) -> Root<'_>
     }
 }
 
-/// Whether the newer schema is compatible with the older: whatever is written under the older reads the same under the newer, field by field. Where it says yes, the older record of each value is the older view of its newer record. Takes time linear in the pairs of structs that are reached times their fields. `OutOfMemory` is the one error. (Schema language, "Evolving Your Protocol")
+/// Whether the newer schema is compatible with the older: whatever is written under the older reads
+/// the same under the newer, field by field. Where it says yes, the older record of each value is
+/// the older view of its newer record. Takes time linear in the pairs of structs that are reached
+/// times their fields. `OutOfMemory` is the one error. (Schema language, "Evolving Your Protocol")
 pub fn compatible(alloc: Global, older: StructSchema<'_>, newer: StructSchema<'_>) -> Result<bool>
     ensures answer { IfOk result (λ b. MatchBool b (AreVersions older.entry newer.entry)
         (AreVersions older.entry newer.entry → ⊥)) }
@@ -40,7 +43,9 @@ pub fn compatible(alloc: Global, older: StructSchema<'_>, newer: StructSchema<'_
     versions::compatible(alloc, root_of(older), root_of(newer))
 }
 
-/// The same where fields are renamed: each older field is kept by its partner, the newer field of its renamed name, and no two have one partner. A renaming of a node or field that isn't reached has no effect.
+/// As `compatible`, where fields are renamed: each older field is kept by its partner, the newer
+/// field of its renamed name, and no two have one partner. A renaming of a node or field that isn't
+/// reached has no effect.
 pub fn compatible_with(
     alloc: Global,
     older: StructSchema<'_>,
@@ -57,7 +62,9 @@ pub fn compatible_with(
     versions::compatible_with(alloc, root_of(older), root_of(newer), renamings)
 }
 
-/// What breaks first where `compatible_with` says no, and `None` where it says yes: two nodes that are reached, a struct or a group of each schema, and a rule that they break. Fields are told by their index among those of their node. `OutOfMemory` is the one error.
+/// What breaks first where `compatible_with` says no, and `None` where it says yes. It is two nodes
+/// that are reached, a struct or a group of each schema, and a rule that they break. Fields are
+/// told by their index among those of their node. `OutOfMemory` is the one error.
 pub fn first_break(
     alloc: Global,
     older: StructSchema<'_>,
@@ -74,7 +81,9 @@ pub fn first_break(
     versions::first_break(alloc, root_of(older), root_of(newer), renamings)
 }
 
-/// The first break of each pair of structs that is reached by pairs that are kept and is not kept itself, in the order in which they are reached; none where `compatible_with` says yes. `OutOfMemory` is the one error.
+/// The first break of each pair of structs that is reached by pairs that are kept and is not kept
+/// itself, in the order in which they are reached. There is none where `compatible_with` says yes.
+/// `OutOfMemory` is the one error.
 pub fn all_breaks(
     alloc: Global,
     older: StructSchema<'_>,
@@ -92,21 +101,25 @@ pub fn all_breaks(
     breaks::all_breaks(alloc, root_of(older), root_of(newer), renamings)
 }
 
-/// Whether each call under the older schema is admitted beside the newer, else which is the first that isn't, counted from 1. A call that is admitted goes by fields that the older has, writes no group as a whole that the newer extends, and sets no list element of struct type. Takes time linear in the steps of the calls times the fields of the structs on their ways, and of the groups that they write. `OutOfMemory` is the one error.
+/// Whether each call under the older schema is admitted beside the newer, else which is the first
+/// that isn't, counted from 1. A call that is admitted goes by fields that the older has, writes no
+/// group as a whole that the newer extends, and sets no list element of struct type. Takes time
+/// linear in the steps of the calls times the fields of the structs on their ways, and of the
+/// groups that they write. `OutOfMemory` is the one error.
 pub fn admitted(
     alloc: Global,
     calls: &[Call],
     older: StructSchema<'_>,
     newer: StructSchema<'_>,
 ) -> Result<Admission>
-    ensures answer { IfOk result (IsAdmissionOf (is_admitted_beside older.entry newer.entry)
+    ensures answer { IfOk result (IsAdmissionOf (is_admitted_under older.entry newer.entry)
         (map call_view calls.now)) }
     ensures refusal { IfErr result (λ e. e.kind ≡ OutOfMemory) }
 {
     admissions::admitted(alloc, calls, root_of(older), root_of(newer))
 }
 
-/// The same where fields are renamed; calls keep the older names.
+/// As `admitted`, where fields are renamed; calls keep the older names.
 pub fn admitted_with(
     alloc: Global,
     calls: &[Call],

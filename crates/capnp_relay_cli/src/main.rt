@@ -1,10 +1,12 @@
-//! Relays Cap'n Proto messages from standard input to standard output, with the log on standard error.
+//! Relays Cap'n Proto messages from standard input to standard output, with the log on standard
+//! error.
 //!
-//! The arguments name a schema file, a calls file, the root's node and the form of the messages; `--help` says more. A fault is the last line on standard error, and makes the status 1.
+//! The arguments name a schema file, a calls file, the root's node and the form of the messages;
+//! `--help` says more. A fault is the last line on standard error, and makes the status 1.
 #![tactic(auto)]
 
-use capnp_program::program::program;
-use capnp_stream::adapters::{Sink, Source};
+use capnp_relay_program::program::program;
+use capnp_stream_io::adapters::{Sink, Source};
 use std::process::ExitCode;
 use std::{env, fs, io};
 
@@ -23,7 +25,7 @@ fn words(rt: &HostRuntime) -> io::Result<Vec<String>> {
     Ok(words.collect(rt.alloc())?)
 }
 
-/// The file that a word names; none where no word does, or where it can't be read.
+/// The file that a word names; `None` where no word does, or where it can't be read.
 fn file(rt: &HostRuntime, words: &[String], place: usize) -> io::Result<Option<Vec<u8>>> {
     let Some(name) = words.get(place) else {
         return Ok(None);
@@ -35,7 +37,8 @@ fn file(rt: &HostRuntime, words: &[String], place: usize) -> io::Result<Option<V
     }
 }
 
-/// The status of the program over the files that the words name; an error where a word is no text or memory is wanting.
+/// The status of the program over the files that the words name; an error where a word is no text
+/// or memory is wanting.
 fn run(rt: &HostRuntime) -> io::Result<u8> {
     let alloc = rt.alloc();
     let words = words(rt)?;

@@ -19,12 +19,12 @@ use Rattle.capnp_model.specs.SameRuns.{IsFormReader}
 use Rattle.capnp_model.proofs.lemmas.Chaining.{bind_some, provided_some}
 use Rattle.capnp_model.proofs.lemmas.RunLaws.{form_nothing, same_messages}
 use Rattle.capnp_model.proofs.lemmas.Written.{ReadsBack, plain_back, packed_back, message_back}
-use Rattle.capnp_queries.specs.Structs.{schema_around, id_of}
-use Rattle.capnp_queries.specs.declared.structs.StructSchema.{StructSchema}
-use Rattle.capnp_answers.specs.Bounds.{limits_view}
-use Rattle.capnp_answers.specs.declared.bounds.Bounds.{Bounds}
-use Rattle.capnp_answers.specs.Plain.{IsPlainAnswer, with_segments, written_segments}
-use Rattle.capnp_relay_streams.specs.Again.{written_messages, IsWritten}
+use Rattle.capnp_values_queries.specs.Structs.{schema_around, id_of}
+use Rattle.capnp_values_queries.specs.declared.structs.StructSchema.{StructSchema}
+use Rattle.capnp_relay_answers.specs.Bounds.{limits_view}
+use Rattle.capnp_relay_answers.specs.declared.bounds.Bounds.{Bounds}
+use Rattle.capnp_relay_answers.specs.Plain.{IsPlainAnswer, with_segments, written_segments}
+use Rattle.capnp_relay_streams.specs.Again.{written_messages, WritesMessage}
 use Rattle.capnp_relay_streams.specs.declared.options.Form.{Form}
 use Rattle.capnp_relay_streams.specs.declared.options.Form.TheVariants as form
 use Rattle.capnp_relay_streams.specs.Options.{reader_of, writer_of}
@@ -99,8 +99,8 @@ module _ (laws : AgainLaws) (schema : StructSchema) (calls : List Call) (bounds 
   -- ---- all messages
 
   -- one message more; rest is said of those behind it
-  cons_again : (m : Segments) (x y : Answer) (xs ys zs : List Answer) → ((zs : List Answer) → AnswerEach (IsAnswerBy schema [] again) (written_messages xs) zs → AllByRecursion IsWritten zs → written_messages zs ≡ written_messages ys)
-      → x ≡ with_segments (written_segments x) y → IsPlainAnswerBy schema calls bounds m x → IsAnswerBy schema calls bounds m y → AnswerEach (IsAnswerBy schema [] again) (written_messages (x ∷ xs)) zs → AllByRecursion IsWritten zs
+  cons_again : (m : Segments) (x y : Answer) (xs ys zs : List Answer) → ((zs : List Answer) → AnswerEach (IsAnswerBy schema [] again) (written_messages xs) zs → AllByRecursion WritesMessage zs → written_messages zs ≡ written_messages ys)
+      → x ≡ with_segments (written_segments x) y → IsPlainAnswerBy schema calls bounds m x → IsAnswerBy schema calls bounds m y → AnswerEach (IsAnswerBy schema [] again) (written_messages (x ∷ xs)) zs → AllByRecursion WritesMessage zs
       → written_messages zs ≡ written_messages (y ∷ ys)
   cons_again m (written s rs) (written canonical told) xs ys [] rest e p q c k = absurd c
   cons_again m (written s rs) (written canonical told) xs ys (refused_value ∷ zs) rest e p q c k = absurd k.0
@@ -125,7 +125,7 @@ module _ (laws : AgainLaws) (schema : StructSchema) (calls : List Call) (bounds 
   cons_again m refused_depth refused_root xs ys zs rest e p q c k = rest zs c k
   cons_again m refused_depth refused_depth xs ys zs rest e p q c k = rest zs c k
 
-  all_again : (ms : List Segments) (xs ys zs : List Answer) → AnswerEach (IsPlainAnswerBy schema calls bounds) ms xs → AnswerEach (IsAnswerBy schema calls bounds) ms ys → AnswerEach (IsAnswerBy schema [] again) (written_messages xs) zs → AllByRecursion IsWritten zs
+  all_again : (ms : List Segments) (xs ys zs : List Answer) → AnswerEach (IsPlainAnswerBy schema calls bounds) ms xs → AnswerEach (IsAnswerBy schema calls bounds) ms ys → AnswerEach (IsAnswerBy schema [] again) (written_messages xs) zs → AllByRecursion WritesMessage zs
       → written_messages zs ≡ written_messages ys
   all_again [] [] [] [] a b c k = refl
   all_again [] [] [] (z ∷ zs) a b c k = absurd c
@@ -152,7 +152,7 @@ module _ (laws : AgainLaws) (schema : StructSchema) (calls : List Call) (bounds 
   pub runs_again : (read other : Reader) (write : Writer) (limit limit_again : Option ℕ) (bytes plain canonical others log lines said : List ℕ) (end last : End) → IsFormReader read → IsFormReader other → ReadsBack other write
       → (x : IsRun read write limit (IsPlainAnswerBy schema calls bounds) bytes plain log end) → IsRun read write limit (IsAnswerBy schema calls bounds) bytes canonical lines last
       → AllByRecursion (CanSpell limit_again) (written_messages x.answers)
-      → (z : IsRun other write limit_again (IsAnswerBy schema [] again) plain others said finished) → AllByRecursion IsWritten z.answers → others ≡ canonical
+      → (z : IsRun other write limit_again (IsAnswerBy schema [] again) plain others said finished) → AllByRecursion WritesMessage z.answers → others ≡ canonical
   runs_again read other write limit limit_again bytes plain canonical others log lines said end last form form_again back x y can z all =
       let m = same_messages read (form_nothing read form) limit x.messages y.messages bytes x.rest y.rest end last x.begins x.ends y.begins y.ends in
       let is_plain : plain ≡ flat_map (spelled write) (written_messages x.answers) = x.writes ∙ outputs_are write x.answers in

@@ -2,3 +2,8 @@ mod Whole
 mod Reading
 mod Structs
 mod Again
+mod OpenedRoots
+mod NewerRecords
+mod PlainRecords
+mod Answering
+mod RunsBetween

@@ -11,13 +11,13 @@ use Rattle.capnp_model.specs.Accepted.{schema_of, IsAccepted}
 use Rattle.capnp_model.specs.NamedPaths.{IsOpen}
 use Rattle.capnp_model.specs.CallRuns.{AreGiven, IsStart, records_after}
 use Rattle.capnp_model.specs.Answers.{Answer, refused_value, refused_root, refused_depth, written, Reply, edits, opened_root, value_within, answer_value, answer, IsAnswer}
-use Rattle.capnp_queries.specs.Structs.{nodes_around, schema_around, id_of}
-use Rattle.capnp_queries.specs.declared.structs.StructSchema.{StructSchema}
+use Rattle.capnp_values_queries.specs.Structs.{nodes_around, schema_around, id_of}
+use Rattle.capnp_values_queries.specs.declared.structs.StructSchema.{StructSchema}
 use Rattle.capnp_model.specs.Printing.{as_it_is}
-use Rattle.capnp_answers.specs.Answers.{MeansAfter}
-use Rattle.capnp_answers.specs.Plain.{IsPlainAnswer, with_segments}
-use Rattle.capnp_answers.specs.Bounds.{limits_view}
-use Rattle.capnp_answers.specs.declared.bounds.Bounds.{Bounds}
+use Rattle.capnp_relay_answers.specs.Answers.{MeansAfter}
+use Rattle.capnp_relay_answers.specs.Plain.{IsPlainAnswer, with_segments}
+use Rattle.capnp_relay_answers.specs.Bounds.{limits_view}
+use Rattle.capnp_relay_answers.specs.declared.bounds.Bounds.{Bounds}
 use Rattle.capnp_relay_streams.specs.Messages.{ReadsAsMade}
 
 -- what the model's law says

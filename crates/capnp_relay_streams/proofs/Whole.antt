@@ -11,15 +11,15 @@ use Rattle.capnp_model.specs.Messages.{Reader, plain_words}
 use Rattle.capnp_stream.specs.Pieces.{ReadsFronts}
 use Rattle.capnp_model.specs.Runs.{BeginWith, finished, broken}
 use Rattle.capnp_stream.specs.Frames.{IsFrameFault}
-use Rattle.capnp_loop.specs.declared.ends.Counts.{Counts}
-use Rattle.capnp_loop.specs.declared.ends.Fault.TheVariants as faults
+use Rattle.capnp_relay_loop.specs.declared.ends.Counts.{Counts}
+use Rattle.capnp_relay_loop.specs.declared.ends.Fault.TheVariants as faults
 use Rattle.capnp_relay_streams.specs.declared.options.Form.{Form}
 use Rattle.capnp_relay_streams.specs.declared.options.Form.TheVariants as form
 use Rattle.capnp_relay_streams.specs.Options.{reader_of}
-use Rattle.capnp_loop.specs.Work.{Work}
-use Rattle.capnp_loop.specs.Streams.{Streams}
-use Rattle.capnp_loop.specs.Run.{RunsOut, RunStops, GoesTo}
-use Rattle.capnp_loop.proofs.lemmas.Beginnings.{BeginWith-more}
+use Rattle.capnp_relay_loop.specs.Work.{LoopWork}
+use Rattle.capnp_relay_loop.specs.Streams.{Streams}
+use Rattle.capnp_relay_loop.specs.Run.{RunsOut, RunStops, GoesTo}
+use Rattle.capnp_relay_loop.proofs.lemmas.Beginnings.{BeginWith-more}
 
 IfSome-weaker : (o : Option (List ℕ)) (P Q : List ℕ → Type 0) → ((xs : List ℕ) → P xs → Q xs) → IfSome o P → IfSome o Q
 IfSome-weaker None P Q f p = tt
@@ -35,7 +35,7 @@ begins_whole read fronts limit bytes taken rest messages split begins =
     let P : List ℕ → Type 0 = λ l. BeginWith read limit l messages rest in
     subst P (sym split) (BeginWith-more read fronts limit taken messages [] rest begins)
 
-module _ (w : Work) (fronts : ReadsFronts w.read) (old new : Streams) (counts : Counts) where
+module _ (w : LoopWork) (fronts : ReadsFronts w.read) (old new : Streams) (counts : Counts) where
   pub GoesTo-of_all : RunsOut w old new counts → IfSome old.source.remaining (GoesTo w old new finished)
   GoesTo-of_all all =
       let last = all.2 in

@@ -3,7 +3,7 @@ use Rattle.std.specs.Prelude.{◌≡◌, ℕ, false, ⊤, List, [], ◌∷◌}
 use Rattle.capnp_model.specs.Segments.{Segments}
 use Rattle.capnp_model.specs.Answers.{Answer, written}
 use Rattle.capnp_model.specs.Runs.{End, IsRun}
-use Rattle.capnp_loop.specs.Work.{Work}
+use Rattle.capnp_relay_loop.specs.Work.{LoopWork}
 use Rattle.capnp_relay_streams.specs.declared.options.RelayOptions.{RelayOptions}
 
 -- The segments of each message that is written.
@@ -13,12 +13,12 @@ written_messages (written segments replies ∷ answers) = segments ∷ written_m
 written_messages (a ∷ answers) = written_messages answers
 
 -- A message is written.
-abbrev pub IsWritten : Answer → Type 0
-IsWritten (written segments replies) = ⊤
-IsWritten _ = ⊥
+abbrev pub WritesMessage : Answer → Type 0
+WritesMessage (written segments replies) = ⊤
+WritesMessage _ = ⊥
 
 -- A run of this work over bytes.
-abbrev pub RunsOver : Work → List ℕ → List ℕ → List ℕ → End → Type 0
+abbrev pub RunsOver : LoopWork → List ℕ → List ℕ → List ℕ → End → Type 0
 RunsOver w bytes output log end = IsRun w.read w.write w.limit w.is_answer bytes output log end
 
 -- Options of two canonical runs, of which the second reads and writes the form that the first writes.

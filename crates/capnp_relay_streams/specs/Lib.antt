@@ -3,3 +3,5 @@ pub mod Options
 pub mod Relaying
 pub mod Answers
 pub mod Again
+pub mod Newer
+pub mod Ends

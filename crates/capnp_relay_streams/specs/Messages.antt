@@ -8,13 +8,13 @@ use Rattle.capnp_model.specs.Calls.{Call}
 use Rattle.capnp_model.specs.CallRuns.{records_after}
 use Rattle.capnp_model.specs.InKindCalls.{IsInKind}
 use Rattle.capnp_model.specs.Answers.{Answer, written, value_within, IsAnswer}
-use Rattle.capnp_queries.specs.Structs.{schema_around, id_of}
-use Rattle.capnp_queries.specs.declared.structs.StructSchema.{StructSchema}
+use Rattle.capnp_values_queries.specs.Structs.{schema_around, id_of}
+use Rattle.capnp_values_queries.specs.declared.structs.StructSchema.{StructSchema}
 use Rattle.capnp_model.specs.Printing.{as_it_is}
-use Rattle.capnp_answers.specs.Answers.{MeansAfter, IsTooLarge}
-use Rattle.capnp_answers.specs.Plain.{IsPlainAnswer, IsTooLargePlain}
-use Rattle.capnp_answers.specs.Bounds.{limits_view}
-use Rattle.capnp_answers.specs.declared.bounds.Bounds.{Bounds}
+use Rattle.capnp_relay_answers.specs.Answers.{MeansAfter, MakesTooLarge}
+use Rattle.capnp_relay_answers.specs.Plain.{IsPlainAnswer, IsTooLargePlain}
+use Rattle.capnp_relay_answers.specs.Bounds.{limits_view}
+use Rattle.capnp_relay_answers.specs.declared.bounds.Bounds.{Bounds}
 
 -- What is written reads as the record that the calls make of the message's record, where lists are in kind.
 abbrev pub ReadsAsMade : StructSchema → List Call → Bounds → Segments → Answer → Type 0
@@ -30,17 +30,18 @@ pub record IsAnswerBy (root : StructSchema) (calls : List Call) (bounds : Bounds
   pub means : MeansAfter root calls bounds.nesting (value_within (limits_view bounds) s) a
   pub reads : ReadsAsMade root calls bounds s a
 
--- The same in the plain form, where it means the value after the calls itself.
+-- This is the answer of calls to a message in the plain form, where it means the value after the
+-- calls itself.
 pub record IsPlainAnswerBy (root : StructSchema) (calls : List Call) (bounds : Bounds) (s : Segments) (a : Answer) : Type 0 where
   pub answers : IsPlainAnswer root calls bounds s a
   pub reads : ReadsAsMade root calls bounds s a
 
 -- The answer in the plain form or, with `false`, in the canonical one.
-abbrev pub IsAnswerIn : Bool → StructSchema → List Call → Bounds → Segments → Answer → Type 0
-IsAnswerIn false root calls bounds s a = IsAnswerBy root calls bounds s a
-IsAnswerIn true root calls bounds s a = IsPlainAnswerBy root calls bounds s a
+abbrev pub IsAnswerInForm : Bool → StructSchema → List Call → Bounds → Segments → Answer → Type 0
+IsAnswerInForm false root calls bounds s a = IsAnswerBy root calls bounds s a
+IsAnswerInForm true root calls bounds s a = IsPlainAnswerBy root calls bounds s a
 
 -- So too a message that is too large to be answered.
 abbrev pub IsTooLargeIn : Bool → StructSchema → List Call → Bounds → Segments → Type 0
-IsTooLargeIn false root calls bounds s = IsTooLarge root calls bounds s
+IsTooLargeIn false root calls bounds s = MakesTooLarge root calls bounds s
 IsTooLargeIn true root calls bounds s = IsTooLargePlain root calls bounds s

@@ -19,15 +19,15 @@ pub record IsOf (from to : Form) (options : ReaderOptions) (o : RelayOptions) : 
   pub nesting : options.nesting_limit ≡ pos o.bounds.nesting
   pub canonical : o.plain ≡ false
 
--- The same options, in the plain form.
+-- The options, in the plain form.
 abbrev pub as_plain : RelayOptions → RelayOptions
 as_plain o = record { input = o.input; output = o.output; bounds = o.bounds; plain = true }
 
 -- Why limits are refused: the first of these that holds.
-abbrev pub IsRefusalOf : ReaderOptions → OptionsFault → Type 0
-IsRefusalOf options fault.NoWordLimit = options.traversal_limit_in_words ≡ None
-IsRefusalOf options fault.WordLimitTooLarge = (n : ℕ) × (options.traversal_limit_in_words ≡ Some n) × (2 ^ 29 - 1 ≤ n)
-IsRefusalOf options fault.NegativeNesting = (n : ℕ) × (options.traversal_limit_in_words ≡ Some n) × (n < 2 ^ 29 - 1) × (options.nesting_limit <ℤ pos 0)
+abbrev pub IsOptionsRefusal : ReaderOptions → OptionsFault → Type 0
+IsOptionsRefusal options fault.NoWordLimit = options.traversal_limit_in_words ≡ None
+IsOptionsRefusal options fault.WordLimitTooLarge = (n : ℕ) × (options.traversal_limit_in_words ≡ Some n) × (2 ^ 29 - 1 ≤ n)
+IsOptionsRefusal options fault.NegativeNesting = (n : ℕ) × (options.traversal_limit_in_words ≡ Some n) × (n < 2 ^ 29 - 1) × (options.nesting_limit <ℤ pos 0)
 
 -- How words are read in a form.
 abbrev pub reader_of : Form → Reader

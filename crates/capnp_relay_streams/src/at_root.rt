@@ -1,14 +1,14 @@
 //! Calls at the roots of messages.
 
 use crate::message::{Message, indexed};
-use capnp_answers::answer::{MessageAnswer, Want, answer_in_place};
-use capnp_answers::as_built::answer_plain_in_place;
-use capnp_answers::bounds::Bounds;
-use capnp_answers::root_calls::RootCalls;
 use capnp_calls::laws::{calls_are_given, roots_are_no_groups};
-use capnp_loop::answers::Answers;
 use capnp_model::laws::records_of_trimmed_values;
 use capnp_model::laws_of_edits::{records_after_calls, records_of_written_values};
+use capnp_relay_answers::answer::{MessageAnswer, Want, answer_in_place};
+use capnp_relay_answers::as_built::answer_plain_in_place;
+use capnp_relay_answers::bounds::Bounds;
+use capnp_relay_answers::root_calls::RootCalls;
+use capnp_relay_loop::answers::Answers;
 use capnp_stream::buffers::NoAllocSliceSegments;
 use capnp_units::sizes::Word;
 use std::alloc::Global;
@@ -21,13 +21,13 @@ pub(crate) struct CallsAtRoot<'a> {
 }
 
 impl<'a> Answers for CallsAtRoot<'a> {
-    ghost use Rattle.capnp_answers.specs.Answers.{IsTooLarge};
-    ghost use Rattle.capnp_answers.specs.RootCalls.{root_schema, root_calls};
+    ghost use Rattle.capnp_relay_answers.specs.Answers.{MakesTooLarge};
+    ghost use Rattle.capnp_relay_answers.specs.RootCalls.{root_schema, root_calls};
     ghost use Rattle.capnp_relay_streams.specs.Messages.{IsAnswerBy};
 
     ghost is_answer = { λ c. IsAnswerBy (root_schema c.calls) (root_calls c.calls) c.bounds };
 
-    ghost is_too_large = { λ c. IsTooLarge (root_schema c.calls) (root_calls c.calls) c.bounds };
+    ghost is_too_large = { λ c. MakesTooLarge (root_schema c.calls) (root_calls c.calls) c.bounds };
 
     #[inline(always)]
     fn answer(
@@ -49,7 +49,7 @@ impl<'a> Answers for CallsAtRoot<'a> {
     }
 }
 
-/// The same in the plain form: messages go out as they are built.
+/// Calls at the roots of messages in the plain form: messages go out as they are built.
 #[derive(Drop)]
 pub(crate) struct PlainCallsAtRoot<'a> {
     pub(crate) calls: RootCalls<'a>,
@@ -57,8 +57,8 @@ pub(crate) struct PlainCallsAtRoot<'a> {
 }
 
 impl<'a> Answers for PlainCallsAtRoot<'a> {
-    ghost use Rattle.capnp_answers.specs.Plain.{IsTooLargePlain};
-    ghost use Rattle.capnp_answers.specs.RootCalls.{root_schema, root_calls};
+    ghost use Rattle.capnp_relay_answers.specs.Plain.{IsTooLargePlain};
+    ghost use Rattle.capnp_relay_answers.specs.RootCalls.{root_schema, root_calls};
     ghost use Rattle.capnp_relay_streams.specs.Messages.{IsPlainAnswerBy};
 
     ghost is_answer = { λ c. IsPlainAnswerBy (root_schema c.calls) (root_calls c.calls) c.bounds };

@@ -1,10 +1,11 @@
-//! A relay of messages: calls are made at the root of each message of a source, and what they make of it is written and logged.
+//! A relay of messages: calls are made at the root of each message of a source, and what they make
+//! of it is written and logged. `between` relays under an older schema what is read under a newer
+//! one.
 #![tactic(auto)]
 
 mod at_root;
+pub mod between;
 pub mod laws;
 mod message;
 pub mod options;
 pub mod relay;
-
-pub use capnp_loop::{ends, pauses};

@@ -3,17 +3,20 @@ ghost use Rattle.std.specs.Prelude.{◌≡◌, slice_get, option_copied};
 ghost use Rattle.std.specs.Option.{ForSome};
 ghost use Rattle.capnp_stream.specs.Buffers.{buffer_segments, found_segments};
 
-use capnp_object::arena::{ReaderArena, ReaderArenaImpl};
 use capnp_stream::buffers::{NoAllocSliceSegments, SliceSegments};
 use capnp_units::segments::ReaderSegments;
 use capnp_units::sizes::SegmentId;
+use capnp_wire_objects::arena::{ReaderArena, ReaderArenaImpl};
 use std::alloc::Global;
 
-/// The most segments of a message that are looked up in its table.
+/// The most segments of a message that are looked up in its table, whose lengths each look-up sums.
+/// Of more the sums are made once.
 const FEW_SEGMENTS: usize = 16;
 
-/// The segments of a message of many, found by where each lies; none where they are few, or where the memory for that was refused.
-// A look-up in the table sums the lengths in front of the segment: 511 segments would cost a message of far pointers three times the rest.
+/// The segments of a message of many, found by where each lies; `None` where they are few, or where
+/// the memory for that was refused.
+// A look-up in the table sums the lengths in front of the segment: 511 segments would cost a
+// message of far pointers three times the rest.
 #[inline(always)]
 pub(crate) fn indexed<'a>(
     alloc: Global,
@@ -27,7 +30,8 @@ pub(crate) fn indexed<'a>(
     indexed_many(alloc, message)
 }
 
-/// The segments of a message, found by where each lies; none where the memory for that was refused.
+/// The segments of a message, found by where each lies; `None` where the memory for that was
+/// refused.
 #[inline(never)]
 fn indexed_many<'a>(alloc: Global, message: &NoAllocSliceSegments<'a>) -> Option<SliceSegments<'a>>
     ensures { ForSome result (λ s. buffer_segments s ≡ found_segments message.now) }
@@ -38,7 +42,8 @@ fn indexed_many<'a>(alloc: Global, message: &NoAllocSliceSegments<'a>) -> Option
     }
 }
 
-/// The segments of a message that lie in a buffer, and the same found by where each lies, where it has many. The bounds tell how deep the message is followed.
+/// The segments of a message that lie in a buffer, and the same found by where each lies, where it
+/// has many. The bounds tell how deep the message is followed.
 #[derive(Drop)]
 pub(crate) struct Message<'a> {
     pub(crate) segments: &'a NoAllocSliceSegments<'a>,

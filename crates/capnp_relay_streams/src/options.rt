@@ -1,16 +1,17 @@
 //! The options of a relay.
 ghost use Rattle.std.specs.Prelude.{◌≡◌, ◌+◌, ◌*◌, IfOk, IfErr};
-ghost use Rattle.capnp_relay_streams.specs.Options.{IsOf, IsRefusalOf, as_plain};
+ghost use Rattle.capnp_relay_streams.specs.Options.{IsOf, IsOptionsRefusal, as_plain};
 
-use capnp_answers::bounds::Bounds;
 pub use capnp_message::options::ReaderOptions;
+use capnp_relay_answers::bounds::Bounds;
+use capnp_units::limits::MOST_WORDS;
 
 /// How messages are spelled.
 #[derive(Clone, Copy, Debug, PartialEq, Eq)]
 pub enum Form {
     /// A table of the segments' lengths, and the segments.
     Framed,
-    /// The same, packed.
+    /// A table and the segments, packed.
     Packed,
 }
 
@@ -28,7 +29,8 @@ pub enum OptionsFault {
     NegativeNesting,
 }
 
-/// The forms of a relay's input and output, how far it follows messages, and whether they go out in the plain form or, as `new` gives it, in the canonical one.
+/// The forms of a relay's input and output, how far it follows messages, and in which form they go
+/// out: the plain one or, as by `new`, the canonical one.
 #[derive(Clone, Copy)]
 pub struct RelayOptions {
     pub(crate) input: Form,
@@ -45,12 +47,12 @@ impl RelayOptions {
         options: ReaderOptions,
     ) -> Result<RelayOptions, OptionsFault>
         ensures options { IfOk result (IsOf input output options) }
-        ensures refused { IfErr result (IsRefusalOf options) }
+        ensures refused { IfErr result (IsOptionsRefusal options) }
     {
         let Some(words) = options.traversal_limit_in_words else {
             return Err(OptionsFault::NoWordLimit);
         };
-        if words >= 0x1fff_ffff {
+        if words >= MOST_WORDS as usize {
             return Err(OptionsFault::WordLimitTooLarge);
         }
         if options.nesting_limit < 0 {
@@ -67,7 +69,8 @@ impl RelayOptions {
         })
     }
 
-    /// The same options in the plain form: each message goes out as one frame of its 1 to 511 segments as they are built, not trimmed.
+    /// These options in the plain form: each message goes out as one frame of its 1 to 511 segments
+    /// as they are built, not trimmed.
     pub fn plain(self) -> RelayOptions
         ensures { result ≡ as_plain self }
     {

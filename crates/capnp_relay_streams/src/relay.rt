@@ -1,35 +1,61 @@
 //! The relay.
 ghost use Rattle.std.specs.Prelude.{◌≡◌, ◌+◌, ◌*◌, length, replicate};
 ghost use Rattle.capnp_calls.specs.Roots.{IsRoot};
-ghost use Rattle.capnp_loop.specs.declared.ends.Fault.{Fault};
-ghost use Rattle.capnp_loop.specs.Streams.{streams_of};
-ghost use Rattle.capnp_loop.specs.Run.{Relays};
-ghost use Rattle.capnp_loop.specs.Work.{work_by};
+ghost use Rattle.capnp_relay_loop.specs.declared.ends.Fault.{Fault};
+ghost use Rattle.capnp_relay_loop.specs.Streams.{streams_of};
+ghost use Rattle.capnp_relay_loop.specs.Run.{RunEndsAs};
+ghost use Rattle.capnp_relay_loop.specs.Work.{work_by};
 ghost use Rattle.capnp_relay_streams.specs.Options.{reader_of, writer_of};
-ghost use Rattle.capnp_loop.specs.Pauses.{RelaysPausing};
+ghost use Rattle.capnp_relay_loop.specs.Pauses.{RelaysPausing};
 ghost use Rattle.capnp_relay_streams.specs.Relaying.{relay_work};
 
 use crate::at_root::{CallsAtRoot, PlainCallsAtRoot};
 use crate::options::{Form, RelayOptions};
-use capnp_answers::root_calls::RootCalls;
 use capnp_calls::Call;
-use capnp_loop::answers::Answers;
-use capnp_loop::ends::{Counts, Fault, RelayFault};
-use capnp_loop::pauses::{NoPause, Pause};
-use capnp_loop::run::answer_all;
-use capnp_packing::form::Packed;
-use capnp_queries::structs::StructSchema;
+use capnp_relay_answers::root_calls::RootCalls;
+use capnp_relay_loop::answers::Answers;
+use capnp_relay_loop::ends::{Counts, Fault, RelayFault};
+use capnp_relay_loop::pauses::{NoPause, Pause};
+use capnp_relay_loop::run::answer_all;
 use capnp_stream::forms::Framed;
-use capnp_stream::traits::{BufRead, Read, Write};
+use capnp_stream_io::traits::{BufRead, Read, Write};
+use capnp_stream_packed::form::Packed;
+use capnp_values_queries::structs::StructSchema;
 use std::alloc::Global;
 
-/// Answers each message of the source, to the end of input or the first bytes that begin with no message.
+/// Answers each message of the source, to the end of input or the first bytes that begin with no
+/// message.
 ///
-/// A message is read within the options' limits. Its trimmed value is copied into the region, the calls run there at its root, a null root as the empty struct, and what they make of it is written as one canonical message, in the output form. Where each call sets a plain field of the root, and no word is put or trimmed by that, the value isn't copied, but edited where it is written from. A message without a value within the limits, or with a capability, is skipped as `value`, one whose root is a list as `root`, one that the calls nest too deep as `depth`. Either way the log gets one line. Where the lists of a message are in kind, what is written reads as the record that the calls make of the message's record.
+/// A message is read within the options' limits. Its trimmed value is copied into the region, and
+/// the calls run there at its root, a null root as the empty struct. What they make of it is
+/// written as one canonical message, in the output form. Where each call sets a plain field of the
+/// root, and no word is put or trimmed by that, the value isn't copied, but edited where it is
+/// written from. A message is skipped
+/// - as `value`, where it has no value within the limits, or one with a capability;
+/// - as `root`, where its root is a list;
+/// - as `depth`, where the calls nest it too deep.
 ///
-/// In the plain form the message that the calls make goes out as it is built, not trimmed, in 1 to 511 segments of which only the used words are written. It means what the calls make of the message, and every word but the root word that no object or pad reached from the root covers is zero: nothing of an overwritten value goes out.
+/// Written or skipped, it gets one line in the log. Where the lists of a message are in kind, what
+/// is written reads as the record that the calls make of the message's record.
 ///
-/// The region has 8 bytes for each word of the word limit and 8 more; what doesn't fit into it comes from `alloc`. Whatever is in it before, it is all zeros at every exit. `Framing`: what is left of the source begins with no message. `Source`, `Out`, `Log`: the device failed, or a slice was too short. `Memory`: a growth was refused, by the system or since the words of one message in memory, those that calls abandon among them, would pass 2^29 - 1; or a value has more than 1,024 levels, where more are allowed. `Size`: a call puts a text or data of 2^29 bytes or more with its last zero, or a list of structs of 2^29 words or more, a message in the plain form has more than 511 segments, or it is message number 2^64. What was written before stands.
+/// In the plain form the message that the calls make goes out as it is built, not trimmed, in 1 to
+/// 511 segments. Only their used words are written. It means what the calls make of the message.
+/// Every word but the root word that no object or pad reached from the root covers is zero: nothing
+/// of an overwritten value goes out.
+///
+/// The region has 8 bytes for each word of the word limit and 8 more; what doesn't fit into it
+/// comes from `alloc`. Whatever is in it before, it is all zeros at every exit.
+///
+/// The run ends before the end of input, and what was written before stands:
+/// - `Framing`: what is left of the source begins with no message;
+/// - `Source`, `Out`, `Log`: the device failed, or a slice was too short;
+/// - `Memory`: a growth was refused, by the system or since the words of one message in memory,
+///   those that calls abandon among them, would pass 2^29 - 1;
+/// - `Memory` too: a value has more than 1,024 levels, where more are allowed;
+/// - `Size`: a call puts a text or data of 2^29 bytes or more with its last zero, or a list of
+///   structs of 2^29 words or more;
+/// - `Size` too: a message in the plain form has more than 511 segments, or it is message number
+///   2^64.
 pub fn relay<R: BufRead, W: Write, L: Write>(
     alloc: Global,
     source: &mut R,
@@ -43,7 +69,7 @@ pub fn relay<R: BufRead, W: Write, L: Write>(
     requires region { length region.old ≡ 8 * (options.bounds.words + 1) }
     requires root { IsRoot root }
     ensures run { let seen = streams_of ⟦<R as Read>⟧ ⟦<W as Write>⟧ ⟦<L as Write>⟧ in
-        Relays (relay_work root.entry calls.now options W.may_grow L.may_grow)
+        RunEndsAs (relay_work root.entry calls.now options W.may_grow L.may_grow)
         (seen source.old out.old log.old) (seen source.new out.new log.new) result }
     ensures zeros { region.new ≡ replicate (length region.old) 0 }
 {
@@ -98,8 +124,9 @@ fn answer_in_forms<R: BufRead, W: Write, L: Write, A: Answers, P: Pause<R, W, L>
     }
 }
 
-/// As `relay`, with a pause before each message is read and a region of any length: a message that doesn't fit into it is edited in memory from `alloc`. A fault of a pause ends the run as `Out` or `Log`: the messages before it
-/// are answered whole.
+/// As `relay`, with a pause before each message is read and a region of any length: a message that
+/// doesn't fit into it is edited in memory from `alloc`. A fault of a pause ends the run as `Out`
+/// or `Log`: the messages before it are answered whole.
 pub fn relay_pausing<R: BufRead, W: Write, L: Write, P: Pause<R, W, L>>(
     alloc: Global,
     source: &mut R,

@@ -5,3 +5,4 @@ mod TableLemmas
 mod ReadLemmas
 mod BufferLemmas
 mod RefusalLemmas
+mod WritesLemmas

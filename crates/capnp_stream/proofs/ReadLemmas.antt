@@ -10,9 +10,9 @@ use Rattle.capnp_units.specs.declared.kinds.ErrorKind.TheVariants.{OutOfMemory, 
 use Rattle.capnp_units.specs.Segments.{words_in}
 use Rattle.capnp_model.specs.Messages.{Reader}
 use Rattle.capnp_model.specs.Spelling.{CanSpell}
-use Rattle.capnp_io.specs.Counting.{Counts, KindCounts}
+use Rattle.capnp_stream_io.specs.Counting.{Counts, KindCounts}
 use Rattle.capnp_stream.specs.Pieces.{ReadsFronts}
-use Rattle.capnp_stream.specs.Frames.{IsFrameFault, TakesMessage, TakesStart, TakesWholePieces, TakesTable, IsFramingKind, IsReadKind, IsCut}
+use Rattle.capnp_stream.specs.Frames.{IsFrameFault, TakesMessage, TakesStart, TakesWholePieces, TakesTable, IsFramingKind, IsReadKind, IsPieceRefusal}
 use Rattle.capnp_stream.specs.Writing.{AreWritable}
 use Rattle.capnp_stream.specs.Reading.{TriesReading, ReadsMessage}
 use Rattle.capnp_stream.specs.Lent.{HasAsLong, IsFillKind, NeedsMore, HasLonger}
@@ -21,7 +21,7 @@ use Rattle.capnp_stream.specs.declared.buffers.NoAllocBufferSegments.{NoAllocBuf
 use Rattle.capnp_stream.specs.Filling.{TriesFilling, FillsMessage}
 use Rattle.capnp_stream.specs.Flat.{table_bytes}
 use Rattle.capnp_stream.specs.Kept.{GrowsInVain, WantsForLonger}
-use Rattle.capnp_io.proofs.lemmas.KnownLemmas.{Consumes-of_kept, IfSome-of_kept}
+use Rattle.capnp_stream_io.proofs.lemmas.KnownLemmas.{Consumes-of_kept, IfSome-of_kept}
 use Rattle.capnp_stream.proofs.lemmas.FrameLemmas.{part-of_kept, TakesStart-of_kept, TakesMessage-of_kept, fault-of_kept}
 
 module _ (read : Reader) (limit : Option ℕ) where
@@ -175,9 +175,9 @@ module _ (read : Reader) (fronts : ReadsFronts read) (faults : ErrorKind → Typ
   }
 
 -- a table was taken, and then memory was wanted
-pub table-wanted : (read : Reader) (limit : Option ℕ) (ns : List ℕ) (n : ℕ) (a b c : Option (List ℕ)) (k : ErrorKind) → TakesTable read limit a b ns → IsCut read n b c k → k ≡ OutOfMemory → TakesWholePieces read limit a c
+pub table-wanted : (read : Reader) (limit : Option ℕ) (ns : List ℕ) (n : ℕ) (a b c : Option (List ℕ)) (k : ErrorKind) → TakesTable read limit a b ns → IsPieceRefusal read n b c k → k ≡ OutOfMemory → TakesWholePieces read limit a c
 table-wanted read limit ns n a b c k table cut want =
-    let memory : IsCut read n b c OutOfMemory = subst (IsCut read n b c) want cut in
+    let memory : IsPieceRefusal read n b c OutOfMemory = subst (IsPieceRefusal read n b c) want cut in
     inr (inr (ns, (table.0, Consumes-kept a b c table.0 table.1 memory.0, table.2, table.3)))
 
 -- ---- into a buffer

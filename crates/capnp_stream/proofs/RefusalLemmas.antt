@@ -9,7 +9,7 @@ use Rattle.capnp_units.specs.declared.errors.Error.{Error}
 use Rattle.capnp_units.specs.declared.kinds.ErrorKind.{ErrorKind}
 use Rattle.capnp_units.specs.declared.kinds.ErrorKind.TheVariants.{OutOfMemory, BufferNotLargeEnough, Device}
 use Rattle.capnp_model.specs.Messages.{Reader}
-use Rattle.capnp_io.specs.Counting.{KindCounts}
+use Rattle.capnp_stream_io.specs.Counting.{KindCounts}
 use Rattle.capnp_stream.specs.Pieces.{IsPieceKind}
 use Rattle.capnp_stream.specs.Frames.{IsFramingKind, IsReadKind}
 use Rattle.capnp_stream.specs.Lent.{NeedsMore, IsFillKind}

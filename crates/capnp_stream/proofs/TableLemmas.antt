@@ -9,7 +9,7 @@ use Rattle.capnp_model.specs.Spelling.{AreShort}
 use Rattle.capnp_model.proofs.lemmas.WordsInBytes.{words_in_bytes-length}
 use Rattle.capnp_model.specs.Bytes.{AreBytes}
 use Rattle.capnp_stream.specs.Pieces.{ReadsFronts, TakesPiece, TakesPieceStart, IsPieceFault, IsPieceKind}
-use Rattle.capnp_stream.specs.Frames.{IsFrameFault, TakesStart, TakesTable, IsFramingKind, IsReadKind, IsCut}
+use Rattle.capnp_stream.specs.Frames.{IsFrameFault, TakesStart, TakesTable, IsFramingKind, IsReadKind, IsPieceRefusal}
 use Rattle.capnp_stream.specs.Flat.{table_lengths, table_bytes}
 use Rattle.capnp_stream.specs.Lent.{NeedsMore, IsFillKind}
 use Rattle.capnp_stream.proofs.lemmas.WordLemmas.{from_le_bytes-take}
@@ -38,7 +38,7 @@ module _ (read : Reader) (fronts : ReadsFronts read) (limit : Option ℕ) (n : �
   module _ (c : Option (List ℕ)) where
     -- they weren't taken
     module _ (k : ErrorKind) (fault : IsPieceFault read (n / 2) b k) (start : TakesPieceStart read (n / 2) b c) where
-      cut : IsCut read ((from_le_bytes w64 old % 2 ^ 32 + 1) / 2) b c k
+      cut : IsPieceRefusal read ((from_le_bytes w64 old % 2 ^ 32 + 1) / 2) b c k
       cut =
           let Fault : ℕ → Type 0 = λ m. IsPieceFault read m b k in
           let Start : ℕ → Type 0 = λ m. TakesPieceStart read m b c in

@@ -3,3 +3,4 @@ pub mod EarlyLemmas
 pub mod PieceLemmas
 pub mod FrameLemmas
 pub mod ShownLemmas
+pub mod WriteLemmas

@@ -9,14 +9,15 @@ use Rattle.capnp_units.specs.declared.errors.Error.{Error}
 use Rattle.capnp_units.specs.declared.kinds.ErrorKind.{ErrorKind}
 use Rattle.capnp_units.specs.declared.kinds.ErrorKind.TheVariants.{BufferNotLargeEnough, PrematureEndOfFile}
 use Rattle.capnp_model.specs.Messages.{Reader}
-use Rattle.capnp_io.specs.Counting.{Counts}
+use Rattle.capnp_stream_io.specs.Counting.{Counts}
 use Rattle.capnp_stream.specs.Frames.{IsFrameFault, TakesMessage, TakesStart, IsFramingKind}
 use Rattle.capnp_stream.specs.Reading.{SourceSeen}
 use Rattle.capnp_stream.specs.Buffers.{found_segments}
 use Rattle.capnp_stream.specs.Lent.{TellsNeed, LacksBetweenPieces, IsFillKind}
 use Rattle.capnp_stream.specs.declared.buffers.NoAllocBufferSegments.{NoAllocBufferSegments}
 
--- A message is read into a buffer of so many bytes, in a form that reads pieces so and whose pieces are at fault by these kinds; or none is left.
+-- A message is read into a buffer of n bytes, in a form that reads pieces so and whose pieces are
+-- at fault by these kinds; or none is left.
 pub record TriesFilling {T : Type 0} {g : Ghosts T ℕ} (read : Reader) (faults : ErrorKind → Type 0) (limit : Option ℕ) (size : ℕ) (old : SourceSeen) (result : Result (Option (NoAllocBufferSegments T g)) Error) (new : SourceSeen) : Type 0 where
   -- One message is taken, whatever follows it.
   pub message : IfOk result (λ o. IfSome o (λ s. TakesMessage read limit old.remaining new.remaining (words_in (found_segments s))))
@@ -30,7 +31,7 @@ pub record TriesFilling {T : Type 0} {g : Ghosts T ℕ} (read : Reader) (faults 
   pub room : LacksBetweenPieces read limit old.remaining new.remaining result
   pub count : Counts result old.failures new.failures
 
--- The same, where the end is a refusal.
+-- A message is read into a buffer as above, where the end is a refusal.
 pub record FillsMessage {T : Type 0} {g : Ghosts T ℕ} (read : Reader) (faults : ErrorKind → Type 0) (limit : Option ℕ) (size : ℕ) (old : SourceSeen) (result : Result (NoAllocBufferSegments T g) Error) (new : SourceSeen) : Type 0 where
   pub message : IfOk result (λ s. TakesMessage read limit old.remaining new.remaining (words_in (found_segments s)))
   pub no_byte : IfErr result (λ e. e.kind ≡ PrematureEndOfFile → IsAtEnd old.remaining × Keeps old.remaining new.remaining)

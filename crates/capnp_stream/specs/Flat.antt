@@ -22,7 +22,7 @@ message_bytes ns = table_bytes (length ns) + 8 * sum ns
 abbrev pub frame_segments : ℕ → List ℕ → List (List ℕ)
 frame_segments n bytes = bytes_at (drop (table_bytes n) bytes) (ranges_from 0 (table_lengths n bytes))
 
--- The bytes have room for a table of so many segments, from 1 to 511, and begin with its count.
+-- The bytes have room for a table of n segments, from 1 to 511, and begin with its count.
 pub record CountsTable (bytes : List ℕ) (n : ℕ) : Type 0 where
   pub some : 0 < n
   pub few : n ≤ 511

@@ -30,8 +30,8 @@ abbrev pub HasNoMessage : Reader → Option ℕ → List ℕ → Type 0
 HasNoMessage read limit part = (n : ℕ) (s : Segments) → n < length part → Spells read limit (take n part) s → ⊥
 
 -- A message or less was taken.
-abbrev pub TakesPart : Reader → Option ℕ → Option (List ℕ) → Option (List ℕ) → Type 0
-TakesPart read limit old new = (part : List ℕ) × HasNoMessage read limit part × Consumes old new part
+abbrev pub TakesMessagePart : Reader → Option ℕ → Option (List ℕ) → Option (List ℕ) → Type 0
+TakesMessagePart read limit old new = (part : List ℕ) × HasNoMessage read limit part × Consumes old new part
 
 -- A table with these lengths was taken, and what follows are the segments.
 abbrev pub TakesTable : Reader → Option ℕ → Option (List ℕ) → Option (List ℕ) → List ℕ → Type 0
@@ -57,7 +57,7 @@ IsFramingKind PackedInputDidNotEndCleanlyOnASegmentBoundary = ⊤
 IsFramingKind MessageTooLarge = ⊤
 IsFramingKind _ = ⊥
 
--- The same, in a form whose pieces are at fault by these kinds.
+-- The kinds of bytes that are no message, in a form whose pieces are at fault by these kinds.
 abbrev pub IsFormKind : (ErrorKind → Type 0) → ErrorKind → Type 0
 IsFormKind faults InvalidNumberOfSegments = ⊤
 IsFormKind faults FailedToFillTheWholeBuffer = faults FailedToFillTheWholeBuffer
@@ -77,6 +77,6 @@ abbrev pub TellsFault : {A : Type 0} → Reader → Option ℕ → Option (List 
 TellsFault read limit old result = IfErr result (λ e. IsFramingKind e.kind → IfSome old (λ xs. IsFrameFault read limit xs e.kind))
 
 -- Why no piece of n words was taken, and what was. Memory is wanted before any byte is taken, and for a word at least.
-abbrev pub IsCut : Reader → ℕ → Option (List ℕ) → Option (List ℕ) → ErrorKind → Type 0
-IsCut read n old new OutOfMemory = Keeps old new × (0 < n)
-IsCut read n old new kind = IsPieceFault read n old kind × TakesPieceStart read n old new
+abbrev pub IsPieceRefusal : Reader → ℕ → Option (List ℕ) → Option (List ℕ) → ErrorKind → Type 0
+IsPieceRefusal read n old new OutOfMemory = Keeps old new × (0 < n)
+IsPieceRefusal read n old new kind = IsPieceFault read n old kind × TakesPieceStart read n old new

@@ -7,8 +7,8 @@ use Rattle.capnp_stream.specs.declared.segments.OwnedSegments.{OwnedSegments}
 use Rattle.capnp_stream.specs.contracts.segments.OwnedSegments.{the_row}
 
 -- The segments with other bytes, which lie where the former lay.
-abbrev pub with_bytes : OwnedSegments → List ℕ → OwnedSegments
-with_bytes s bytes = record {
+abbrev pub with_segment_bytes : OwnedSegments → List ℕ → OwnedSegments
+with_segment_bytes s bytes = record {
   bytes = with_items s.bytes bytes;
   indices = s.indices;
   within = λ k d inside.
@@ -18,4 +18,4 @@ with_bytes s bytes = record {
 
 -- Once the borrow ends the bytes are those that it shows last.
 abbrev pub LendsBytes : MutBor OwnedSegments → MutBor (List ℕ) → Fml
-LendsBytes s r = Lends the_row (Array u8 0) s r (with_bytes s.now)
+LendsBytes s r = Lends the_row (Array u8 0) s r (with_segment_bytes s.now)

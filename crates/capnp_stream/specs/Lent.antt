@@ -27,24 +27,27 @@ abbrev pub TellsLengths : Reader → Option ℕ → List ℕ → List ℕ → Ty
 TellsLengths read limit bytes ns =
     (front rest : List ℕ) × (bytes ≡ front ++ rest) × ((more : List ℕ) → message_at read limit (front ++ more) ≡ behind_lengths read limit ns more)
 
--- The bytes begin with the table of a message within the limits of segments and words that has more bytes unpacked than so many.
+-- The bytes begin with the table of a message within the limits of segments and words that has more
+-- than n bytes unpacked.
 abbrev pub HasLonger : Reader → Option ℕ → ℕ → List ℕ → Type 0
 HasLonger read limit size bytes =
     (ns : List ℕ) × TellsLengths read limit bytes ns × (within (sum ns) limit ≡ true) × (size < message_bytes ns)
 
--- The same, where it has at least so many.
+-- The bytes begin with the table of a message within these limits that has at least n bytes
+-- unpacked.
 abbrev pub HasAsLong : Reader → Option ℕ → ℕ → List ℕ → Type 0
 HasAsLong read limit size bytes =
     (ns : List ℕ) × TellsLengths read limit bytes ns × (within (sum ns) limit ≡ true) × (size ≤ message_bytes ns)
 
--- No message has so few bytes unpacked, or the bytes begin with the table of a message within the limits of segments and words, and the table, or the table with the segments, has more bytes unpacked than so many.
+-- Any message has more than n bytes unpacked. Or the bytes begin with the table of one within the
+-- limits of segments and words, and the table, or the table with the segments, has more.
 abbrev pub NeedsMore : Reader → Option ℕ → ℕ → List ℕ → Type 0
 NeedsMore read limit size bytes =
     (size < 8)
     ⊎ ((n : ℕ) × TellsCount read limit bytes n × (n < 511) × (size < table_bytes (n + 1)))
     ⊎ HasLonger read limit size bytes
 
--- A refusal for want of room says that the message needs more than so many bytes.
+-- A refusal for want of room says that the message needs more than n bytes.
 abbrev pub TellsNeed : {A : Type 0} → Reader → Option ℕ → ℕ → Option (List ℕ) → Result A Error → Type 0
 TellsNeed read limit size old result = IfErr result (λ e. e.kind ≡ BufferNotLargeEnough → IfSome old (NeedsMore read limit size))
 

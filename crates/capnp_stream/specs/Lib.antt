@@ -3,7 +3,6 @@ pub mod Segments
 pub mod Pieces
 pub mod Fronts
 pub mod Frames
-pub use Rattle.capnp_units.specs.Errors
 pub mod Writing
 pub mod Reading
 pub mod Flat

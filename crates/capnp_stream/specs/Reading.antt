@@ -9,9 +9,9 @@ use Rattle.capnp_units.specs.declared.kinds.ErrorKind.{ErrorKind}
 use Rattle.capnp_units.specs.declared.kinds.ErrorKind.TheVariants.{OutOfMemory, PrematureEndOfFile}
 use Rattle.capnp_model.specs.Messages.{Reader}
 use Rattle.capnp_model.specs.Spelling.{CanSpell}
-use Rattle.capnp_io.specs.Counting.{Counts}
+use Rattle.capnp_stream_io.specs.Counting.{Counts}
 use Rattle.capnp_stream.specs.Frames.{IsFrameFault, TakesMessage, TakesStart, TakesWholePieces, IsFramingKind, IsReadKind}
-use Rattle.capnp_stream.specs.Segments.{words_in, owned_bytes, segment_bytes, segments_of}
+use Rattle.capnp_stream.specs.Segments.{words_in, owned_bytes, bytes_of_segments, segments_of}
 use Rattle.capnp_stream.specs.Writing.{AreWritable}
 use Rattle.capnp_stream.specs.declared.segments.OwnedSegments.{OwnedSegments}
 
@@ -46,18 +46,18 @@ pub record TriesReading {M : Type 0} (bytes : M → List (List ℕ)) (Holds : M 
 
 -- The bytes of all segments stand one behind the other.
 abbrev pub AreJoined : OwnedSegments → Type 0
-AreJoined m = owned_bytes m ≡ concat (segment_bytes m)
+AreJoined m = owned_bytes m ≡ concat (bytes_of_segments m)
 
 -- A message is read into memory of its own, or none is left.
 abbrev pub TriesMessage : Reader → (ErrorKind → Type 0) → Option ℕ → SourceSeen → Result (Option OwnedSegments) Error → SourceSeen → Type 0
-TriesMessage read faults limit old result new = TriesReading segment_bytes AreJoined read faults limit old result new
+TriesMessage read faults limit old result new = TriesReading bytes_of_segments AreJoined read faults limit old result new
 
--- The same, where the end is a refusal.
+-- A message is read into memory of its own, where the end is a refusal.
 pub record ReadsMessage (read : Reader) (faults : ErrorKind → Type 0) (limit : Option ℕ) (old : SourceSeen) (result : Result OwnedSegments Error) (new : SourceSeen) : Type 0 where
   pub message : IfOk result (λ m. TakesMessage read limit old.remaining new.remaining (segments_of m))
   pub kept : IfOk result (λ m. CanSpell limit (segments_of m))
   pub joined : IfOk result AreJoined
-  pub writable : IfOk result (λ m. AreWritable (segment_bytes m))
+  pub writable : IfOk result (λ m. AreWritable (bytes_of_segments m))
   pub no_byte : IfErr result (λ e. e.kind ≡ PrematureEndOfFile → IsAtEnd old.remaining × Keeps old.remaining new.remaining)
   pub refused : IfErr result (λ e. IsFramingKind e.kind → IfSome old.remaining (λ xs. (xs ≢ []) × IsFrameFault read limit xs e.kind))
   pub kind : IfErr result (λ e. e.kind ≢ PrematureEndOfFile → IsReadKind faults e.kind)

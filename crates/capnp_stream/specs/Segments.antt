@@ -15,12 +15,12 @@ abbrev pub capacity_of : SegmentLengthsBuilder → ℕ
 capacity_of table = vec_capacity table.indices
 
 -- The bytes of each segment.
-abbrev pub segment_bytes : OwnedSegments → List (List ℕ)
-segment_bytes s = bytes_at s.bytes.items s.indices.items
+abbrev pub bytes_of_segments : OwnedSegments → List (List ℕ)
+bytes_of_segments s = bytes_at s.bytes.items s.indices.items
 
 -- The segments of a message.
 abbrev pub segments_of : OwnedSegments → Segments
-segments_of s = words_in (segment_bytes s)
+segments_of s = words_in (bytes_of_segments s)
 
 -- The bytes of all segments together.
 abbrev pub owned_bytes : OwnedSegments → List ℕ

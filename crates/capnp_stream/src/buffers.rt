@@ -15,7 +15,8 @@ use capnp_units::sizes::SegmentId;
 use std::alloc::Global;
 use std::convert::AsSlice;
 
-/// A framed message in a buffer, which may be longer, and where its segments lie behind the table, in words.
+/// A framed message in a buffer, which may be longer, and where its segments lie behind the table,
+/// in words.
 #[derive(Drop)]
 pub struct BufferSegments<T: AsSlice<u8>> {
     buffer: T,
@@ -34,7 +35,8 @@ impl<T: AsSlice<u8> + Drop> BufferSegments<T> {
 
     /// The segments of the framed message at the front of the buffer.
     ///
-    /// Refused by the kind of the first part that can't be read, and by `OutOfMemory` where all can.
+    /// Refused by the kind of the first part that can't be read, and by `OutOfMemory` where all
+    /// can.
     pub fn new(alloc: Global, buffer: T, limit: Option<usize>) -> Result<BufferSegments<T>>
         ensures buffer { IfOk result (λ s. buffer_of s ≡ buffer) }
         ensures message { IfOk result (λ s. (rest : List ℕ)
@@ -48,7 +50,7 @@ impl<T: AsSlice<u8> + Drop> BufferSegments<T> {
         BufferSegments::described(alloc, buffer, info)
     }
 
-    /// The segments of a table of lengths, which lie behind so many bytes of the buffer.
+    /// The segments of a table of lengths, which lie behind n bytes of the buffer.
     pub(crate) fn behind_table(
         buffer: T,
         segment_table_bytes_len: usize,
@@ -132,7 +134,8 @@ impl<T: AsSlice<u8>> ReaderSegments for BufferSegments<T> {
     }
 }
 
-/// A framed message in a buffer, which may be longer. Each segment is looked up in the table of the buffer, so no memory is taken.
+/// A framed message in a buffer, which may be longer. Each segment is looked up in the table of the
+/// buffer, so no memory is taken.
 #[derive(Drop)]
 pub struct NoAllocBufferSegments<T: AsSlice<u8>> {
     buffer: T,
@@ -157,7 +160,8 @@ impl<T: AsSlice<u8> + Drop> NoAllocBufferSegments<T> {
         NoAllocBufferSegments { buffer, info }
     }
 
-    /// The segments of the framed message at the front of the buffer. Refused by the kind of the first part that can't be read.
+    /// The segments of the framed message at the front of the buffer. Refused by the kind of the
+    /// first part that can't be read.
     pub fn from_buffer(buffer: T, limit: Option<usize>) -> Result<NoAllocBufferSegments<T>>
         ensures message { IfOk result (λ s. (rest : List ℕ)
             × (flat_at limit (T.items buffer) ≡ Ok (words_in (found_segments s), rest))) }
@@ -190,7 +194,9 @@ impl<'a> NoAllocBufferSegments<&'a [u8]> {
         Ok(NoAllocBufferSegments::from_segment_table_info(all, info))
     }
 
-    /// The same segments. Where they lie is told once, in memory of 16 bytes for each: so a look-up reads two numbers, where one here sums the lengths in front. `OutOfMemory`: it was refused.
+    /// These segments, in memory of 16 bytes for each that tells where they lie. So a look-up reads
+    /// two numbers, where one here sums the lengths in front. `OutOfMemory`: the memory was
+    /// refused.
     pub fn to_slice_segments(&self, alloc: Global) -> Result<SliceSegments<'a>>
         ensures segments { IfOk result (λ s. buffer_segments s ≡ found_segments self.now) }
         ensures refusal { IfErr result (λ e. e.kind ≡ ErrorKind.OutOfMemory) }

@@ -22,7 +22,8 @@ pub struct NoAllocSegmentTableInfo {
 }
 
 impl NoAllocSegmentTableInfo {
-    /// Whether the buffer begins with this table, of 1 to 511 segments, and then has the bytes of its segments.
+    /// Whether the buffer begins with this table, of 1 to 511 segments, and then has the bytes of
+    /// its segments.
     pub fn describes(&self, buffer: &[u8]) -> bool
         ensures { IsTrue result ↔ Describes self.now buffer.now }
     {

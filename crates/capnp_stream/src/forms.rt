@@ -3,19 +3,21 @@ ghost use Rattle.std.specs.Prelude.{◌≡◌, ◌/◌, ◌%◌, length, IfOk, I
 ghost use Rattle.capnp_units.specs.declared.kinds.ErrorKind.{ErrorKind};
 ghost use Rattle.capnp_model.specs.Bytes.{bytes_of_words};
 ghost use Rattle.capnp_model.specs.Messages.{Reader, Writer, plain_words};
-ghost use Rattle.capnp_io.specs.Counting.{Counts};
+ghost use Rattle.capnp_stream_io.specs.Counting.{Counts};
 ghost use Rattle.capnp_stream.specs.Pieces.{ReadsFronts, TakesPiece, TakesPieceStart, IsPieceFault, IsPieceKind, is_framed_fault};
 ghost use Rattle.capnp_stream.specs.Segments.{whole_words};
 ghost use Rattle.capnp_stream.specs.Shown.{TakesShown};
 ghost use Rattle.std.specs.Io.KnownBytes.{Keeps};
-ghost use Rattle.capnp_io.specs.Writes.{Writes, sink_seen};
+ghost use Rattle.capnp_stream_io.specs.Writes.{Writes, sink_seen};
 
 use crate::flat::NoAllocSegmentTableInfo;
 use crate::shown::lay_message;
-use capnp_io::traits::{BufRead, Read, Write};
+use capnp_stream_io::traits::{BufRead, Read, Write};
 use capnp_units::errors::Result;
 
-/// How words are spelled on streams, a piece at a time. The pieces of a message that is read are its first word, the rest of its table, and all segments together; of one that is written the first two, and each segment.
+/// How words are spelled on streams, a piece at a time. The pieces of a message that is read are
+/// its first word, the rest of its table, and all segments together. Of one that is written they
+/// are the first two, and each segment.
 pub trait MessageForm {
     /// How a piece is read from the front of bytes.
     ghost reader: { Reader };
@@ -28,7 +30,9 @@ pub trait MessageForm {
 
     /// Reads the piece of as many bytes as `buf` has, which are whole words.
     ///
-    /// After a refusal less than the piece was taken, and no byte behind the first that is at fault. `Device`: the source failed; any other kind says why the bytes that are left begin with no such piece.
+    /// After a refusal less than the piece was taken, and no byte behind the first that is at
+    /// fault. `Device`: the source failed; any other kind says why the bytes that are left begin
+    /// with no such piece.
     fn read_piece<R: BufRead>(source: &mut R, buf: &mut [u8]) -> Result<()>
         requires { length buf.old % 8 ≡ 0 }
         ensures ok { OnOk result (TakesPiece reader (R.remaining source.old)
@@ -40,7 +44,9 @@ pub trait MessageForm {
             (R.remaining source.old) (R.remaining source.new)) }
         ensures count { Counts result (R.failures source.old) (R.failures source.new) };
 
-    /// Reads a message of at most so many words to the front of a buffer, where the source shows every byte of it and the buffer has room, and answers how it lies there. Otherwise, or where the form has no such way, `None`: it is to be read piece by piece.
+    /// Reads a message of at most n words to the front of a buffer, where the source shows every
+    /// byte of it and the buffer has room. It returns how the message lies there. Otherwise, or
+    /// where the form has no such way, `None`: it is to be read piece by piece.
     ///
     /// Nothing is taken but a message that is read. `Device`: the source failed.
     #[inline(always)]
@@ -58,7 +64,8 @@ pub trait MessageForm {
         Ok(None)
     }
 
-    /// Writes the piece of these bytes, which are whole words. After a refusal a beginning of it was written.
+    /// Writes the piece of these bytes, which are whole words. After a refusal a beginning of it
+    /// was written.
     fn write_piece<W: Write>(out: &mut W, bytes: &[u8]) -> Result<()>
         requires { length bytes.now % 8 ≡ 0 }
         ensures { Writes W.may_grow (writer (whole_words bytes.now))

@@ -5,18 +5,18 @@ ghost use Rattle.std.specs.Io.KnownBytes.{Keeps};
 ghost use Rattle.capnp_units.specs.declared.kinds.ErrorKind.{ErrorKind};
 ghost use Rattle.capnp_model.specs.Messages.{within};
 ghost use Rattle.capnp_model.specs.Spelling.{AreShort, CanSpell};
-ghost use Rattle.capnp_io.specs.Counting.{Counts};
+ghost use Rattle.capnp_stream_io.specs.Counting.{Counts};
 ghost use Rattle.capnp_stream.specs.Pieces.{TakesPiece};
 ghost use Rattle.capnp_model.specs.Bytes.{AreBytes};
-ghost use Rattle.capnp_stream.specs.Segments.{whole_words, lengths_of, owned_bytes, segment_bytes, segments_of};
-ghost use Rattle.capnp_stream.specs.Frames.{TellsFault, TakesMessage, TakesStart, TakesTable, IsReadKind, IsCut};
+ghost use Rattle.capnp_stream.specs.Segments.{whole_words, lengths_of, owned_bytes, bytes_of_segments, segments_of};
+ghost use Rattle.capnp_stream.specs.Frames.{TellsFault, TakesMessage, TakesStart, TakesTable, IsReadKind, IsPieceRefusal};
 ghost use Rattle.capnp_stream.specs.Reading.{WantsBetweenPieces, TriesMessage, ReadsMessage, source_seen};
 ghost use Rattle.capnp_stream.specs.Writing.{AreWritable};
 
 use crate::forms::MessageForm;
 use crate::segments::{OwnedSegments, SegmentLengthsBuilder};
 use crate::tables::{LONGEST_TABLE, fill_count, fill_others};
-use capnp_io::traits::{BufRead, Read};
+use capnp_stream_io::traits::{BufRead, Read};
 use capnp_units::errors::{Error, Result};
 use capnp_units::kinds::ErrorKind;
 use std::alloc::Global;
@@ -38,7 +38,7 @@ pub(crate) fn is_at_end<R: BufRead>(source: &mut R) -> Result<bool>
     Ok(shown.is_empty())
 }
 
-/// The next piece of so many words, as bytes. Where memory is wanted none is taken.
+/// The next piece of n words, as bytes. Where memory is wanted none is taken.
 fn take_piece<F: MessageForm, R: BufRead>(
     alloc: Global,
     source: &mut R,
@@ -49,7 +49,7 @@ fn take_piece<F: MessageForm, R: BufRead>(
     ensures ok { IfOk result (λ v. TakesPiece F.reader (R.remaining source.old)
         (R.remaining source.new) (whole_words v.items)) }
     ensures cut { IfErr result
-        (λ e. IsCut F.reader words (R.remaining source.old) (R.remaining source.new) e.kind) }
+        (λ e. IsPieceRefusal F.reader words (R.remaining source.old) (R.remaining source.new) e.kind) }
     ensures own { IfErr result (λ e. IsReadKind F.faults e.kind) }
     ensures count { Counts result (R.failures source.old) (R.failures source.new) }
 {
@@ -64,7 +64,7 @@ pub(crate) fn are_bytes(bytes: &[u8])
     ensures { AreBytes bytes.now }
 {}
 
-/// Whether so many words keep the limit.
+/// Whether n words keep the limit.
 pub(crate) fn is_within(total: usize, limit: Option<usize>) -> bool
     ensures { result ≡ within total limit }
 {
@@ -74,7 +74,8 @@ pub(crate) fn is_within(total: usize, limit: Option<usize>) -> bool
     }
 }
 
-/// The lengths of the segments of the next message, from 1 to 511. Memory for them is asked before the last byte of the table is taken.
+/// The lengths of the segments of the next message, from 1 to 511. Memory for them is asked before
+/// the last byte of the table is taken.
 fn read_table<F: MessageForm, R: BufRead>(
     alloc: Global,
     source: &mut R,
@@ -112,8 +113,8 @@ fn read_segments<F: MessageForm, R: BufRead>(
     ensures message { IfOk result (λ m. TakesMessage F.reader limit (R.remaining source.old)
         (R.remaining source.new) (segments_of m)) }
     ensures kept { IfOk result (λ m. CanSpell limit (segments_of m)) }
-    ensures joined { IfOk result (λ m. owned_bytes m ≡ concat (segment_bytes m)) }
-    ensures writable { IfOk result (λ m. AreWritable (segment_bytes m)) }
+    ensures joined { IfOk result (λ m. owned_bytes m ≡ concat (bytes_of_segments m)) }
+    ensures writable { IfOk result (λ m. AreWritable (bytes_of_segments m)) }
     ensures refused { TellsFault F.reader limit (R.remaining source.old) result }
     ensures kind { IfErr result (λ e. IsReadKind F.faults e.kind) }
     ensures part { OnErr result
@@ -134,7 +135,9 @@ fn read_segments<F: MessageForm, R: BufRead>(
 
 /// The segments of the next message in a form, or `None` where no byte is left.
 ///
-/// A message of more words than the limit is refused. `OutOfMemory`: some byte is left, and the memory for the table or the segments was refused. After a refusal less than a message was taken, and no byte behind the first that is at fault.
+/// A message of more words than the limit is refused. `OutOfMemory`: some byte is left, and the
+/// memory for the table or the segments was refused. After a refusal less than a message was taken,
+/// and no byte behind the first that is at fault.
 pub fn try_read_message_in<F: MessageForm, R: BufRead>(
     alloc: Global,
     source: &mut R,

@@ -5,13 +5,13 @@ ghost use Rattle.std.specs.Int.{from_le_bytes, w64};
 ghost use Rattle.capnp_units.specs.declared.kinds.ErrorKind.{ErrorKind};
 ghost use Rattle.capnp_units.specs.Segments.{words_in};
 ghost use Rattle.capnp_model.specs.Messages.{within};
-ghost use Rattle.capnp_io.specs.Counting.{Counts};
+ghost use Rattle.capnp_stream_io.specs.Counting.{Counts};
 ghost use Rattle.capnp_stream.specs.Frames.{TellsFault, TakesMessage, TakesStart, TakesTable, IsReadKind};
 ghost use Rattle.capnp_stream.specs.Flat.{table_lengths, frame_segments, Describes};
-ghost use Rattle.capnp_stream.specs.Lent.{HoldsMessage, IsFillKind};
-ghost use Rattle.capnp_stream.specs.Reading.{WantsBetweenPieces, source_seen};
-ghost use Rattle.capnp_stream.specs.Kept.{buffer_len, GrowsForTable, GrowsInVain, GrowsTo, HasTableRoom, IsGrown, RestsGrown, TriesMessageInto, TriesTableIn, WantsForLonger};
-ghost use Rattle.capnp_stream.specs.Shown.{TakesShown, bytes_in_all};
+ghost use Rattle.capnp_stream.specs.Lent.{IsFillKind};
+ghost use Rattle.capnp_stream.specs.Reading.{source_seen};
+ghost use Rattle.capnp_stream.specs.Kept.{buffer_len, FillsKept, GrowsForTable, HasTableRoom, RestsGrown, TriesMessageInto, TriesTableIn, WantsForLonger};
+ghost use Rattle.capnp_stream.specs.Shown.{TakesShown};
 ghost use Rattle.std.specs.Io.KnownBytes.{Keeps};
 
 use crate::buffers::{NoAllocBufferSegments, NoAllocSliceSegments};
@@ -20,18 +20,20 @@ use crate::forms::MessageForm;
 use crate::frames::{are_bytes, is_at_end, is_within};
 use crate::lent::fill_body;
 use crate::tables::{LONGEST_TABLE, fill_count, fill_others};
-use capnp_io::traits::BufRead;
+use capnp_stream_io::traits::BufRead;
 use capnp_units::errors::{Error, Result};
 use capnp_units::kinds::ErrorKind;
 use std::alloc::Global;
 
-/// Memory into which messages are read, one after the other. It grows where a message is longer than those before.
+/// Memory into which messages are read, one after the other. It grows where a message is longer
+/// than those before.
 #[derive(Drop)]
 pub struct MessageBuffer {
     bytes: Vec<u8>,
 }
 
-/// Reads a table into the front of a buffer that has room for the longest, and answers how many segments it has, from 1 to 511.
+/// Reads a table into the front of a buffer that has room for the longest, and returns how many
+/// segments it has, from 1 to 511.
 fn fill_any_table<F: MessageForm, R: BufRead>(
     source: &mut R,
     buffer: &mut [u8],
@@ -64,7 +66,8 @@ impl MessageBuffer {
         }
     }
 
-    /// Grows to so many bytes where it has fewer. `OutOfMemory`: it has fewer, and the memory was refused. The bytes that were there stay in front.
+    /// Grows to n bytes where it has fewer. `OutOfMemory`: it has fewer, and the memory was
+    /// refused. The bytes that were there stay in front.
     fn grow_to(&mut self, len: usize) -> Result<()>
         ensures front { (more : List ℕ) × (self.new.bytes.items ≡ self.old.bytes.items ++ more) }
         ensures room { OnOk result (len ≤ buffer_len self.new) }
@@ -85,22 +88,9 @@ impl MessageBuffer {
         source: &mut R,
         limit: Option<usize>,
     ) -> Result<NoAllocSegmentTableInfo>
-        ensures message { IfOk result (HoldsMessage F.reader limit (R.remaining source.old)
-            (R.remaining source.new) self.new.bytes.items) }
-        ensures refused { TellsFault F.reader limit (R.remaining source.old) result }
-        ensures kind { IfErr result (λ e. IsReadKind F.faults e.kind) }
-        ensures part { OnErr result
-            (TakesStart F.reader limit (R.remaining source.old) (R.remaining source.new)) }
-        ensures wanted { WantsBetweenPieces F.reader limit (R.remaining source.old)
-            (R.remaining source.new) result }
-        ensures longer { WantsForLonger F.reader limit (buffer_len self.old)
-            (R.remaining source.old) result }
-        ensures grown { IsGrown (buffer_len self.old) (buffer_len self.new) result }
-        ensures most { IfOk result
-            (λ i. GrowsTo (bytes_in_all i) (buffer_len self.old) (buffer_len self.new)) }
-        ensures vain { OnErr result (GrowsInVain F.reader limit (R.remaining source.old)
-            (buffer_len self.old) (buffer_len self.new)) }
-        ensures failures { Counts result (R.failures source.old) (R.failures source.new) }
+        ensures { FillsKept F.reader F.faults limit self.old self.new
+            (source_seen R.remaining R.failures source.old) result
+            (source_seen R.remaining R.failures source.new) }
     {
         self.grow_to(LONGEST_TABLE)?;
         let count = fill_any_table::<F, R>(source, &mut self.bytes, limit)?;
@@ -119,7 +109,8 @@ impl MessageBuffer {
         Ok(info)
     }
 
-    /// Reads the next message to the front where the source shows every byte of it, and the buffer has room for it and for the longest table. Otherwise `None`, and nothing is taken.
+    /// Reads the next message to the front where the source shows every byte of it, and the buffer
+    /// has room for it and for the longest table. Otherwise `None`, and nothing is taken.
     #[inline(always)]
     fn read_shown<F: MessageForm, R: BufRead>(
         &mut self,
@@ -165,7 +156,8 @@ impl MessageBuffer {
         Ok(Some(info))
     }
 
-    /// Reads the next message to the front, whole where the source shows it, else piece by piece, or `None` where no byte is left.
+    /// Reads the next message to the front, whole where the source shows it, else piece by piece,
+    /// or `None` where no byte is left.
     #[inline(always)]
     fn read_next<F: MessageForm, R: BufRead>(
         &mut self,
@@ -189,9 +181,15 @@ impl MessageBuffer {
         self.read_pieces::<F, R>(source, limit)
     }
 
-    /// The segments of the next message in a form, or `None` where no byte is left. They lie in the buffer until the next message is read into it.
+    /// The segments of the next message in a form, or `None` where no byte is left. They lie in the
+    /// buffer until the next message is read into it.
     ///
-    /// A message of more words than the limit is refused. `OutOfMemory`: some byte is left, the buffer has fewer bytes than the longest table or than the message unpacked, and the memory for them was refused; so a buffer into which a message was read takes none for those that are no longer. After a refusal less than a message was taken, and no byte behind the first that is at fault. The buffer never shrinks, and grows to no more bytes than the longest table or the message has.
+    /// A message of more words than the limit is refused. `OutOfMemory`: some byte is left, the
+    /// buffer has fewer bytes than the longest table or than the message unpacked, and the memory
+    /// for them was refused. So a buffer into which a message was read takes none for those that
+    /// are no longer. After a refusal less than a message was taken, and no byte behind the first
+    /// that is at fault. The buffer never shrinks, and grows to no more bytes than the longest
+    /// table or the message has.
     #[inline(always)]
     pub fn try_read_message<F: MessageForm, R: BufRead>(
         &mut self,
@@ -214,7 +212,8 @@ impl MessageBuffer {
     }
 }
 
-/// The segments of the next message in a form, or `None` where no byte is left. They lie in the buffer until the next message is read into it.
+/// The segments of the next message in a form, or `None` where no byte is left. They lie in the
+/// buffer until the next message is read into it.
 ///
 /// Refused as `MessageBuffer::try_read_message`.
 pub fn try_read_message_into<'a, F: MessageForm, R: BufRead>(

@@ -4,9 +4,9 @@ ghost use Rattle.std.specs.Int.{from_le_bytes, w64};
 ghost use Rattle.capnp_units.specs.declared.kinds.ErrorKind.{ErrorKind};
 ghost use Rattle.capnp_units.specs.Segments.{words_in};
 ghost use Rattle.capnp_model.specs.Messages.{within};
-ghost use Rattle.capnp_io.specs.Counting.{Counts};
+ghost use Rattle.capnp_stream_io.specs.Counting.{Counts};
 ghost use Rattle.capnp_stream.specs.Pieces.{IsPieceKind};
-ghost use Rattle.capnp_stream.specs.Frames.{TellsFault, TakesMessage, TakesStart, TakesTable, TakesBody, IsCut};
+ghost use Rattle.capnp_stream.specs.Frames.{TellsFault, TakesMessage, TakesStart, TakesTable, TakesBody, IsPieceRefusal};
 ghost use Rattle.capnp_stream.specs.Flat.{table_lengths, frame_segments, CountsTable, Describes};
 ghost use Rattle.capnp_stream.specs.Lent.{HoldsMessage, TellsNeed, LacksBetweenPieces, IsFillKind};
 ghost use Rattle.capnp_stream.specs.Reading.{source_seen};
@@ -17,11 +17,11 @@ use crate::flat::{NoAllocSegmentTableInfo, words_before};
 use crate::forms::MessageForm;
 use crate::frames::{is_at_end, is_within};
 use crate::tables::{fill_count, fill_front, fill_others};
-use capnp_io::traits::BufRead;
+use capnp_stream_io::traits::BufRead;
 use capnp_units::errors::{Error, Result};
 use capnp_units::kinds::ErrorKind;
 
-/// Reads a table into the front of a buffer, and answers how many segments it has, from 1 to 511.
+/// Reads a table into the front of a buffer, and returns how many segments it has, from 1 to 511.
 fn fill_table<F: MessageForm, R: BufRead>(
     source: &mut R,
     buffer: &mut [u8],
@@ -63,7 +63,7 @@ pub(crate) fn fill_body<F: MessageForm, R: BufRead>(
     ensures body { OnOk result (TakesBody F.reader (R.remaining source.old)
         (R.remaining source.new) (table_lengths info.segments_count buffer.old)
         (words_in (frame_segments info.segments_count buffer.new))) }
-    ensures cut { IfErr result (λ e. IsCut F.reader (info.total_segments_length_bytes / 8)
+    ensures cut { IfErr result (λ e. IsPieceRefusal F.reader (info.total_segments_length_bytes / 8)
         (R.remaining source.old) (R.remaining source.new) e.kind) }
     ensures own { IfErr result (λ e. IsPieceKind F.faults e.kind) }
     ensures failures { Counts result (R.failures source.old) (R.failures source.new) }
@@ -107,9 +107,13 @@ fn fill_message<F: MessageForm, R: BufRead>(
     Ok(info)
 }
 
-/// The segments of the next message in a form, or `None` where no byte is left. Its table and its segments lie unpacked in the buffer.
+/// The segments of the next message in a form, or `None` where no byte is left. Its table and its
+/// segments lie unpacked in the buffer.
 ///
-/// A message of more words than the limit is refused. `BufferNotLargeEnough`: some byte is left, and the buffer has fewer bytes than the table and the segments unpacked; one of fewer than 8 bytes is refused before any byte is taken. After a refusal less than a message was taken, and no byte behind the first that is at fault.
+/// A message of more words than the limit is refused. `BufferNotLargeEnough`: some byte is left,
+/// and the buffer has fewer bytes than the table and the segments unpacked. One of fewer than 8
+/// bytes is refused before any byte is taken. After a refusal less than a message was taken, and no
+/// byte behind the first that is at fault.
 pub fn try_read_message_no_alloc_in<'a, F: MessageForm, R: BufRead>(
     source: &mut R,
     buffer: &'a mut [u8],
@@ -126,7 +130,8 @@ pub fn try_read_message_no_alloc_in<'a, F: MessageForm, R: BufRead>(
     Ok(Some(NoAllocBufferSegments::from_segment_table_info(&*buffer, info)))
 }
 
-/// The segments of the next message in a form, which lie unpacked in the buffer behind their table. `PrematureEndOfFile`: no byte is left.
+/// The segments of the next message in a form, which lie unpacked in the buffer behind their table.
+/// `PrematureEndOfFile`: no byte is left.
 ///
 /// Refused otherwise as `try_read_message_no_alloc_in`.
 pub fn read_message_no_alloc_in<'a, F: MessageForm, R: BufRead>(

@@ -43,7 +43,7 @@ impl SegmentLengthsBuilder {
         Ok(table)
     }
 
-    /// Asks memory for so many segments, where none is there yet and the capacity doesn't suffice.
+    /// Asks memory for n segments, where none is there yet and the capacity doesn't suffice.
     pub(crate) fn reserve(&mut self, count: usize) -> Result<()>
         requires { lengths_of self.old ≡ [] }
         ensures empty { lengths_of self.new ≡ [] }
@@ -55,7 +55,7 @@ impl SegmentLengthsBuilder {
         Ok(())
     }
 
-    /// Adds a segment of so many words behind the others, where the capacity suffices.
+    /// Adds a segment of n words behind the others, where the capacity suffices.
     fn push_within(&mut self, length_in_words: usize)
         requires room { length (lengths_of self.old) < capacity_of self.old }
         requires small { sum (lengths_of self.old) + length_in_words < 2 ^ 64 }
@@ -69,7 +69,8 @@ impl SegmentLengthsBuilder {
         }
     }
 
-    /// Adds the first `count` segments of the table at the front of bytes, where none is there yet and the capacity suffices.
+    /// Adds the first `count` segments of the table at the front of bytes, where none is there yet
+    /// and the capacity suffices.
     pub(crate) fn fill(&mut self, bytes: &[u8], count: usize)
         requires few { count ≤ 511 }
         requires there { table_bytes count ≤ length bytes.now }
@@ -82,7 +83,8 @@ impl SegmentLengthsBuilder {
         }
     }
 
-    /// No segment yet, and memory for so many. `OutOfMemory`: it was refused; none is asked for no segment.
+    /// No segment yet, and memory for n. `OutOfMemory`: it was refused; where n is 0 none is asked
+    /// for.
     pub fn with_capacity(alloc: Global, capacity: usize) -> Result<SegmentLengthsBuilder>
         ensures empty { IfOk result (λ t. lengths_of t ≡ []) }
         ensures room { IfOk result (λ t. capacity ≤ capacity_of t) }
@@ -96,7 +98,9 @@ impl SegmentLengthsBuilder {
         })
     }
 
-    /// Adds a segment of so many words behind the others. `MessageTooLarge`: the words of all pass `usize`. `OutOfMemory`: all the memory for segments is used, and more was refused. After a refusal the table is as it was.
+    /// Adds a segment of n words behind the others. `MessageTooLarge`: the words of all pass
+    /// `usize`. `OutOfMemory`: all the memory for segments is used, and more was refused. After a
+    /// refusal the table is as it was.
     pub fn try_push_segment(&mut self, length_in_words: usize) -> Result<()>
         ensures pushed { OnOk result
             (lengths_of self.new ≡ lengths_of self.old ++ length_in_words ∷ []) }
@@ -124,7 +128,8 @@ impl SegmentLengthsBuilder {
         self.total_words
     }
 
-    /// Zeroed segments of these lengths. `MessageTooLarge`: their bytes pass `usize`. `OutOfMemory`: their bytes were refused.
+    /// Zeroed segments of these lengths. `MessageTooLarge`: their bytes pass `usize`.
+    /// `OutOfMemory`: their bytes were refused.
     pub fn into_owned_segments(self, alloc: Global) -> Result<OwnedSegments>
         ensures ranges { IfOk result (λ s. owned_ranges s ≡ ranges_from 0 (lengths_of self)) }
         ensures zeros { IfOk result (λ s. owned_bytes s ≡ replicate (8 * sum (lengths_of self)) 0) }
@@ -140,7 +145,7 @@ impl SegmentLengthsBuilder {
         Ok(OwnedSegments::new(bytes, self))
     }
 
-    /// Whether so many bytes of a table and then the segments fit into the buffer.
+    /// Whether n bytes of a table and then the segments fit into the buffer.
     pub fn describes(&self, buffer: &[u8], segment_table_bytes_len: usize) -> bool
         ensures { IsTrue result
             ↔ (segment_table_bytes_len + 8 * sum (lengths_of self.now) ≤ length buffer.now) }
@@ -151,7 +156,7 @@ impl SegmentLengthsBuilder {
         }
     }
 
-    /// The segments in a slice, behind so many bytes of a table, where they fit, as `describes` tests.
+    /// The segments in a slice, behind n bytes of a table, where they fit, as `describes` tests.
     pub fn into_slice_segments(
         self,
         slice: &[u8],
@@ -173,7 +178,8 @@ impl SegmentLengthsBuilder {
     }
 }
 
-/// The words of bytes, the lowest byte of each first; those past the last whole word aren't looked at. `OutOfMemory`: there is a word, and the memory for them was refused.
+/// The words of bytes, the lowest byte of each first; those past the last whole word aren't looked
+/// at. `OutOfMemory`: there is a word, and the memory for them was refused.
 pub fn words_of(alloc: Global, bytes: &[u8]) -> Result<Vec<u64>>
     ensures words { IfOk result (λ v. v.items ≡ whole_words bytes.now) }
     ensures refusal { IfErr result
@@ -199,7 +205,7 @@ pub struct OwnedSegments {
 impl OwnedSegments {
     ghost use Rattle.std.specs.Borrow.{sem};
     ghost use Rattle.capnp_stream.specs.Lending.{LendsBytes};
-    ghost use Rattle.capnp_stream.specs.Segments.{lengths_of, owned_bytes, owned_ranges, segment_bytes, segments_of};
+    ghost use Rattle.capnp_stream.specs.Segments.{lengths_of, owned_bytes, owned_ranges, bytes_of_segments, segments_of};
 
     /// The segments of a table, one after the other in the bytes.
     pub(crate) fn new(bytes: Vec<u8>, table: SegmentLengthsBuilder) -> OwnedSegments
@@ -226,13 +232,14 @@ impl OwnedSegments {
         &mut self.bytes
     }
 
-    /// The words of a segment, or none past the last. `OutOfMemory`: the segment has a word, and the memory for its words was refused.
+    /// The words of a segment, or none past the last. `OutOfMemory`: the segment has a word, and
+    /// the memory for its words was refused.
     pub fn segment_words(&self, alloc: Global, id: SegmentId) -> Result<Option<Vec<u64>>>
         ensures words { IfOk result
             (λ o. IfSome o (λ v. slice_get (segments_of self.now) id ≡ Some v.items)) }
         ensures none { IfOk result (λ o. IfNone o (slice_get (segments_of self.now) id ≡ None)) }
         ensures refusal { IfErr result (λ e. (e.kind ≡ ErrorKind.OutOfMemory)
-            × IsSomeAnd (slice_get (segment_bytes self.now) id) (λ bytes. 8 ≤ length bytes)) }
+            × IsSomeAnd (slice_get (bytes_of_segments self.now) id) (λ bytes. 8 ≤ length bytes)) }
     {
         match self.get_segment(id) {
             Some(bytes) => Ok(Some(words_of(alloc, bytes)?)),
@@ -241,7 +248,8 @@ impl OwnedSegments {
     }
 }
 
-/// The bytes of all segments, one behind the other. They are written over by `as_mut_slice`, which keeps their number.
+/// The bytes of all segments, one behind the other. They are written over by `as_mut_slice`, which
+/// keeps their number.
 impl Deref for OwnedSegments {
     type Target = Vec<u8>;
 
@@ -255,13 +263,13 @@ impl Deref for OwnedSegments {
 }
 
 impl ReaderSegments for OwnedSegments {
-    ghost use Rattle.capnp_stream.specs.Segments.{segment_bytes, segments_of};
+    ghost use Rattle.capnp_stream.specs.Segments.{bytes_of_segments, segments_of};
 
-    ghost segments = { segment_bytes };
+    ghost segments = { bytes_of_segments };
 
     /// The bytes of a segment, each word's lowest first, or none past the last.
     fn get_segment(&self, id: SegmentId) -> Option<&[u8]>
-        ensures bytes { option_copied result ≡ slice_get (segment_bytes self.now) id }
+        ensures bytes { option_copied result ≡ slice_get (bytes_of_segments self.now) id }
         ensures words { IfSome result
             (λ bytes. slice_get (segments_of self.now) id ≡ Some (whole_words bytes.now)) }
         ensures whole { IfSome result (λ bytes. length bytes.now % 8 ≡ 0) }

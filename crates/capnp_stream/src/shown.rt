@@ -6,7 +6,8 @@ ghost use Rattle.capnp_stream.specs.Shown.{Lays};
 use crate::flat::{NoAllocSegmentTableInfo, info_at};
 use crate::frames::{HALF, is_within};
 
-/// How the framed message at the front of the bytes lies there; none where they begin with none, or with a part of one. A table of one segment, which most messages have, is read at once.
+/// How the framed message at the front of the bytes lies there; `None` where they begin with none,
+/// or with a part of one. A table of one segment, which most messages have, is read at once.
 #[inline(always)]
 fn shown_info(shown: &[u8]) -> Option<NoAllocSegmentTableInfo>
     ensures { IfSome result (λ i. Describes i shown.now) }
@@ -24,7 +25,9 @@ fn shown_info(shown: &[u8]) -> Option<NoAllocSegmentTableInfo>
     })
 }
 
-/// Copies the framed message that the bytes begin with to the front of a buffer, and answers how it lies there. `None` where the bytes begin with no message, or with a part of one, or where it has more words than the limit, or more bytes than the buffer.
+/// Copies the framed message that the bytes begin with to the front of a buffer, and returns how it
+/// lies there. `None` where the bytes begin with no message, or with a part of one, or where it has
+/// more words than the limit, or more bytes than the buffer.
 #[inline(always)]
 pub(crate) fn lay_message(
     shown: &[u8],

@@ -12,7 +12,8 @@ use std::alloc::Global;
 
 /// The segments of the framed message at the front of the slice, which then begins behind it.
 ///
-/// A message of more words than the limit is refused. Refused by the kind of the first part that can't be read, and by `OutOfMemory` where all can; the slice is then as it was.
+/// A message of more words than the limit is refused. Refused by the kind of the first part that
+/// can't be read, and by `OutOfMemory` where all can; the slice is then as it was.
 pub fn read_message_from_flat_slice<'a>(
     alloc: Global,
     slice: &mut &'a [u8],
@@ -29,7 +30,7 @@ pub fn read_message_from_flat_slice<'a>(
     BufferSegments::from_slice(alloc, slice, limit)
 }
 
-/// The same, which takes no memory.
+/// The message as by the function above, which takes no memory.
 pub fn read_message_from_flat_slice_no_alloc<'a>(
     slice: &mut &'a [u8],
     limit: Option<usize>,

@@ -3,7 +3,7 @@ ghost use Rattle.std.specs.Prelude.{◌≡◌, ℕ, Option, ◌+◌, ◌*◌, �
 ghost use Rattle.std.specs.Int.{from_le_bytes, w64};
 ghost use Rattle.capnp_units.specs.declared.kinds.ErrorKind.{ErrorKind};
 ghost use Rattle.capnp_units.specs.Segments.{whole_words};
-ghost use Rattle.capnp_io.specs.Counting.{Counts};
+ghost use Rattle.capnp_stream_io.specs.Counting.{Counts};
 ghost use Rattle.capnp_stream.specs.Pieces.{TakesPiece, TakesPieceStart, IsPieceFault, IsPieceKind};
 ghost use Rattle.capnp_stream.specs.Frames.{TellsFault, TakesStart, IsReadKind};
 ghost use Rattle.capnp_stream.specs.Flat.{table_bytes};
@@ -11,7 +11,7 @@ ghost use Rattle.capnp_stream.specs.Lent.{IsFillKind};
 
 use crate::forms::MessageForm;
 use crate::frames::{HALF, SEGMENTS_COUNT_LIMIT};
-use capnp_io::traits::BufRead;
+use capnp_stream_io::traits::BufRead;
 use capnp_units::errors::{Error, Result};
 use capnp_units::kinds::ErrorKind;
 
@@ -39,7 +39,8 @@ pub(crate) fn fill_front<F: MessageForm, R: BufRead>(
     F::read_piece(source, front)
 }
 
-/// Reads the first word of a table into the front of a buffer, and answers how many segments it counts, from 1 to 511.
+/// Reads the first word of a table into the front of a buffer, and returns how many segments it
+/// counts, from 1 to 511.
 pub(crate) fn fill_count<F: MessageForm, R: BufRead>(
     source: &mut R,
     buffer: &mut [u8],

@@ -1,6 +1,6 @@
 //! Data: a sequence of bytes.
-use capnp_wire::arena::ReaderArena;
 use capnp_wire::traits;
+use capnp_wire_objects::arena::ReaderArena;
 
 /// Data to read: the bytes of a byte list, lent in place.
 pub type Reader<'a> = &'a [u8];

@@ -1,20 +1,21 @@
 //! Texts: bytes that should be UTF-8 and needn't be.
 //!
-//! On the wire a text ends with a zero byte, which isn't part of it; here it is left out. (Encoding, "Blobs")
+//! On the wire a text ends with a zero byte, which isn't part of it; here it is left out.
+//! (Encoding, "Blobs")
 ghost use Rattle.std.specs.Prelude.{◌≡◌, ◌+◌, ◌<◌, ◌≤◌, ◌==◌, ◌++◌, length, take, drop, replicate, slice_set, nat_eq, IfOk, string_bytes};
 ghost use Rattle.std.specs.Ordering.{nat_cmp};
 ghost use Rattle.std.specs.Cmp.{partial_equiv_from_equiv, on_per};
 ghost use Rattle.std.specs.Cmp.Lexicographic.{pointwise, slice_cmp, nat_list_eq_equiv};
 ghost use Rattle.capnp_wire.specs.Reads.{GetGives, read_text};
-ghost use Rattle.capnp_text.specs.Texts.{IsText, IsTextIfAny};
+ghost use Rattle.capnp_text.specs.Texts.{IsUtf8Text, IsTextIfAny};
 
 use capnp_units::errors;
 use capnp_units::limiter::ReadLimiter;
 use capnp_units::sizes::Word;
-use capnp_wire::arena::ReaderArena;
 use capnp_wire::pointer::PointerReader;
 use capnp_wire::traits;
 use capnp_wire::traits::FromPointerReader;
+use capnp_wire_objects::arena::ReaderArena;
 use std::alloc::{AllocError, Global};
 use std::cmp::Ordering;
 use std::fmt;
@@ -53,12 +54,12 @@ impl<'a> Reader<'a> {
 
     /// The text as a `str`. It is refused where the bytes aren't UTF-8.
     pub fn to_str(self) -> Result<&'a str, Utf8Error>
-        ensures { IsText (λ text. text.now) self.entry.0.now result }
+        ensures { IsUtf8Text (λ text. text.now) self.entry.0.now result }
     {
         std::str::from_utf8(self.0)
     }
 
-    /// The text as a `String`, or none where the bytes aren't UTF-8.
+    /// The text as a `String`, or `None` where the bytes aren't UTF-8.
     pub fn to_string(self, alloc: Global) -> Result<Option<String>, AllocError>
         ensures { IfOk result (IsTextIfAny string_bytes self.entry.0.now) }
     {
@@ -68,7 +69,7 @@ impl<'a> Reader<'a> {
         }
     }
 
-    /// Whether the text has just the bytes of a `str`.
+    /// Whether the text has exactly the bytes of a `str`.
     pub fn eq_str(&self, other: &str) -> bool
         ensures { result ≡ pointwise nat_eq self.now.0.now other.now }
     {
@@ -121,7 +122,7 @@ impl<'a, const N: usize> From<&'a [u8; N]> for Reader<'a> {
 impl<'a> TryFrom<Reader<'a>> for &'a str {
     type Error = Utf8Error;
 
-    ghost try_from_gives = { λ text r. IsText (λ s. s.now) text.0.now r };
+    ghost try_from_gives = { λ text r. IsUtf8Text (λ s. s.now) text.0.now r };
 
     fn try_from(value: Reader<'a>) -> Result<&'a str, Utf8Error> {
         value.to_str()
@@ -146,7 +147,8 @@ impl<'a, A: ReaderArena> traits::Owned<'a, A> for Owned {
     type Reader = Reader<'a>;
 }
 
-/// A text to write, whose bytes are lent by a message, with a position at which pushes write. The text has all of its bytes, those behind the position too.
+/// A text to write, whose bytes are lent by a message, with a position at which pushes write. The
+/// text has all of its bytes, those behind the position too.
 #[derive(Drop)]
 pub struct Builder<'a> {
     bytes: &'a mut [u8],
@@ -195,12 +197,12 @@ impl<'a> Builder<'a> {
 
     /// The text as a `str`. It is refused where the bytes aren't UTF-8.
     pub fn to_str(self) -> Result<&'a str, Utf8Error>
-        ensures { IsText (λ text. text.now) self.entry.bytes.now result }
+        ensures { IsUtf8Text (λ text. text.now) self.entry.bytes.now result }
     {
         self.into_reader().to_str()
     }
 
-    /// The text as a `String`, or none where the bytes aren't UTF-8.
+    /// The text as a `String`, or `None` where the bytes aren't UTF-8.
     pub fn to_string(self, alloc: Global) -> Result<Option<String>, AllocError>
         ensures { IfOk result (IsTextIfAny string_bytes self.entry.bytes.now) }
     {
@@ -216,7 +218,8 @@ impl<'a> Builder<'a> {
         bytes
     }
 
-    /// Writes a character of ASCII at the position, and goes on behind it. There must be a byte left for it.
+    /// Writes a character of ASCII at the position, and goes on behind it. There must be a byte
+    /// left for it.
     pub fn push_ascii(&mut self, ascii: u8)
         requires ascii { ascii < 128 }
         requires room { self.old.pos < length self.old.bytes.now }
@@ -252,7 +255,8 @@ impl<'a> Builder<'a> {
         self.pos = 0;
     }
 
-    /// The same text and position, lent for a while. What is written stays; where the lent one then stands isn't taken over.
+    /// This text and position, lent for a while. What is written stays; where the lent one then
+    /// stands isn't taken over.
     pub fn reborrow(&mut self) -> Builder<'_>
         ensures bytes { result.bytes.now ≡ self.old.bytes.now }
         ensures pos { result.pos ≡ self.old.pos }

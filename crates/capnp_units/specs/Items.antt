@@ -2,7 +2,7 @@
 use Rattle.std.specs.Prelude.{ℕ, zero, suc, ◌+◌, ◌-◌, List, [], ◌∷◌}
 use Rattle.capnp_units.specs.declared.iter.ItemIter.{ItemIter}
 
--- So many items from an index on.
+-- n items from an index on.
 abbrev pub items_from : {T : Type 0} → (ℕ → T) → ℕ → ℕ → List T
 items_from at from zero = []
 items_from at from (suc n) = at from ∷ items_from at (from + 1) n

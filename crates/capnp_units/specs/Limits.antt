@@ -2,7 +2,7 @@
 use Rattle.std.specs.Prelude.{◌≡◌, ℕ, ◌+◌, ◌-◌, ◌^◌, ◌<◌, ◌≤◌, min, Option, Some, None, ⊤}
 use Rattle.capnp_units.specs.declared.limiter.ReadLimiter.{ReadLimiter}
 
--- What stays of so many words, where there is a limit, after some are taken.
+-- What stays of n words, where there is a limit, after some are taken.
 abbrev pub less : Option ℕ → ℕ → Option ℕ
 less None words = None
 less (Some left) words = Some (left - words)
@@ -28,23 +28,24 @@ pub record IsFree (start : ReadLimiter) : Type 0 where
   pub endless : limit_of start ≡ None
   pub unused : granted_of start ≡ 0
 
--- So many words may be granted where this many are left.
+-- n words may be granted where this many are left.
 abbrev pub Allows : Option ℕ → ℕ → Type 0
 Allows None words = ⊤
 Allows (Some left) words = words ≤ left
 
--- So many words pass what is left.
+-- n words pass what is left.
 abbrev pub IsPassed : Option ℕ → ℕ → Type 0
 IsPassed None words = ⊥
 IsPassed (Some left) words = left < words
 
--- So many words were granted. Their count stops at the greatest number of its type, which under a limit it never passes.
+-- n words were granted. Their count stops at the greatest number of its type, which under a limit
+-- it never passes.
 pub record Spends (old new : ReadLimiter) (words : ℕ) : Type 0 where
   pub allowed : Allows (left_of old) words
   pub limit : limit_of new ≡ limit_of old
   pub left : left_of new ≡ less (left_of old) words
   pub granted : min (granted_of new) (2 ^ 64 - 1) ≡ min (granted_of old + words) (2 ^ 64 - 1)
 
--- So many source pointers were followed. Their count stops likewise.
+-- n source pointers were followed. Their count stops at the greatest number of its type.
 abbrev pub Follows : ReadLimiter → ReadLimiter → ℕ → Type 0
 Follows old new pointers = min (followed_of new) (2 ^ 64 - 1) ≡ min (followed_of old + pointers) (2 ^ 64 - 1)

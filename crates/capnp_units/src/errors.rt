@@ -1,4 +1,4 @@
-//! What a refused call answers.
+//! What a function returns that refuses.
 ghost use Rattle.std.specs.Prelude.{◌≡◌, Some};
 ghost use Rattle.capnp_model.specs.Kinds.{kind_name};
 ghost use Rattle.capnp_units.specs.Errors.{kind_of};
@@ -8,7 +8,7 @@ use crate::kinds::ErrorKind;
 use std::alloc::{AllocError, AllocFailed};
 use std::fmt;
 
-/// Why a call was refused: the kind alone.
+/// Why a function refused: the kind alone.
 #[derive(Clone, Copy, Debug, PartialEq, Eq, thiserror::Error)]
 pub struct Error {
     pub kind: ErrorKind,
@@ -49,5 +49,5 @@ impl<T: Drop> From<AllocFailed<T>> for Error {
     }
 }
 
-/// What a call answers that may be refused.
+/// What a function returns that may refuse.
 pub type Result<T> = std::result::Result<T, Error>;

@@ -109,7 +109,8 @@ impl<I: ListIndex, L: IndexMove<I, T> + Drop, T: Drop> ItemIter<I, L, T> {
         }
     }
 
-    /// Passes over `n` items, or all where fewer are left, and gives the next. It makes that one alone.
+    /// Passes over `n` items, or all where fewer are left, and gives the next. It makes that one
+    /// alone.
     #[tactic(auto, using(crate::proofs::ItemsLemmas::item_at, crate::proofs::ItemsLemmas::no_item_at, crate::proofs::ItemsLemmas::items_behind, crate::proofs::ItemsLemmas::none_behind))]
     pub fn nth(&mut self, n: usize) -> Option<T>
         ensures item { option_map L.shown result ≡ slice_get (items_left L.at self.old) n }

@@ -8,7 +8,8 @@ use std::fmt;
 /// Why a call was refused.
 #[derive(Clone, Copy, Debug, PartialEq, Eq, thiserror::Error)]
 pub enum ErrorKind {
-    /// An object, a landing pad or a segment isn't there, or elements lie past a composite list's words.
+    /// An object, a landing pad or a segment isn't there, or elements lie past a composite list's
+    /// words.
     OutOfBounds,
     /// A far pointer stands in a landing pad's describing place.
     MalformedFarPointer,

@@ -20,7 +20,7 @@ pub struct ReadLimiter {
 impl ReadLimiter {
     ghost use Rattle.capnp_units.specs.Limits.{limit_of, left_of, granted_of, followed_of, Spends, IsPassed, Follows};
 
-    /// A budget of so many words, or without a limit, from which nothing was granted yet.
+    /// A budget of n words, or without a limit, from which nothing was granted yet.
     pub fn new(limit: Option<u64>) -> ReadLimiter
         ensures limit { limit_of result ≡ limit }
         ensures left { left_of result ≡ limit }
@@ -42,7 +42,8 @@ impl ReadLimiter {
         self.granted
     }
 
-    /// Grants so many words. They are refused with `ReadLimitExceeded` where they pass what is left, and then nothing changes.
+    /// Grants n words. They are refused with `ReadLimitExceeded` where they pass what is left, and
+    /// then nothing changes.
     pub fn charge(&mut self, words: u64) -> Result<()>
         ensures ok { OnOk result (Spends self.old self.new words) }
         ensures refused { OnErr result ((self.new ≡ self.old) × IsPassed (left_of self.old) words) }

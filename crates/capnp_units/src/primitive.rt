@@ -6,7 +6,8 @@ ghost use Rattle.capnp_model.specs.Sections.{bits_at, with_bits, number_of};
 
 use crate::units::ByteCount;
 
-/// A whole number of one, two, four or eight bytes, with or without a sign. Bytes hold it with the lowest first.
+/// A whole number of one, two, four or eight bytes, with or without a sign. Bytes hold it with the
+/// lowest first.
 pub trait Primitive: Copy {
     /// The bytes of a number.
     ghost BYTES: { ℕ };
@@ -57,7 +58,8 @@ pub trait Mask: Primitive {
     /// The bits of a default.
     ghost mask_bits: { Self.T → ℕ };
 
-    /// The number whose bits are those of two numbers, exclusive or. Done twice with one mask it gives the number back.
+    /// The number whose bits are those of two numbers, exclusive or. Done twice with one mask it
+    /// gives the number back.
     fn mask(value: Self, mask: Self::T) -> Self
         ensures value { result ≡ Self.from_bits (bit_xor (Self.bits value) (mask_bits mask)) }
         ensures bits { Self.bits result ≡ bit_xor (Self.bits value) (mask_bits mask) }

@@ -4,7 +4,8 @@ ghost use Rattle.std.specs.Prelude.{◌≡◌, ◌==◌, ℕ, List, length, map,
 use crate::sizes::SegmentId;
 use std::convert::AsSlice;
 
-/// Segments of bytes, which readers read as words of eight; what is past a segment's last whole word isn't looked at.
+/// Segments of bytes, which readers read as words of eight; what is past a segment's last whole
+/// word isn't looked at.
 pub trait ReaderSegments {
     /// The bytes of each segment.
     ghost segments: { Self → List (List ℕ) };

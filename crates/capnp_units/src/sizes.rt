@@ -170,7 +170,8 @@ pub enum PointerType {
     Capability,
 }
 
-/// What a value takes: words of its objects, and capabilities. Each count stops at the greatest number of its type.
+/// What a value takes: words of its objects, and capabilities. Each count stops at the greatest
+/// number of its type.
 #[derive(Clone, Copy, Debug, PartialEq, Eq)]
 pub struct MessageSize {
     /// Words of eight bytes.

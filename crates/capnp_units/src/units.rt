@@ -74,7 +74,8 @@ pub const WORDS_PER_POINTER: WordCount = 1;
 /// A pointer is one word.
 pub const POINTER_SIZE_IN_WORDS: WordCount = 1;
 
-/// The bytes that a value of a type takes, fewer than 2^64. An element of a list of whole numbers takes as many.
+/// The bytes that a value of a type takes, fewer than 2^64. An element of a list of whole numbers
+/// takes as many.
 pub fn _bytes_per_element<T>() -> ByteCount
     requires { type_size T.row < 2 ^ 64 }
     ensures { result ≡ type_size T.row }

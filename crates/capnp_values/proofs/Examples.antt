@@ -3,8 +3,8 @@ use Rattle.std.proofs.Common.{◌≡◌, false, true, Some, None, [], codes, ref
 use Rattle.capnp_model.specs.Schemas.{uint, text, blob, plain_slot, pointer_slot, Fields, no_fields, field, Schema}
 use Rattle.capnp_model.specs.Calls.{text_tree, blob_tree}
 use Rattle.capnp_model.specs.Readings.{inactive, null_pointer, number, text_of, blob_of, Record, no_more, entry, read}
-use Rattle.capnp_values.specs.Standing.{or_default, filled}
-use Rattle.capnp_values.specs.Records.{reading_at, is_live, is_there, active_place}
+use Rattle.capnp_values.specs.Standing.{or_default, defaulted_field}
+use Rattle.capnp_values.specs.Records.{reading_at_index, is_live, is_there, active_place}
 
 default_text : (s : Schema) → or_default s text (text_tree (codes "hi")) null_pointer ≡ text_of (codes "hi")
 unfolding read
@@ -13,11 +13,11 @@ default_text s = refl
 own_text : (s : Schema) → or_default s text (text_tree (codes "hi")) (text_of (codes "ho")) ≡ text_of (codes "ho")
 own_text s = refl
 
-no_text : (s : Schema) → filled s (pointer_slot 0 text None) null_pointer ≡ text_of []
+no_text : (s : Schema) → defaulted_field s (pointer_slot 0 text None) null_pointer ≡ text_of []
 unfolding read
 no_text s = refl
 
-empty_data : (s : Schema) → filled s (pointer_slot 0 blob (Some (blob_tree []))) null_pointer ≡ blob_of []
+empty_data : (s : Schema) → defaulted_field s (pointer_slot 0 blob (Some (blob_tree []))) null_pointer ≡ blob_of []
 unfolding read
 empty_data s = refl
 
@@ -31,10 +31,10 @@ v_is_active : active_place members has_v ≡ Some 2
 unfolding members has_v
 v_is_active = refl
 
-u_is_not_there : is_there (reading_at 1 has_v) ≡ false
+u_is_not_there : is_there (reading_at_index 1 has_v) ≡ false
 unfolding has_v
 u_is_not_there = refl
 
-z_is_null : is_live (reading_at 0 has_v) ≡ true
+z_is_null : is_live (reading_at_index 0 has_v) ≡ true
 unfolding has_v
 z_is_null = refl

@@ -4,7 +4,7 @@ use Rattle.capnp_model.specs.Kinds.{Kind}
 use Rattle.capnp_model.specs.Schemas.{width, Ty, void, plain, text, blob, untyped, interface, struct, list, type_of, Value, FieldKind, slot, group, Schema, Body, void_slot, plain_slot, pointer_slot, group_slot}
 use Rattle.capnp_model.specs.Accepted.{slot_body, field_body}
 use Rattle.capnp_wire.specs.Views.{StructView, pointer_field}
-use Rattle.capnp_queries.specs.Fields.{Entry}
+use Rattle.capnp_values_queries.specs.Fields.{Entry}
 use Rattle.capnp_values.specs.Sources.{masked_bits}
 use Rattle.capnp_values.specs.Shown.{Shown, number_shown, a_number, a_struct, slot_opened, slot_shown, default_said, kind_shown}
 

@@ -2,12 +2,12 @@
 use Rattle.std.proofs.Common.{◌≡◌, ℕ, List, true, Option, Some, None, option_map, ap, sym, ◌∙◌}
 use Rattle.capnp_model.specs.Trees.{Tree}
 use Rattle.capnp_model.specs.Schemas.{Node, Ty, pointer_slot}
-use Rattle.capnp_queries.specs.Fields.{Entry, type_of_body}
+use Rattle.capnp_values_queries.specs.Fields.{Entry, type_of_body}
 use Rattle.capnp_records.specs.Sets.{IsNodeOf}
 use Rattle.capnp_records.specs.declared.raw.RawBrandedStructSchema.{RawBrandedStructSchema}
-use Rattle.capnp_queries.specs.Types.{type_of_variant, is_type_of}
-use Rattle.capnp_queries.specs.declared.introspect.«Type».{«Type» as SchemaType}
-use Rattle.capnp_queries.specs.declared.introspect.TypeVariant.TheVariants as V
+use Rattle.capnp_values_queries.specs.Types.{type_of_variant, is_type_of}
+use Rattle.capnp_values_queries.specs.declared.introspect.«Type».{«Type» as SchemaType}
+use Rattle.capnp_values_queries.specs.declared.introspect.TypeVariant.TheVariants as V
 
 -- the struct that a type names is of the set
 pub named_struct : (nodes : List Node) (ty : SchemaType) (raw : RawBrandedStructSchema) → is_type_of nodes ty ≡ true → type_of_variant (V.Struct raw) ≡ ty → IsNodeOf nodes raw

@@ -15,23 +15,23 @@ use Rattle.capnp_model.specs.Readings.{Reading, null_pointer, fault, text_of, bl
 use Rattle.capnp_model.specs.Fits.{Fits}
 use Rattle.capnp_model.proofs.lemmas.Chaining.{guard_ok, ok_then, bind_some, bind_found, some_is, ok_is, bind_ok}
 use Rattle.capnp_model.proofs.lemmas.ReadFits.{tree_at_fits}
-use Rattle.capnp_object.specs.declared.object.Object.{Object}
-use Rattle.capnp_object.specs.declared.object.Object.TheVariants as object
-use Rattle.capnp_object.specs.declared.object.Found.{Found}
-use Rattle.capnp_object.specs.Objects.{plain_size, whole, whole_list, object_at}
-use Rattle.capnp_object.specs.Places.{placed, place_view}
-use Rattle.capnp_object.specs.Inside.{words_there, tree_in}
-use Rattle.capnp_object.specs.Laws.{TreesByLevels}
+use Rattle.capnp_wire_objects.specs.declared.object.Object.{Object}
+use Rattle.capnp_wire_objects.specs.declared.object.Object.TheVariants as object
+use Rattle.capnp_wire_objects.specs.declared.object.Found.{Found}
+use Rattle.capnp_wire_objects.specs.Objects.{plain_size, whole, whole_list, object_at}
+use Rattle.capnp_wire_objects.specs.Places.{placed, place_view}
+use Rattle.capnp_wire_objects.specs.Inside.{words_there, tree_in}
+use Rattle.capnp_wire_objects.specs.Laws.{TreesByLevels}
 use Rattle.capnp_wire.specs.Levels.{level_below}
 use Rattle.capnp_wire.specs.Views.{Ground, PointerView, StructView, ListView, list_view, pointer_field}
 use Rattle.capnp_units.specs.declared.sizes.ElementSize.{ElementSize}
 use Rattle.capnp_units.specs.declared.sizes.ElementSize.TheVariants.{Void, Bit, Byte, TwoBytes, FourBytes, EightBytes, Pointer, InlineComposite}
 use Rattle.capnp_units.specs.Sizes.{size_number}
-use Rattle.capnp_wire.specs.Reads.{read_elements, list_head, empty_struct, found_behind, object_behind, read_struct, read_blob, read_text, read_list}
+use Rattle.capnp_wire.specs.Reads.{read_elements, list_head, struct_of_null, found_behind, object_behind, read_struct, read_blob, read_text, read_list}
 use Rattle.capnp_wire.specs.Laws.{bytes_read, reads_behind, ShowsStruct, ShowsList, IsRead, BytesAreRead, StructsAreRead, ListsAreRead}
-use Rattle.capnp_values.specs.Shown.{a_text, a_blob, a_struct, a_list, opened}
+use Rattle.capnp_values.specs.Shown.{a_text, a_blob, a_struct, a_list, shown_behind}
 use Rattle.capnp_values.specs.ListSizes.{size_of}
-use Rattle.capnp_values.specs.Standing.{Leads, IsRecord, AreItems, or_empty, Answers, PointersAreRead}
+use Rattle.capnp_values.specs.Standing.{LeadsToValue, IsRecord, AreItems, null_as_empty, Answers, PointersAreRead}
 use Rattle.capnp_values.proofs.lemmas.AskedSizes.{size_asked}
 
 -- ---- objects that are there
@@ -99,7 +99,7 @@ none_left n p t q at e =
     let a = bind_found (model.found_at p.basis.segments q) _ t e in
     leaf_reach n p t a.0 (ap (found_behind p.basis.segments) at ∙ ok_then (model.found_at p.basis.segments q) _ a.0 _ a.1 refl) a.2
 
-reach : (n : ℕ) (p : PointerView) (t : Tree) → Leads n p t → Reach n p t
+reach : (n : ℕ) (p : PointerView) (t : Tree) → LeadsToValue n p t → Reach n p t
 reach n p t leads = by n p.place refl leads.enough leads.tree
   where
     g : Ground
@@ -119,35 +119,35 @@ reach n p t leads = by n p.place refl leads.enough leads.tree
 
 -- ---- texts and data
 
-text_behind : (s : Schema) (xs : List ℕ) → Answers s (bytes_read (text_reading xs) and_then λ bytes. Ok (a_text bytes)) (or_empty s text (text_reading xs))
+text_behind : (s : Schema) (xs : List ℕ) → Answers s (bytes_read (text_reading xs) and_then λ bytes. Ok (a_text bytes)) (null_as_empty s text (text_reading xs))
 text_behind s [] = refl
 text_behind s (b ∷ bs) = by (slice_index (b ∷ bs) (length bs) == 0)
   where
-    by : (z : Bool) → Answers s (bytes_read (if z then text_of (take (length bs) (b ∷ bs)) else fault TextWithoutZeroByte) and_then λ bytes. Ok (a_text bytes)) (or_empty s text (if z then text_of (take (length bs) (b ∷ bs)) else fault TextWithoutZeroByte))
+    by : (z : Bool) → Answers s (bytes_read (if z then text_of (take (length bs) (b ∷ bs)) else fault TextWithoutZeroByte) and_then λ bytes. Ok (a_text bytes)) (null_as_empty s text (if z then text_of (take (length bs) (b ∷ bs)) else fault TextWithoutZeroByte))
     by true = refl
     by false = refl
 
-text_read : (s : Schema) (t : Tree) → Answers s (bytes_read (read s t text) and_then λ bytes. Ok (a_text bytes)) (or_empty s text (read s t text))
+text_read : (s : Schema) (t : Tree) → Answers s (bytes_read (read s t text) and_then λ bytes. Ok (a_text bytes)) (null_as_empty s text (read s t text))
 unfolding read
 text_read s null = refl
 text_read s (capability i) = refl
 text_read s (structure w n ts) = refl
 text_read s (plain_list size n section) = by (size == 2)
   where
-    by : (z : Bool) → Answers s (bytes_read (if z then text_reading (plain_elements size n section) else fault WrongElementSize) and_then λ bytes. Ok (a_text bytes)) (or_empty s text (if z then text_reading (plain_elements size n section) else fault WrongElementSize))
+    by : (z : Bool) → Answers s (bytes_read (if z then text_reading (plain_elements size n section) else fault WrongElementSize) and_then λ bytes. Ok (a_text bytes)) (null_as_empty s text (if z then text_reading (plain_elements size n section) else fault WrongElementSize))
     by true = text_behind s (plain_elements size n section)
     by false = refl
 text_read s (pointer_list ts) = refl
 text_read s (struct_list w p es) = refl
 
-blob_read : (s : Schema) (t : Tree) → Answers s (bytes_read (read s t blob) and_then λ bytes. Ok (a_blob bytes)) (or_empty s blob (read s t blob))
+blob_read : (s : Schema) (t : Tree) → Answers s (bytes_read (read s t blob) and_then λ bytes. Ok (a_blob bytes)) (null_as_empty s blob (read s t blob))
 unfolding read
 blob_read s null = refl
 blob_read s (capability i) = refl
 blob_read s (structure w n ts) = refl
 blob_read s (plain_list size n section) = by (size == 2)
   where
-    by : (z : Bool) → Answers s (bytes_read (if z then blob_of (plain_elements size n section) else fault WrongElementSize) and_then λ bytes. Ok (a_blob bytes)) (or_empty s blob (if z then blob_of (plain_elements size n section) else fault WrongElementSize))
+    by : (z : Bool) → Answers s (bytes_read (if z then blob_of (plain_elements size n section) else fault WrongElementSize) and_then λ bytes. Ok (a_blob bytes)) (null_as_empty s blob (if z then blob_of (plain_elements size n section) else fault WrongElementSize))
     by true = refl
     by false = refl
 blob_read s (pointer_list ts) = refl
@@ -176,7 +176,7 @@ past_first below p i = by (nat_lt i 0) refl
     by true e = absurd (grind (arith, nat_tests))
     by false e = refl
 
-null_record : (n : ℕ) (g : Ground) (levels : Option ℕ) (left : ℕ) (s : Schema) (h : Shape) → levels ≡ Some left → n ≤ left → IsRecord s h (empty_struct g levels) (record_as (shape_record h whole_words 0 no_children))
+null_record : (n : ℕ) (g : Ground) (levels : Option ℕ) (left : ℕ) (s : Schema) (h : Shape) → levels ≡ Some left → n ≤ left → IsRecord s h (struct_of_null g levels) (record_as (shape_record h whole_words 0 no_children))
 unfolding read
 null_record n g levels left s h is enough = record {
   levels = n;
@@ -189,7 +189,7 @@ null_record n g levels left s h is enough = record {
 
 -- the record of a struct that was read
 struct_record : (m l : ℕ) (p : PointerView) (s : Schema) (id : ℕ) (v : StructView) (t : Tree) → Fits t → v.basis ≡ p.basis → (left : ℕ) → v.levels ≡ Some left → m ≤ left → ShowsStruct (tree_at m p.basis.segments) v t
-    → IsRecord s (s.shape_of id) v (or_empty s (struct id) (read s t (struct id)))
+    → IsRecord s (s.shape_of id) v (null_as_empty s (struct id) (read s t (struct id)))
 unfolding read
 struct_record m l p s id v null fits basis left levels enough shows =
     record { levels = m; extent = whole_words; section = 0; kids = none; stands = record { extent = (0, shows.1, subst (λ x. x < 2 ^ (64 * 0)) (sym shows.0) (omega arith)); same = shows.0; children = λ i. record { left = left; levels = levels; enough = enough; tree = ap (λ (g : Ground). reads_behind (tree_at m g.segments) (pointer_field v i).place) basis ∙ shows.2 i } }; is = ap (λ k. record_as (shape_record (s.shape_of id) whole_words 0 k)) (λ i j ty. null_pointer) }
@@ -222,11 +222,11 @@ list_left g l expected (object.Capability i) v e = absurd cc
 
 -- a list that was read is one for the model
 abbrev IsListOf : Schema → Ty → Tree → Type 0
-IsListOf s ty t = (rs : Readings) × (or_empty s (list ty) (read s t (list ty)) ≡ list_of rs)
+IsListOf s ty t = (rs : Readings) × (null_as_empty s (list ty) (read s t (list ty)) ≡ list_of rs)
 
 plain_items : (s : Schema) (ty : Ty) (size n section : ℕ) → is_list_of (plain_list size n section) ty ≡ true → IsListOf s ty (plain_list size n section)
 unfolding read
-plain_items s ty size n section h = (plain_readings s (size_bits size) (plain_elements size n section) ty, ap (λ b. or_empty s (list ty) (list_reading b (plain_readings s (size_bits size) (plain_elements size n section) ty))) h)
+plain_items s ty size n section h = (plain_readings s (size_bits size) (plain_elements size n section) ty, ap (λ b. null_as_empty s (list ty) (list_reading b (plain_readings s (size_bits size) (plain_elements size n section) ty))) h)
 
 elements_accepted : (l : ℕ) (expected : ElementSize) (view : Option ℕ → ListView) (size : ElementSize) (d k : ℕ) (v : ListView) (ty : Ty) → size_number expected ≡ expected_size ty → read_elements (Some (suc l)) expected view size d k ≡ Ok v
     → is_accepted_as (expected_size ty) (list_head size d k) ≡ true
@@ -251,15 +251,15 @@ list_items below g l expected s ty (object.List p InlineComposite n) t v same fi
 list_items below g l expected s ty (object.PointerList p n) t v same fits e h =
     let a = bind_some (each below (place_view p) n) _ t e in
     let ok = elements_accepted l expected _ Pointer 0 0 v ty same h in
-    subst (IsListOf s ty) (some_is _ t a.2) (pointer_elements s a.0 ty, ap (λ b. or_empty s (list ty) (list_reading b (pointer_elements s a.0 ty))) ok)
+    subst (IsListOf s ty) (some_is _ t a.2) (pointer_elements s a.0 ty, ap (λ b. null_as_empty s (list ty) (list_reading b (pointer_elements s a.0 ty))) ok)
 list_items below g l expected s ty (object.StructList p w n d k) t v same fits e h =
     let a = bind_some (each_element below (place_view p) (words_there g.segments (place_view p) w) d k n) _ t e in
     let ok = elements_accepted l expected _ InlineComposite d k v ty same h in
-    subst (IsListOf s ty) (some_is _ t a.2) (struct_elements s a.0 ty, ap (λ b. or_empty s (list ty) (list_reading b (struct_elements s a.0 ty))) ok)
+    subst (IsListOf s ty) (some_is _ t a.2) (struct_elements s a.0 ty, ap (λ b. null_as_empty s (list ty) (list_reading b (struct_elements s a.0 ty))) ok)
 
 -- ---- each type
 
-untyped_read : (s : Schema) (t : Tree) → or_empty s untyped (read s t untyped) ≡ opaque (trim t)
+untyped_read : (s : Schema) (t : Tree) → null_as_empty s untyped (read s t untyped) ≡ opaque (trim t)
 unfolding read trim
 untyped_read s null = refl
 untyped_read s (capability i) = refl
@@ -268,7 +268,7 @@ untyped_read s (plain_list size n section) = refl
 untyped_read s (pointer_list ts) = refl
 untyped_read s (struct_list w p es) = refl
 
-interface_read : (s : Schema) (t : Tree) → or_empty s interface (read s t interface) ≡ opaque (trim t)
+interface_read : (s : Schema) (t : Tree) → null_as_empty s interface (read s t interface) ≡ opaque (trim t)
 unfolding read trim
 interface_read s null = refl
 interface_read s (capability i) = refl
@@ -277,70 +277,70 @@ interface_read s (plain_list size n section) = refl
 interface_read s (pointer_list ts) = refl
 interface_read s (struct_list w p es) = refl
 
-module _ (n : ℕ) (p : PointerView) (t : Tree) (s : Schema) (leads : Leads n p t) where
-  text_case : BytesAreRead → Reach n p t → Answers s (opened s text p) (or_empty s text (read s t text))
+module _ (n : ℕ) (p : PointerView) (t : Tree) (s : Schema) (leads : LeadsToValue n p t) where
+  text_case : BytesAreRead → Reach n p t → Answers s (shown_behind s text p) (null_as_empty s text (read s t text))
   unfolding read
   text_case bytes (at_null pads e is) =
-      let P : Result Found Kind → Type 0 = λ r. Answers s ((r and_then λ f. read_text p.basis p.levels f.object) and_then λ bs. Ok (a_text bs)) (or_empty s text (read s t text)) in
-      subst P (sym e) (ap (λ u. or_empty s text (read s u text)) is)
+      let P : Result Found Kind → Type 0 = λ r. Answers s ((r and_then λ f. read_text p.basis p.levels f.object) and_then λ bs. Ok (a_text bs)) (null_as_empty s text (read s t text)) in
+      subst P (sym e) (ap (λ u. null_as_empty s text (read s u text)) is)
   text_case bytes (at_capability pads i e is) =
-      let P : Result Found Kind → Type 0 = λ r. Answers s ((r and_then λ f. read_text p.basis p.levels f.object) and_then λ bs. Ok (a_text bs)) (or_empty s text (read s t text)) in
-      subst P (sym e) (ap (λ u. or_empty s text (read s u text)) is)
+      let P : Result Found Kind → Type 0 = λ r. Answers s ((r and_then λ f. read_text p.basis p.levels f.object) and_then λ bs. Ok (a_text bs)) (null_as_empty s text (read s t text)) in
+      subst P (sym e) (ap (λ u. null_as_empty s text (read s u text)) is)
   text_case bytes (at_level m l q f e levels enough is) =
-      let P : Result Found Kind → Type 0 = λ r. Answers s ((r and_then λ f. read_text p.basis p.levels f.object) and_then λ bs. Ok (a_text bs)) (or_empty s text (read s t text)) in
-      let Q : Result (List ℕ) Kind → Type 0 = λ r. Answers s (r and_then λ bs. Ok (a_text bs)) (or_empty s text (read s t text)) in
+      let P : Result Found Kind → Type 0 = λ r. Answers s ((r and_then λ f. read_text p.basis p.levels f.object) and_then λ bs. Ok (a_text bs)) (null_as_empty s text (read s t text)) in
+      let Q : Result (List ℕ) Kind → Type 0 = λ r. Answers s (r and_then λ bs. Ok (a_text bs)) (null_as_empty s text (read s t text)) in
       subst P (sym e) (subst Q (sym (bytes m q f t p.basis p.levels s is).1) (text_read s t))
 
-  blob_case : BytesAreRead → Reach n p t → Answers s (opened s blob p) (or_empty s blob (read s t blob))
+  blob_case : BytesAreRead → Reach n p t → Answers s (shown_behind s blob p) (null_as_empty s blob (read s t blob))
   unfolding read
   blob_case bytes (at_null pads e is) =
-      let P : Result Found Kind → Type 0 = λ r. Answers s ((r and_then λ f. read_blob p.basis p.levels f.object) and_then λ bs. Ok (a_blob bs)) (or_empty s blob (read s t blob)) in
-      subst P (sym e) (ap (λ u. or_empty s blob (read s u blob)) is)
+      let P : Result Found Kind → Type 0 = λ r. Answers s ((r and_then λ f. read_blob p.basis p.levels f.object) and_then λ bs. Ok (a_blob bs)) (null_as_empty s blob (read s t blob)) in
+      subst P (sym e) (ap (λ u. null_as_empty s blob (read s u blob)) is)
   blob_case bytes (at_capability pads i e is) =
-      let P : Result Found Kind → Type 0 = λ r. Answers s ((r and_then λ f. read_blob p.basis p.levels f.object) and_then λ bs. Ok (a_blob bs)) (or_empty s blob (read s t blob)) in
-      subst P (sym e) (ap (λ u. or_empty s blob (read s u blob)) is)
+      let P : Result Found Kind → Type 0 = λ r. Answers s ((r and_then λ f. read_blob p.basis p.levels f.object) and_then λ bs. Ok (a_blob bs)) (null_as_empty s blob (read s t blob)) in
+      subst P (sym e) (ap (λ u. null_as_empty s blob (read s u blob)) is)
   blob_case bytes (at_level m l q f e levels enough is) =
-      let P : Result Found Kind → Type 0 = λ r. Answers s ((r and_then λ f. read_blob p.basis p.levels f.object) and_then λ bs. Ok (a_blob bs)) (or_empty s blob (read s t blob)) in
-      let Q : Result (List ℕ) Kind → Type 0 = λ r. Answers s (r and_then λ bs. Ok (a_blob bs)) (or_empty s blob (read s t blob)) in
+      let P : Result Found Kind → Type 0 = λ r. Answers s ((r and_then λ f. read_blob p.basis p.levels f.object) and_then λ bs. Ok (a_blob bs)) (null_as_empty s blob (read s t blob)) in
+      let Q : Result (List ℕ) Kind → Type 0 = λ r. Answers s (r and_then λ bs. Ok (a_blob bs)) (null_as_empty s blob (read s t blob)) in
       subst P (sym e) (subst Q (sym (bytes m q f t p.basis p.levels s is).0) (blob_read s t))
 
-  struct_case : StructsAreRead → (id : ℕ) → Reach n p t → Answers s (opened s (struct id) p) (or_empty s (struct id) (read s t (struct id)))
+  struct_case : StructsAreRead → (id : ℕ) → Reach n p t → Answers s (shown_behind s (struct id) p) (null_as_empty s (struct id) (read s t (struct id)))
   unfolding read
   struct_case structs id (at_null pads e is) =
-      let R : Tree → Reading = λ u. or_empty s (struct id) (read s u (struct id)) in
+      let R : Tree → Reading = λ u. null_as_empty s (struct id) (read s u (struct id)) in
       let P : Result Found Kind → Type 0 = λ r. Answers s ((r and_then λ f. read_struct p.basis p.levels f.object) and_then λ v. Ok (a_struct s (s.shape_of id) v)) (R t) in
-      let Q : Tree → Type 0 = λ u. (s ≡ s) × IsRecord s (s.shape_of id) (empty_struct p.basis p.levels) (R u) in
+      let Q : Tree → Type 0 = λ u. (s ≡ s) × IsRecord s (s.shape_of id) (struct_of_null p.basis p.levels) (R u) in
       subst P (sym e) (subst Q (sym is) (refl, null_record n p.basis p.levels leads.left s (s.shape_of id) leads.levels leads.enough))
   struct_case structs id (at_capability pads i e is) =
-      let P : Result Found Kind → Type 0 = λ r. Answers s ((r and_then λ f. read_struct p.basis p.levels f.object) and_then λ v. Ok (a_struct s (s.shape_of id) v)) (or_empty s (struct id) (read s t (struct id))) in
-      subst P (sym e) (ap (λ u. or_empty s (struct id) (read s u (struct id))) is)
+      let P : Result Found Kind → Type 0 = λ r. Answers s ((r and_then λ f. read_struct p.basis p.levels f.object) and_then λ v. Ok (a_struct s (s.shape_of id) v)) (null_as_empty s (struct id) (read s t (struct id))) in
+      subst P (sym e) (ap (λ u. null_as_empty s (struct id) (read s u (struct id))) is)
   struct_case structs id (at_level m l q f e levels enough is) =
-      let P : Result Found Kind → Type 0 = λ r. Answers s ((r and_then λ f. read_struct p.basis p.levels f.object) and_then λ v. Ok (a_struct s (s.shape_of id) v)) (or_empty s (struct id) (read s t (struct id))) in
+      let P : Result Found Kind → Type 0 = λ r. Answers s ((r and_then λ f. read_struct p.basis p.levels f.object) and_then λ v. Ok (a_struct s (s.shape_of id) v)) (null_as_empty s (struct id) (read s t (struct id))) in
       subst P (sym e) (by (read_struct p.basis p.levels f.object) refl)
     where
-      by : (r : Result StructView Kind) → read_struct p.basis p.levels f.object ≡ r → Answers s (r and_then λ v. Ok (a_struct s (s.shape_of id) v)) (or_empty s (struct id) (read s t (struct id)))
+      by : (r : Result StructView Kind) → read_struct p.basis p.levels f.object ≡ r → Answers s (r and_then λ v. Ok (a_struct s (s.shape_of id) v)) (null_as_empty s (struct id) (read s t (struct id)))
       by (Ok v) h =
           let k = struct_left p.basis l f.object v (ap (λ lv. read_struct p.basis lv f.object) (sym levels) ∙ h) in
           (refl, struct_record m l p s id v t (tree_at_fits (suc m) p.basis.segments q t is.tree) k.0 k.1 k.2 (omega arith) ((structs m q f t p.basis p.levels is).0 v h))
-      by (Err kind) h = ap (or_empty s (struct id)) ((structs m q f t p.basis p.levels is).1 kind s id h)
+      by (Err kind) h = ap (null_as_empty s (struct id)) ((structs m q f t p.basis p.levels is).1 kind s id h)
 
-  list_case : TreesByLevels → ListsAreRead → (ty : Ty) → Reach n p t → Answers s (opened s (list ty) p) (or_empty s (list ty) (read s t (list ty)))
+  list_case : TreesByLevels → ListsAreRead → (ty : Ty) → Reach n p t → Answers s (shown_behind s (list ty) p) (null_as_empty s (list ty) (read s t (list ty)))
   unfolding read
   list_case trees lists ty (at_null pads e is) =
-      let R : Tree → Reading = λ u. or_empty s (list ty) (read s u (list ty)) in
+      let R : Tree → Reading = λ u. null_as_empty s (list ty) (read s u (list ty)) in
       let P : Result Found Kind → Type 0 = λ r. Answers s ((r and_then λ f. read_list p.basis p.levels (size_of ty) f.object) and_then λ v. Ok (a_list s ty v)) (R t) in
       let v : ListView = list_view p.basis (size_of ty) 0 0 root 0 0 p.levels in
       let items : AreItems s ty v (R null) = record { levels = n; tree = null; lists = record { left = leads.left; levels = leads.levels; enough = leads.enough; shows = refl }; items = no_readings; reads = refl; is = refl } in
       let Q : Tree → Type 0 = λ u. (s ≡ s) × AreItems s ty v (R u) in
       subst P (sym e) (subst Q (sym is) (refl, items))
   list_case trees lists ty (at_capability pads i e is) =
-      let P : Result Found Kind → Type 0 = λ r. Answers s ((r and_then λ f. read_list p.basis p.levels (size_of ty) f.object) and_then λ v. Ok (a_list s ty v)) (or_empty s (list ty) (read s t (list ty))) in
-      subst P (sym e) (ap (λ u. or_empty s (list ty) (read s u (list ty))) is)
+      let P : Result Found Kind → Type 0 = λ r. Answers s ((r and_then λ f. read_list p.basis p.levels (size_of ty) f.object) and_then λ v. Ok (a_list s ty v)) (null_as_empty s (list ty) (read s t (list ty))) in
+      subst P (sym e) (ap (λ u. null_as_empty s (list ty) (read s u (list ty))) is)
   list_case trees lists ty (at_level m l q f e levels enough is) =
-      let P : Result Found Kind → Type 0 = λ r. Answers s ((r and_then λ f. read_list p.basis p.levels (size_of ty) f.object) and_then λ v. Ok (a_list s ty v)) (or_empty s (list ty) (read s t (list ty))) in
+      let P : Result Found Kind → Type 0 = λ r. Answers s ((r and_then λ f. read_list p.basis p.levels (size_of ty) f.object) and_then λ v. Ok (a_list s ty v)) (null_as_empty s (list ty) (read s t (list ty))) in
       subst P (sym e) (by (read_list p.basis p.levels (size_of ty) f.object) refl)
     where
-      by : (r : Result ListView Kind) → read_list p.basis p.levels (size_of ty) f.object ≡ r → Answers s (r and_then λ v. Ok (a_list s ty v)) (or_empty s (list ty) (read s t (list ty)))
+      by : (r : Result ListView Kind) → read_list p.basis p.levels (size_of ty) f.object ≡ r → Answers s (r and_then λ v. Ok (a_list s ty v)) (null_as_empty s (list ty) (read s t (list ty)))
       by (Ok v) h =
           let k = list_left p.basis l (size_of ty) f.object v (ap (λ lv. read_list p.basis lv (size_of ty) f.object) (sym levels) ∙ h) in
           let shows : ShowsList (tree_at m p.basis.segments) v t = (lists m q f t p.basis p.levels (size_of ty) is).0 v h in
@@ -348,7 +348,7 @@ module _ (n : ℕ) (p : PointerView) (t : Tree) (s : Schema) (leads : Leads n p 
           let there : tree_in p.basis.segments (tree_at m p.basis.segments) f.object ≡ Some t = sym (trees m p.basis.segments q f is.found) ∙ is.tree in
           let items = list_items (tree_at m p.basis.segments) p.basis l (size_of ty) s ty f.object t v (size_asked ty) (tree_at_fits (suc m) p.basis.segments q t is.tree) there (ap (λ lv. read_list p.basis lv (size_of ty) f.object) (sym levels) ∙ h) in
           (refl, record { levels = m; tree = t; lists = record { left = k.1; levels = k.2; enough = omega arith; shows = subst P (sym k.0) shows }; items = items.0; reads = items.1; is = items.1 })
-      by (Err kind) h = ap (or_empty s (list ty)) ((lists m q f t p.basis p.levels (size_of ty) is).1 kind s ty (size_asked ty) h)
+      by (Err kind) h = ap (null_as_empty s (list ty)) ((lists m q f t p.basis p.levels (size_of ty) is).1 kind s ty (size_asked ty) h)
 
 pub pointers : TreesByLevels → BytesAreRead → StructsAreRead → ListsAreRead → PointersAreRead
 pointers trees bytes structs lists n p t s void pointer leads = absurd pointer

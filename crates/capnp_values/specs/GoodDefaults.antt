@@ -5,20 +5,20 @@ use Rattle.capnp_model.specs.Schemas.{Ty, type_of, Value, no_value, bits, text_b
 use Rattle.capnp_model.specs.Accepted.{is_default_of, opens_as, is_good_value}
 
 -- The bytes of a text or of data are bytes.
-abbrev pub HasBytes : Value → Type 0
-HasBytes (text_bytes bytes) = AllByRecursion (λ b. b < 2 ^ 8) bytes
-HasBytes (blob_bytes bytes) = AllByRecursion (λ b. b < 2 ^ 8) bytes
-HasBytes no_value = Unit {0}
-HasBytes (bits p n) = Unit {0}
-HasBytes (list_segment bytes) = Unit {0}
-HasBytes (struct_segment bytes) = Unit {0}
-HasBytes untyped_value = Unit {0}
-HasBytes interface_value = Unit {0}
+abbrev pub HoldsOnlyBytes : Value → Type 0
+HoldsOnlyBytes (text_bytes bytes) = AllByRecursion (λ b. b < 2 ^ 8) bytes
+HoldsOnlyBytes (blob_bytes bytes) = AllByRecursion (λ b. b < 2 ^ 8) bytes
+HoldsOnlyBytes no_value = Unit {0}
+HoldsOnlyBytes (bits p n) = Unit {0}
+HoldsOnlyBytes (list_segment bytes) = Unit {0}
+HoldsOnlyBytes (struct_segment bytes) = Unit {0}
+HoldsOnlyBytes untyped_value = Unit {0}
+HoldsOnlyBytes interface_value = Unit {0}
 
 -- The default, if there is one, is of the type, and a struct or a list a canonical value that reads as it.
 abbrev pub IsGoodDefault : Ty → Option Value → Type 0
 IsGoodDefault ty None = Unit {0}
-IsGoodDefault ty (Some d) = (is_default_of ty (Some d) ≡ true) × (is_good_value (λ t. opens_as t ty) (Some d) ≡ true) × HasBytes d
+IsGoodDefault ty (Some d) = (is_default_of ty (Some d) ≡ true) × (is_good_value (λ t. opens_as t ty) (Some d) ≡ true) × HoldsOnlyBytes d
 
 -- The field's default does so.
 abbrev pub KeepsDefault : FieldKind → Type 0

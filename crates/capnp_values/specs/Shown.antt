@@ -5,23 +5,23 @@ use Rattle.capnp_model.specs.Kinds.{Kind}
 use Rattle.capnp_model.specs.Chains.{◌and_then◌}
 use Rattle.capnp_model.specs.Schemas.{PlainType, bool, int, uint, «enum», width, Ty, void, plain, text, blob, untyped, interface, struct, list, Value as ModelValue, no_value, bits, text_bytes, blob_bytes, list_segment, struct_segment, untyped_value, interface_value, type_of, FieldKind, slot, group, Field as FieldNode, Shape, Schema, Body, void_slot, plain_slot, pointer_slot, group_slot}
 use Rattle.capnp_model.specs.Readings.{just_bits, discriminant, is_active}
-use Rattle.capnp_queries.specs.Fields.{union_in, place_of_member, place_of_name}
-use Rattle.capnp_queries.specs.declared.structs.StructSchema.{StructSchema}
+use Rattle.capnp_values_queries.specs.Fields.{union_in, place_of_member, place_of_name}
+use Rattle.capnp_values_queries.specs.declared.structs.StructSchema.{StructSchema}
 use Rattle.capnp_units.specs.Items.{items_from, items_left}
 use Rattle.capnp_units.specs.declared.iter.ItemIter.{ItemIter}
 use Rattle.capnp_units.specs.declared.errors.Error.{Error}
 use Rattle.capnp_units.specs.declared.kinds.ErrorKind.TheVariants.{FieldNotFound}
-use Rattle.capnp_object.specs.Places.{seen}
-use Rattle.capnp_wire.specs.Views.{PointerView, StructView, ListView, pointer_field, element_of, element_number, bit_of_bool}
-use Rattle.capnp_wire.specs.Reads.{is_null, read_struct, read_blob, read_text, read_list}
-use Rattle.capnp_queries.specs.Types.{ty_of}
-use Rattle.capnp_queries.specs.Structs.{shape_of_struct, schema_around, fields_of_struct}
-use Rattle.capnp_queries.specs.Enums.{nodes_of_enum, enum_id, enumerant_count}
-use Rattle.capnp_queries.specs.Ordinals.{seen_enumerant}
-use Rattle.capnp_queries.specs.declared.enums.EnumSchema.{EnumSchema}
-use Rattle.capnp_queries.specs.declared.enumerants.Enumerant.{Enumerant}
-use Rattle.capnp_queries.specs.Handles.{entry_of, IsFieldRecord, IsFieldAt}
-use Rattle.capnp_queries.specs.declared.fields.Field.{Field}
+use Rattle.capnp_wire_objects.specs.Places.{seen}
+use Rattle.capnp_wire.specs.Views.{PointerView, StructView, ListView, pointer_field, element_as_struct, element_number, bit_of_bool}
+use Rattle.capnp_wire.specs.Reads.{is_null_pointer, read_struct, read_blob, read_text, read_list}
+use Rattle.capnp_values_queries.specs.Types.{ty_of}
+use Rattle.capnp_values_queries.specs.Structs.{shape_of_struct, schema_around, fields_of_struct}
+use Rattle.capnp_values_queries.specs.Enums.{nodes_of_enum, enum_id, enumerant_count}
+use Rattle.capnp_values_queries.specs.Ordinals.{seen_enumerant}
+use Rattle.capnp_values_queries.specs.declared.enums.EnumSchema.{EnumSchema}
+use Rattle.capnp_values_queries.specs.declared.enumerants.Enumerant.{Enumerant}
+use Rattle.capnp_values_queries.specs.Handles.{entry_of_field, IsFieldRecord, IsFieldAt}
+use Rattle.capnp_values_queries.specs.declared.fields.Field.{Field}
 use Rattle.capnp_records.specs.Sets.{nodes_of}
 use Rattle.capnp_records.specs.declared.set.SchemaSet.{SchemaSet}
 use Rattle.capnp_model.specs.Accepted.{schema_of, default_bits}
@@ -60,26 +60,26 @@ number_shown s (uint w) n = a_number (plain (uint w)) n
 number_shown s («enum» id) n = an_enum s id n
 
 -- What a pointer shows under a type, else the kind of its fault; null shows the empty value.
-abbrev pub opened : Schema → Ty → PointerView → Result Shown Kind
-opened s void p = Ok (a_number void 0)
-opened s (plain q) p = Ok (a_number void 0)
-opened s text p = read_behind (read_text p.basis p.levels) p and_then λ bytes. Ok (a_text bytes)
-opened s blob p = read_behind (read_blob p.basis p.levels) p and_then λ bytes. Ok (a_blob bytes)
-opened s untyped p = Ok (a_pointer p)
-opened s interface p = Ok a_capability
-opened s (struct id) p = read_behind (read_struct p.basis p.levels) p and_then λ v. Ok (a_struct s (s.shape_of id) v)
-opened s (list ty) p = read_behind (read_list p.basis p.levels (size_of ty)) p and_then λ l. Ok (a_list s ty l)
+abbrev pub shown_behind : Schema → Ty → PointerView → Result Shown Kind
+shown_behind s void p = Ok (a_number void 0)
+shown_behind s (plain q) p = Ok (a_number void 0)
+shown_behind s text p = read_behind (read_text p.basis p.levels) p and_then λ bytes. Ok (a_text bytes)
+shown_behind s blob p = read_behind (read_blob p.basis p.levels) p and_then λ bytes. Ok (a_blob bytes)
+shown_behind s untyped p = Ok (a_pointer p)
+shown_behind s interface p = Ok a_capability
+shown_behind s (struct id) p = read_behind (read_struct p.basis p.levels) p and_then λ v. Ok (a_struct s (s.shape_of id) v)
+shown_behind s (list ty) p = read_behind (read_list p.basis p.levels (size_of ty)) p and_then λ l. Ok (a_list s ty l)
 
 -- What a struct or a list as a default shows; other types have none.
 abbrev pub segment_opened : Schema → Ty → PointerView → List ℕ → Result Shown Kind
-segment_opened s void p bytes = opened s void p
-segment_opened s (plain q) p bytes = opened s (plain q) p
-segment_opened s text p bytes = opened s text p
-segment_opened s blob p bytes = opened s blob p
-segment_opened s untyped p bytes = opened s untyped p
-segment_opened s interface p bytes = opened s interface p
-segment_opened s (struct id) p bytes = opened s (struct id) (default_pointer bytes)
-segment_opened s (list ty) p bytes = opened s (list ty) (default_pointer bytes)
+segment_opened s void p bytes = shown_behind s void p
+segment_opened s (plain q) p bytes = shown_behind s (plain q) p
+segment_opened s text p bytes = shown_behind s text p
+segment_opened s blob p bytes = shown_behind s blob p
+segment_opened s untyped p bytes = shown_behind s untyped p
+segment_opened s interface p bytes = shown_behind s interface p
+segment_opened s (struct id) p bytes = shown_behind s (struct id) (default_pointer bytes)
+segment_opened s (list ty) p bytes = shown_behind s (list ty) (default_pointer bytes)
 
 -- What a default shows in place of a null pointer.
 abbrev pub default_opened : Schema → Ty → PointerView → ModelValue → Result Shown Kind
@@ -87,15 +87,15 @@ default_opened s ty p (text_bytes bytes) = Ok (a_text bytes)
 default_opened s ty p (blob_bytes bytes) = Ok (a_blob bytes)
 default_opened s ty p (list_segment bytes) = segment_opened s ty p bytes
 default_opened s ty p (struct_segment bytes) = segment_opened s ty p bytes
-default_opened s ty p no_value = opened s ty p
-default_opened s ty p (bits q n) = opened s ty p
-default_opened s ty p untyped_value = opened s ty p
-default_opened s ty p interface_value = opened s ty p
+default_opened s ty p no_value = shown_behind s ty p
+default_opened s ty p (bits q n) = shown_behind s ty p
+default_opened s ty p untyped_value = shown_behind s ty p
+default_opened s ty p interface_value = shown_behind s ty p
 
 -- What a pointer slot shows: a null one its default.
 abbrev pub slot_opened : Schema → Ty → Option ModelValue → PointerView → Result Shown Kind
-slot_opened s ty None p = opened s ty p
-slot_opened s ty (Some d) p = if is_null p then default_opened s ty p d else opened s ty p
+slot_opened s ty None p = shown_behind s ty p
+slot_opened s ty (Some d) p = if is_null_pointer p then default_opened s ty p d else shown_behind s ty p
 
 -- What a plain slot shows of a struct, by its offset and the bits of its default.
 abbrev pub plain_shown : Schema → StructView → PlainType → ℕ → ℕ → Shown
@@ -126,12 +126,12 @@ kind_shown s v (group id) = Ok (a_struct s (s.shape_of id) v)
 abbrev pub element_shown : Schema → Ty → ListView → ℕ → Result Shown Kind
 element_shown s void l i = Ok (a_number void 0)
 element_shown s (plain p) l i = Ok (number_shown s p (element_number l i (width p)))
-element_shown s (struct id) l i = Ok (a_struct s (s.shape_of id) (element_of l i))
-element_shown s text l i = opened s text (pointer_field (element_of l i) 0)
-element_shown s blob l i = opened s blob (pointer_field (element_of l i) 0)
-element_shown s untyped l i = opened s untyped (pointer_field (element_of l i) 0)
-element_shown s interface l i = opened s interface (pointer_field (element_of l i) 0)
-element_shown s (list ty) l i = opened s (list ty) (pointer_field (element_of l i) 0)
+element_shown s (struct id) l i = Ok (a_struct s (s.shape_of id) (element_as_struct l i))
+element_shown s text l i = shown_behind s text (pointer_field (element_as_struct l i) 0)
+element_shown s blob l i = shown_behind s blob (pointer_field (element_as_struct l i) 0)
+element_shown s untyped l i = shown_behind s untyped (pointer_field (element_as_struct l i) 0)
+element_shown s interface l i = shown_behind s interface (pointer_field (element_as_struct l i) 0)
+element_shown s (list ty) l i = shown_behind s (list ty) (pointer_field (element_as_struct l i) 0)
 
 -- What a value shows.
 abbrev pub shown : {A : Type 0} → (A → List (List ℕ)) → Reader A → Shown
@@ -184,16 +184,16 @@ abbrev pub is_null_slot : StructView → Option Body → Bool
 is_null_slot v None = false
 is_null_slot v (Some (void_slot j)) = false
 is_null_slot v (Some (plain_slot p at d)) = false
-is_null_slot v (Some (pointer_slot i ty d)) = is_null (pointer_field v i)
+is_null_slot v (Some (pointer_slot i ty d)) = is_null_pointer (pointer_field v i)
 is_null_slot v (Some (group_slot g)) = false
 
 -- The field is no inactive member.
 abbrev pub is_active_in : StructView → Field → Bool
-is_active_in v f = is_active_field (discriminant_shown f.parent v) (option_map (λ e. e.member) (entry_of f))
+is_active_in v f = is_active_field (discriminant_shown f.parent v) (option_map (λ e. e.member) (entry_of_field f))
 
 -- The field lies behind a null pointer.
 abbrev pub is_null_in : StructView → Field → Bool
-is_null_in v f = is_null_slot v (option_map (λ e. e.body) (entry_of f))
+is_null_in v f = is_null_slot v (option_map (λ e. e.body) (entry_of_field f))
 
 -- The field is no inactive member, and no null pointer.
 abbrev pub has_field : StructView → Field → Bool
@@ -221,6 +221,6 @@ AnswersNamed s name answers r =
 
 -- ---- enumerants
 
--- The enumerant of a value, if the enum has so many.
+-- The enumerant of a value, if the enum has one of this number.
 abbrev pub IsEnumerantAt : EnumSchema → ℕ → Option Enumerant → Type 0
 IsEnumerantAt s value found = option_map seen_enumerant found ≡ (if nat_lt value (enumerant_count s) then Some (s, value) else None)

@@ -10,7 +10,7 @@ use Rattle.capnp_model.specs.Kinds.{Kind}
 use Rattle.capnp_model.specs.Chains.{◌and_then◌}
 use Rattle.capnp_model.specs.Segments.{root}
 use Rattle.capnp_units.specs.Segments.{words_in}
-use Rattle.capnp_object.specs.declared.object.Object.{Object}
+use Rattle.capnp_wire_objects.specs.declared.object.Object.{Object}
 use Rattle.capnp_wire.specs.Views.{PointerView, seen_pointer, StructView, seen_struct, ListView, seen_list}
 use Rattle.capnp_wire.specs.Reads.{object_behind, read_text, read_blob, read_struct, read_list, unless_null, default_root}
 use Rattle.capnp_values.specs.declared.defaults.Defaults.{Defaults}
@@ -26,21 +26,21 @@ abbrev pub read_behind : {Y : Type 0} → (Object → Result Y Kind) → Pointer
 read_behind read p = object_behind p and_then λ f. read f.object
 
 -- The text behind a pointer, its data, its struct, and its list with elements of an expected size.
-abbrev pub text_at : PointerView → Result (List ℕ) Kind
-text_at p = read_behind (read_text p.basis p.levels) p
+abbrev pub pointed_text : PointerView → Result (List ℕ) Kind
+pointed_text p = read_behind (read_text p.basis p.levels) p
 
-abbrev pub data_at : PointerView → Result (List ℕ) Kind
-data_at p = read_behind (read_blob p.basis p.levels) p
+abbrev pub pointed_data : PointerView → Result (List ℕ) Kind
+pointed_data p = read_behind (read_blob p.basis p.levels) p
 
-abbrev pub struct_at : PointerView → Result StructView Kind
-struct_at p = read_behind (read_struct p.basis p.levels) p
+abbrev pub pointed_struct : PointerView → Result StructView Kind
+pointed_struct p = read_behind (read_struct p.basis p.levels) p
 
-abbrev pub list_at : ElementSize → PointerView → Result ListView Kind
-list_at size p = read_behind (read_list p.basis p.levels size) p
+abbrev pub pointed_list : ElementSize → PointerView → Result ListView Kind
+pointed_list size p = read_behind (read_list p.basis p.levels size) p
 
 -- The one segment of the arena in which defaults are read: a null root.
-abbrev pub default_segments : Defaults → List (List ℕ)
-default_segments d = replicate 8 0 ∷ []
+abbrev pub null_root_segments : Defaults → List (List ℕ)
+null_root_segments d = replicate 8 0 ∷ []
 
 -- The null pointer in whose place a default is read.
 abbrev pub null_default : PointerView
@@ -53,17 +53,17 @@ default_pointer bytes = unless_null null_default (default_root (first_chunks 8 (
 -- The pointer.
 abbrev pub pointer_seen : {A : Type 0} → (A → List (List ℕ)) → PointerSource A → PointerView
 pointer_seen bytes (pointer.Message p) = seen_pointer bytes p
-pointer_seen bytes (pointer.Default p) = seen_pointer default_segments p
+pointer_seen bytes (pointer.Default p) = seen_pointer null_root_segments p
 
 -- The struct.
 abbrev pub struct_seen : {A : Type 0} → (A → List (List ℕ)) → StructSource A → StructView
 struct_seen bytes (structure.Message s) = seen_struct bytes s
-struct_seen bytes (structure.Default s) = seen_struct default_segments s
+struct_seen bytes (structure.Default s) = seen_struct null_root_segments s
 
 -- The list.
 abbrev pub list_seen : {A : Type 0} → (A → List (List ℕ)) → ListSource A → ListView
 list_seen bytes (list.Message l) = seen_list bytes l
-list_seen bytes (list.Default l) = seen_list default_segments l
+list_seen bytes (list.Default l) = seen_list null_root_segments l
 
 -- The bits of a field of a struct, exclusive or those of its default; outside the section there are zeros.
 abbrev pub masked_bits : StructView → ℕ → ℕ → ℕ → ℕ

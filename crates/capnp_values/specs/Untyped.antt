@@ -2,7 +2,7 @@
 use Rattle.std.specs.Prelude.{List, ℕ, ◌≡◌, Result, Ok}
 use Rattle.capnp_units.specs.declared.errors.Error.{Error}
 use Rattle.capnp_units.specs.declared.limiter.ReadLimiter.{ReadLimiter}
-use Rattle.capnp_object.specs.Places.{seen}
+use Rattle.capnp_wire_objects.specs.Places.{seen}
 use Rattle.capnp_wire.specs.Views.{PointerView}
 use Rattle.capnp_values.specs.declared.any_pointer.Reader.{Reader}
 use Rattle.capnp_values.specs.Sources.{pointer_seen}

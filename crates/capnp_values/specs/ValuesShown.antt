@@ -7,8 +7,8 @@ use Rattle.capnp_model.specs.Readings.{Reading, number, text_of, blob_of, opaque
 use Rattle.capnp_model.specs.Decoding.{decode}
 use Rattle.capnp_model.specs.Accepted.{same_plain, is_good_value}
 use Rattle.capnp_values.specs.Sources.{null_default, default_pointer}
-use Rattle.capnp_values.specs.Shown.{Shown, a_number, a_text, a_blob, a_pointer, a_capability, number_shown, opened}
-use Rattle.capnp_values.specs.Standing.{or_empty, Answers}
+use Rattle.capnp_values.specs.Shown.{Shown, a_number, a_text, a_blob, a_pointer, a_capability, number_shown, shown_behind}
+use Rattle.capnp_values.specs.Standing.{null_as_empty, Answers}
 
 -- What a value shows under a type of its sort; an untyped one is null. Under one of another sort it is refused.
 abbrev pub value_shown : Schema → Ty → Value → Result Shown Kind
@@ -18,8 +18,8 @@ value_shown s text (text_bytes bytes) = Ok (a_text bytes)
 value_shown s blob (blob_bytes bytes) = Ok (a_blob bytes)
 value_shown s untyped untyped_value = Ok (a_pointer null_default)
 value_shown s interface interface_value = Ok a_capability
-value_shown s (struct id) (struct_segment bytes) = opened s (struct id) (default_pointer bytes)
-value_shown s (list ty) (list_segment bytes) = opened s (list ty) (default_pointer bytes)
+value_shown s (struct id) (struct_segment bytes) = shown_behind s (struct id) (default_pointer bytes)
+value_shown s (list ty) (list_segment bytes) = shown_behind s (list ty) (default_pointer bytes)
 value_shown s ty v = Err TypeMismatch
 
 -- The value is of the type's sort.
@@ -40,8 +40,8 @@ value_reading s ty no_value = number 0
 value_reading s ty (bits p n) = number n
 value_reading s ty (text_bytes bytes) = text_of bytes
 value_reading s ty (blob_bytes bytes) = blob_of bytes
-value_reading s ty (list_segment bytes) = or_empty s ty (read s (default_or_null (decode bytes)) ty)
-value_reading s ty (struct_segment bytes) = or_empty s ty (read s (default_or_null (decode bytes)) ty)
+value_reading s ty (list_segment bytes) = null_as_empty s ty (read s (default_or_null (decode bytes)) ty)
+value_reading s ty (struct_segment bytes) = null_as_empty s ty (read s (default_or_null (decode bytes)) ty)
 value_reading s ty untyped_value = opaque null
 value_reading s ty interface_value = opaque null
 

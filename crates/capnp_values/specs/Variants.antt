@@ -3,7 +3,7 @@ use Rattle.std.specs.Prelude.{ℕ, ℤ, Bool, false, ◌==◌, List, ◌≡◌, 
 use Rattle.std.specs.Borrow.{Bor}
 use Rattle.capnp_model.specs.Schemas.{Ty, void, plain, text, blob, untyped, interface, struct, list}
 use Rattle.capnp_wire.specs.declared.structs.StructReader.{StructReader}
-use Rattle.capnp_queries.specs.Structs.{id_of}
+use Rattle.capnp_values_queries.specs.Structs.{id_of}
 use Rattle.capnp_text.specs.declared.text.Reader.{Reader as Text}
 use Rattle.capnp_values.specs.declared.any_pointer.Reader.{Reader as Untyped}
 use Rattle.capnp_values.specs.declared.dynamic_list.Reader.{Reader as DynamicList}
@@ -125,5 +125,5 @@ abbrev pub fits_struct : {A : Type 0} → Ty → Reader A → Bool
 fits_struct ty v = elim (struct_in v) [ None ↦ false | Some r ↦ fits_type ty r ]
 
 -- The reader of the struct that the value is.
-abbrev pub struct_behind : {A : Type 0} → Reader A → Option (StructReader A)
-struct_behind v = elim (struct_in v) [ None ↦ None | Some r ↦ message_struct r.source ]
+abbrev pub message_struct_in : {A : Type 0} → Reader A → Option (StructReader A)
+message_struct_in v = elim (struct_in v) [ None ↦ None | Some r ↦ message_struct r.source ]

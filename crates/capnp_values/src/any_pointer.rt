@@ -2,23 +2,23 @@
 ghost use Rattle.std.specs.Prelude.{◌≡◌, Result, Ok, option_copied};
 ghost use Rattle.capnp_model.specs.Schemas.{untyped};
 ghost use Rattle.capnp_units.specs.declared.errors.Error.{Error};
-ghost use Rattle.capnp_object.specs.Places.{seen};
+ghost use Rattle.capnp_wire_objects.specs.Places.{seen};
 ghost use Rattle.capnp_wire.specs.Views.{PointerView, seen_pointer};
-ghost use Rattle.capnp_wire.specs.Reads.{is_null, with_default};
+ghost use Rattle.capnp_wire.specs.Reads.{is_null_pointer, with_default};
 ghost use Rattle.capnp_wire.specs.ValueSizes.{PointerSize};
-ghost use Rattle.capnp_values.specs.Sources.{pointer_seen, WithoutLimit, text_at, data_at};
+ghost use Rattle.capnp_values.specs.Sources.{pointer_seen, WithoutLimit, pointed_text, pointed_data};
 ghost use Rattle.capnp_values.specs.Untyped.{IsUntyped};
 
 use crate::source::PointerSource;
-use capnp_queries::introspect::{Introspect, Type, TypeVariant};
 use capnp_text::text;
 use capnp_units::errors::Result;
 use capnp_units::limiter::ReadLimiter;
 use capnp_units::sizes::{MessageSize, Word};
-use capnp_wire::arena::ReaderArena;
+use capnp_values_queries::introspect::{Introspect, Type, TypeVariant};
 use capnp_wire::pointer::PointerReader;
 use capnp_wire::traits;
 use capnp_wire::traits::FromPointerReader;
+use capnp_wire_objects::arena::ReaderArena;
 
 /// A pointer of no type, of a message or of a default.
 #[derive_where(Clone, Copy)]
@@ -52,12 +52,14 @@ impl<'a, A: ReaderArena> Reader<'a, A> {
 
     /// Whether there is no pointer here, or a word of zeros.
     pub fn is_null(&self) -> bool
-        ensures { result ≡ is_null (pointer_seen A.segments self.now.source) }
+        ensures { result ≡ is_null_pointer (pointer_seen A.segments self.now.source) }
     {
         self.source.is_null()
     }
 
-    /// The words and the capabilities of the pointer's value, without pads and the pointer itself. It is refused as `PointerReader::total_size` is where there is no limit of words, and bounded in time and stack likewise.
+    /// The words and the capabilities of the pointer's value, without pads and the pointer itself.
+    /// It is refused, and bounded in time and stack, as `PointerReader::total_size` is where there
+    /// is no limit of words.
     pub fn target_size(&self) -> Result<MessageSize>
         ensures { WithoutLimit (PointerSize (pointer_seen A.segments self.now.source)) result }
     {
@@ -90,7 +92,8 @@ impl<'a, A: ReaderArena + 'a> traits::Owned<'a, A> for Owned {
     type Reader = Reader<'a, A>;
 }
 
-/// The pointer itself, or the default's root in place of a null one. Nothing is followed, so nothing is paid for, and it isn't refused.
+/// The pointer itself, or the default's root in place of a null one. Nothing is followed, so
+/// nothing is paid for, and it isn't refused.
 impl<'a, A: ReaderArena> FromPointerReader<'a, A> for Reader<'a, A> {
     ghost reads = { IsUntyped A.segments };
 
@@ -115,11 +118,11 @@ pub trait FromAnyPointer<'a, A: ReaderArena>: Sized {
 
 /// A text: the bytes of a byte list in front of its last, which is zero; null is the empty text.
 impl<'a, A: ReaderArena> FromAnyPointer<'a, A> for text::Reader<'a> {
-    ghost reads = { λ p r. seen (λ t. t.0.now) r ≡ text_at p };
+    ghost reads = { λ p r. seen (λ t. t.0.now) r ≡ pointed_text p };
 
     fn from_any_pointer(pointer: Reader<'a, A>) -> Result<text::Reader<'a>>
         ensures { seen (λ t. t.0.now) result
-            ≡ text_at (pointer_seen A.segments pointer.entry.source) }
+            ≡ pointed_text (pointer_seen A.segments pointer.entry.source) }
     {
         Ok(text::Reader(pointer.source.text()?))
     }
@@ -127,11 +130,11 @@ impl<'a, A: ReaderArena> FromAnyPointer<'a, A> for text::Reader<'a> {
 
 /// Data: the bytes of a byte list; null is none.
 impl<'a, A: ReaderArena> FromAnyPointer<'a, A> for &'a [u8] {
-    ghost reads = { λ p r. seen (λ bytes. bytes.now) r ≡ data_at p };
+    ghost reads = { λ p r. seen (λ bytes. bytes.now) r ≡ pointed_data p };
 
     fn from_any_pointer(pointer: Reader<'a, A>) -> Result<&'a [u8]>
         ensures { seen (λ bytes. bytes.now) result
-            ≡ data_at (pointer_seen A.segments pointer.entry.source) }
+            ≡ pointed_data (pointer_seen A.segments pointer.entry.source) }
     {
         pointer.source.data()
     }

@@ -1,19 +1,20 @@
 //! Defaults of pointers, read in place.
 ghost use Rattle.std.specs.Prelude.{◌≡◌, ◌≢◌, pos, IfOk};
-ghost use Rattle.capnp_object.specs.Places.{seen};
+ghost use Rattle.capnp_wire_objects.specs.Places.{seen};
 ghost use Rattle.capnp_units.specs.Sizes.{size_number};
 ghost use Rattle.capnp_wire.specs.Views.{seen_pointer, seen_struct, seen_list};
-ghost use Rattle.capnp_values.specs.Sources.{default_segments, null_default, default_pointer, struct_at, list_at};
+ghost use Rattle.capnp_values.specs.Sources.{null_root_segments, null_default, default_pointer, pointed_struct, pointed_list};
 
 use capnp_units::errors::Result;
 use capnp_units::limiter::ReadLimiter;
 use capnp_units::sizes::{ElementSize, SegmentId};
-use capnp_wire::arena::ReaderArena;
 use capnp_wire::list::ListReader;
 use capnp_wire::pointer::PointerReader;
 use capnp_wire::structs::StructReader;
+use capnp_wire_objects::arena::ReaderArena;
 
-/// Where a default is read when a pointer is null: an arena whose root is null. A default has levels of its own, the 64 to which the schema rules bound it, whatever the message has left.
+/// Where a default is read when a pointer is null: an arena whose root is null. A default has
+/// levels of its own, the 64 to which the schema rules bound it, whatever the message has left.
 #[derive(Clone, Copy, Debug, PartialEq, Eq)]
 pub struct Defaults;
 
@@ -25,7 +26,7 @@ static DEFAULTS: Defaults = Defaults;
 static NULL: [u8; 8] = [0; 8];
 
 impl ReaderArena for Defaults {
-    ghost segments = { default_segments };
+    ghost segments = { null_root_segments };
 
     ghost nesting = { λ a. pos 64 };
 
@@ -44,7 +45,7 @@ impl ReaderArena for Defaults {
 
 /// The null pointer in whose place a default is read.
 pub(crate) fn null<'a>() -> PointerReader<'a, Defaults>
-    ensures { seen_pointer default_segments result ≡ null_default }
+    ensures { seen_pointer null_root_segments result ≡ null_default }
 {
     match PointerReader::get_root_from_arena(&DEFAULTS) {
         Ok(root) => root,
@@ -56,7 +57,7 @@ pub(crate) fn null<'a>() -> PointerReader<'a, Defaults>
 ///
 /// It is refused as `PointerReader::get_struct` is; over an accepted set it isn't.
 pub(crate) fn default_struct<'a>(bytes: &'a [u8]) -> Result<StructReader<'a, Defaults>>
-    ensures { seen (seen_struct default_segments) result ≡ struct_at (default_pointer bytes.now) }
+    ensures { seen (seen_struct null_root_segments) result ≡ pointed_struct (default_pointer bytes.now) }
 {
     let (words, _) = bytes.as_chunks::<8>();
     let mut unlimited = ReadLimiter::new(None);
@@ -70,10 +71,10 @@ pub(crate) fn default_list<'a>(
     bytes: &'a [u8],
     expected: ElementSize,
 ) -> Result<ListReader<'a, Defaults>>
-    ensures list { seen (seen_list default_segments) result
-        ≡ list_at expected (default_pointer bytes.now) }
+    ensures list { seen (seen_list null_root_segments) result
+        ≡ pointed_list expected (default_pointer bytes.now) }
     ensures bytewise { size_number expected ≢ 1
-        → IfOk result (λ l. size_number (seen_list default_segments l).size ≢ 1) }
+        → IfOk result (λ l. size_number (seen_list null_root_segments l).size ≢ 1) }
 {
     let (words, _) = bytes.as_chunks::<8>();
     let mut unlimited = ReadLimiter::new(None);

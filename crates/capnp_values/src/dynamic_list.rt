@@ -2,7 +2,7 @@
 ghost use Rattle.std.specs.Prelude.{◌≡◌, ◌≢◌, ◌==◌, ◌<◌, true};
 ghost use Rattle.capnp_units.specs.Sizes.{size_number};
 ghost use Rattle.capnp_records.specs.Sets.{nodes_of};
-ghost use Rattle.capnp_queries.specs.Types.{ty_of, is_type_of};
+ghost use Rattle.capnp_values_queries.specs.Types.{ty_of, is_type_of};
 ghost use Rattle.capnp_values.specs.ListSizes.{size_of};
 ghost use Rattle.capnp_values.specs.Sources.{size_in};
 
@@ -10,13 +10,13 @@ use crate::dynamic_value;
 use crate::dynamic_value::Enum;
 use crate::opening::{open, struct_value};
 use crate::source::ListSource;
-use capnp_queries::enums::EnumSchema;
-use capnp_queries::introspect::{Type, TypeVariant};
 use capnp_records::set::SchemaSet;
 use capnp_units::errors::Result;
 use capnp_units::iter::{IndexMove, ListIter};
-use capnp_wire::arena::ReaderArena;
+use capnp_values_queries::enums::EnumSchema;
+use capnp_values_queries::introspect::{Type, TypeVariant};
 use capnp_wire::list::ListReader;
+use capnp_wire_objects::arena::ReaderArena;
 use std::alloc::AllocError;
 
 /// A list to read, of a message or of a default, whose elements can be read as its type's.
@@ -42,12 +42,13 @@ impl<A> Clone for Reader<'_, A> {
 impl<A> Copy for Reader<'_, A> {}
 
 impl<'a, A: ReaderArena> Reader<'a, A> {
-    ghost use Rattle.capnp_object.specs.Places.{seen};
+    ghost use Rattle.capnp_wire_objects.specs.Places.{seen};
     ghost use Rattle.capnp_wire.specs.Views.{seen_list};
     ghost use Rattle.capnp_values.specs.Sources.{list_seen};
     ghost use Rattle.capnp_values.specs.Shown.{shown, shown_at, GivesElements};
 
-    /// A message's list of elements of a type of the set. Its elements aren't bits, unless they are of type Bool.
+    /// A message's list of elements of a type of the set. Its elements aren't bits, unless they are
+    /// of type Bool.
     pub fn new(reader: ListReader<'a, A>, set: &'a SchemaSet, element_type: Type) -> Self
         requires known { is_type_of (nodes_of set.now) element_type ≡ true }
         requires bytewise { size_number (size_of (ty_of element_type)) ≢ 1
@@ -107,9 +108,18 @@ impl<'a, A: ReaderArena> Reader<'a, A> {
         self.element_type
     }
 
-    /// What an element is read as: a plain one by the bits at its front, 0 where it is narrower; a struct in place; one behind a pointer by what the pointer names, a null one as the empty value. It takes no memory, and has no limit of words.
+    /// What an element is read as:
+    /// - a plain one by the bits at its front, 0 where it is narrower;
+    /// - a struct in place;
+    /// - one behind a pointer by what the pointer names, a null one as the empty value.
     ///
-    /// It is refused by the kind of the fault at the element's pointer, with `NestingLimitExceeded` where no level is left for it, and with `WrongPointerKind`, `WrongElementSize` or `TextWithoutZeroByte` where what is there can't be read as the elements' type.
+    /// It takes no memory, and has no limit of words.
+    ///
+    /// It is refused
+    /// - by the kind of the fault at the element's pointer;
+    /// - with `NestingLimitExceeded` where no level is left for it;
+    /// - with `WrongPointerKind`, `WrongElementSize` or `TextWithoutZeroByte` where what is there
+    ///   can't be read as the elements' type.
     #[tactic(auto, using(crate::proofs::Elements::element_rules))]
     pub fn get(self, index: u32) -> Result<dynamic_value::Reader<'a, A>>
         requires { index < (list_seen A.segments self.source).count }
@@ -154,7 +164,7 @@ impl<'a, A: ReaderArena> Reader<'a, A> {
 impl<'a, A: ReaderArena> IndexMove<u32, Result<dynamic_value::Reader<'a, A>>> for Reader<'a, A> {
     ghost use Rattle.std.specs.Prelude.{Result};
     ghost use Rattle.capnp_model.specs.Kinds.{Kind};
-    ghost use Rattle.capnp_object.specs.Places.{seen};
+    ghost use Rattle.capnp_wire_objects.specs.Places.{seen};
     ghost use Rattle.capnp_values.specs.Sources.{list_seen};
     ghost use Rattle.capnp_values.specs.Shown.{Shown as What, shown, shown_at};
 

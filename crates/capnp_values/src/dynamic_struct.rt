@@ -5,8 +5,8 @@ ghost use Rattle.capnp_wire.specs.Views.{seen_struct};
 ghost use Rattle.capnp_wire.specs.ValueSizes.{StructSizeOf};
 ghost use Rattle.capnp_values.specs.Sources.{struct_seen, WithoutLimit};
 ghost use Rattle.capnp_records.specs.NodeViews.{kind_of_field, value_of};
-ghost use Rattle.capnp_queries.specs.Handles.{IsFieldAt};
-ghost use Rattle.capnp_values.specs.GoodDefaults.{HasBytes};
+ghost use Rattle.capnp_values_queries.specs.Handles.{IsFieldAt};
+ghost use Rattle.capnp_values.specs.GoodDefaults.{HoldsOnlyBytes};
 ghost use Rattle.capnp_values.specs.Shown.{default_said, ShowsField, discriminant_shown, is_active_in, is_null_in, has_field, active_in, TellsField, AnswersNamed};
 ghost use Rattle.capnp_values.specs.Variants.{message_struct, fits_type};
 
@@ -14,16 +14,16 @@ use crate::dynamic_value;
 use crate::opening::open_slot;
 use crate::plain::plain_value;
 use crate::source::StructSource;
-use capnp_queries::fields::Field;
-use capnp_queries::introspect::{Introspect, TypeVariant};
-use capnp_queries::slots::FieldPlace;
-use capnp_queries::structs::StructSchema;
 use capnp_records::node::{FieldBody, NO_DISCRIMINANT, Value};
 use capnp_units::errors::Result;
 use capnp_units::sizes::MessageSize;
-use capnp_wire::arena::ReaderArena;
+use capnp_values_queries::fields::Field;
+use capnp_values_queries::introspect::{Introspect, TypeVariant};
+use capnp_values_queries::slots::FieldPlace;
+use capnp_values_queries::structs::StructSchema;
 use capnp_wire::structs::StructReader;
 use capnp_wire::traits::OwnedStruct;
+use capnp_wire_objects::arena::ReaderArena;
 
 /// A text's or data's bytes are bytes.
 fn are_bytes(bytes: &[u8])
@@ -33,7 +33,7 @@ fn are_bytes(bytes: &[u8])
 /// A default, whose bytes are bytes.
 fn with_bytes(value: &Value) -> &Value
     ensures same { result.now ≡ value.now }
-    ensures bytes { HasBytes (value_of value.now) }
+    ensures bytes { HoldsOnlyBytes (value_of value.now) }
 {
     match value {
         Value::Text(bytes) | Value::Data(bytes) => are_bytes(bytes),
@@ -46,7 +46,7 @@ fn with_bytes(value: &Value) -> &Value
 fn default_of(body: &FieldBody) -> Option<&Value>
     ensures said { option_map value_of (option_copied result)
         ≡ default_said (kind_of_field body.now) }
-    ensures bytes { IfSome (default_said (kind_of_field body.now)) HasBytes }
+    ensures bytes { IfSome (default_said (kind_of_field body.now)) HoldsOnlyBytes }
 {
     match body {
         FieldBody::Slot {
@@ -57,7 +57,8 @@ fn default_of(body: &FieldBody) -> Option<&Value>
     }
 }
 
-/// A struct or a group to read, of a message or of a default. It may have other sizes than its schema says.
+/// A struct or a group to read, of a message or of a default. It may have other sizes than its
+/// schema says.
 #[derive_where(Clone, Copy)]
 pub struct Reader<'a, A> {
     pub(crate) source: StructSource<'a, A>,
@@ -91,16 +92,29 @@ impl<'a, A: ReaderArena> Reader<'a, A> {
         self.schema
     }
 
-    /// The words of the struct's sections and of the objects behind its pointers, and its capabilities. It is refused as `StructReader::total_size` is where there is no limit of words, and bounded in time and stack likewise.
+    /// The words of the struct's sections and of the objects behind its pointers, and its
+    /// capabilities. It is refused, and bounded in time and stack, as `StructReader::total_size` is
+    /// where there is no limit of words.
     pub fn total_size(&self) -> Result<MessageSize>
         ensures { WithoutLimit (StructSizeOf (struct_seen A.segments self.now.source)) result }
     {
         self.source.total_size()
     }
 
-    /// What a field of the struct is read as: a plain one by its bits, exclusive or those of its default; one behind a pointer by what the pointer names, a null one by its default, which has levels of its own, else as the empty value; a group as the same struct under its own schema. A union member that isn't the active one is read all the same. It takes no memory, and has no limit of words.
+    /// What a field of the struct is read as:
+    /// - a plain one by its bits, exclusive or those of its default;
+    /// - one behind a pointer by what the pointer names; a null one by its default, which has
+    ///   levels of its own, else as the empty value;
+    /// - a group as the same struct under its own schema.
     ///
-    /// It is refused by the kind of the fault at the field's pointer, with `NestingLimitExceeded` where no level is left for it, and with `WrongPointerKind`, `WrongElementSize` or `TextWithoutZeroByte` where what is there can't be read as the field's type.
+    /// A union member that isn't the active one is read all the same. It takes no memory, and has
+    /// no limit of words.
+    ///
+    /// It is refused
+    /// - by the kind of the fault at the field's pointer;
+    /// - with `NestingLimitExceeded` where no level is left for it;
+    /// - with `WrongPointerKind`, `WrongElementSize` or `TextWithoutZeroByte` where what is there
+    ///   can't be read as the field's type.
     pub fn get(self, field: Field<'a>) -> Result<dynamic_value::Reader<'a, A>>
         ensures { ShowsField A.segments (struct_seen A.segments self.entry.source) field.entry
             result }
@@ -130,7 +144,8 @@ impl<'a, A: ReaderArena> Reader<'a, A> {
         }
     }
 
-    /// The value of the discriminant, where the schema has a union; 0 where it doesn't lie in the section.
+    /// The value of the discriminant, where the schema has a union; 0 where it doesn't lie in the
+    /// section.
     #[tactic(auto, using(crate::proofs::Bits::tag_bits))]
     fn discriminant(&self, schema: StructSchema<'a>) -> Option<u16>
         ensures { result ≡ discriminant_shown schema.entry
@@ -166,14 +181,16 @@ impl<'a, A: ReaderArena> Reader<'a, A> {
         }
     }
 
-    /// Whether a field of the struct is there: false for a union member that isn't the active one, and where the field's pointer is null; else true, for groups too. It never refuses.
+    /// Whether a field of the struct is there: false for a union member that isn't the active one,
+    /// and where the field's pointer is null; else true, for groups too. It never refuses.
     pub fn has(&self, field: Field<'a>) -> Result<bool>
         ensures { result ≡ Ok (has_field (struct_seen A.segments self.now.source) field.entry) }
     {
         Ok(self.is_active(field) && !self.is_null_slot(field))
     }
 
-    /// The union's active member: none without a union, and where the discriminant is that of no member. It never refuses.
+    /// The union's active member: none without a union, and where the discriminant is that of no
+    /// member. It never refuses.
     pub fn which(self) -> Result<Option<Field<'a>>>
         ensures { IsOkAnd result (IsFieldAt self.entry.schema (active_in A.segments self.entry)) }
     {
@@ -183,7 +200,8 @@ impl<'a, A: ReaderArena> Reader<'a, A> {
         }
     }
 
-    /// What the field of a name is read as, as by `get`. A name that the struct lacks is refused by `FieldNotFound`.
+    /// What the field of a name is read as, as by `get`. A name that the struct lacks is refused by
+    /// `FieldNotFound`.
     pub fn get_named(self, name: &str) -> Result<dynamic_value::Reader<'a, A>>
         ensures { let r = self.entry in
             AnswersNamed r.schema name.now
@@ -193,7 +211,8 @@ impl<'a, A: ReaderArena> Reader<'a, A> {
         self.get(field)
     }
 
-    /// Whether the field of a name is there, as by `has`. A name that the struct lacks is refused by `FieldNotFound`, and nothing else is.
+    /// Whether the field of a name is there, as by `has`. A name that the struct lacks is refused
+    /// by `FieldNotFound`, and nothing else is.
     pub fn has_named(&self, name: &str) -> Result<bool>
         ensures { let r = self.now in
             AnswersNamed r.schema name.now (TellsField (struct_seen A.segments r.source)) result }
@@ -202,7 +221,9 @@ impl<'a, A: ReaderArena> Reader<'a, A> {
         self.has(field)
     }
 
-    /// Whether the struct can be handed on as a caller's type: its schema's id is that of the type, and it is a message's. One of a default can't be, since a caller's types read messages alone.
+    /// Whether the struct can be handed on as a caller's type: its schema's id is that of the type,
+    /// and it is a message's. One of a default can't be, since a caller's types read messages
+    /// alone.
     pub fn fits<T: Introspect>(&self) -> bool
         ensures { result ≡ fits_type T.ty self.now }
     {
@@ -212,7 +233,8 @@ impl<'a, A: ReaderArena> Reader<'a, A> {
         }
     }
 
-    /// The struct as a caller's type, which `fits` tells. Its reader is the one that it was made from.
+    /// The struct as a caller's type, which `fits` tells. Its reader is the one that it was made
+    /// from.
     pub fn downcast<T: OwnedStruct<'a, A> + Introspect>(self) -> T::Reader
         requires { fits_type T.ty self ≡ true }
         ensures { message_struct self.entry.source ≡ Some (T.Reader.inner_struct result) }

@@ -1,13 +1,13 @@
 //! Values whose type is known at run time.
 use crate::downcast::DowncastReader;
 use crate::{any_pointer, dynamic_list, dynamic_struct};
-use capnp_queries::enumerants::Enumerant;
-use capnp_queries::enums::EnumSchema;
-use capnp_queries::introspect::Introspect;
 use capnp_text::{data, text};
 use capnp_units::errors::Result;
-use capnp_wire::arena::ReaderArena;
+use capnp_values_queries::enumerants::Enumerant;
+use capnp_values_queries::enums::EnumSchema;
+use capnp_values_queries::introspect::Introspect;
 use capnp_wire::traits::OwnedStruct;
+use capnp_wire_objects::arena::ReaderArena;
 
 /// A value to read, by its type.
 #[derive_where(Clone, Copy)]
@@ -45,9 +45,10 @@ impl<'a, A> Reader<'a, A> {
 
 impl<'a, A: ReaderArena> Reader<'a, A> {
     ghost use Rattle.std.specs.Prelude.{◌≡◌, Some, true};
-    ghost use Rattle.capnp_values.specs.Variants.{fits_struct, struct_behind};
+    ghost use Rattle.capnp_values.specs.Variants.{fits_struct, message_struct_in};
 
-    /// Whether the value is a struct that can be handed on as a caller's type, as `dynamic_struct::Reader::fits` says.
+    /// Whether the value is a struct that can be handed on as a caller's type, as
+    /// `dynamic_struct::Reader::fits` says.
     pub fn fits_struct<T: Introspect>(&self) -> bool
         ensures { result ≡ fits_struct T.ty self.now }
     {
@@ -60,7 +61,7 @@ impl<'a, A: ReaderArena> Reader<'a, A> {
     /// The struct as a caller's type, which `fits_struct` tells.
     pub fn downcast_struct<T: OwnedStruct<'a, A> + Introspect>(self) -> T::Reader
         requires { fits_struct T.ty self ≡ true }
-        ensures { struct_behind self.entry ≡ Some (T.Reader.inner_struct result) }
+        ensures { message_struct_in self.entry ≡ Some (T.Reader.inner_struct result) }
     {
         let Reader::Struct(inner) = self else {
             unreachable!()
@@ -95,7 +96,7 @@ impl<'a> Enum<'a> {
         self.value
     }
 
-    /// The enumerant of the value, or none where the schema has none. It never refuses.
+    /// The enumerant of the value, or `None` where the schema has none. It never refuses.
     pub fn get_enumerant(self) -> Result<Option<Enumerant<'a>>>
         ensures { IsOkAnd result (λ found. IsEnumerantAt self.entry.schema self.entry.value found) }
     {

@@ -1,9 +1,9 @@
 //! Values of node records, as annotations have them.
 ghost use Rattle.std.specs.Prelude.{◌≡◌, true};
-ghost use Rattle.capnp_object.specs.Places.{seen};
+ghost use Rattle.capnp_wire_objects.specs.Places.{seen};
 ghost use Rattle.capnp_records.specs.NodeViews.{value_of};
 ghost use Rattle.capnp_records.specs.Sets.{nodes_of};
-ghost use Rattle.capnp_queries.specs.Types.{ty_of, is_type_of};
+ghost use Rattle.capnp_values_queries.specs.Types.{ty_of, is_type_of};
 ghost use Rattle.capnp_values.specs.Shown.{shown, schema_in};
 ghost use Rattle.capnp_values.specs.ValuesShown.{value_shown};
 
@@ -12,19 +12,25 @@ use crate::defaults::null;
 use crate::dynamic_value::{Capability, Enum, Reader};
 use crate::opening::{list_of_default, struct_of_default};
 use crate::source::PointerSource;
-use capnp_queries::enums::EnumSchema;
-use capnp_queries::introspect::{Type, TypeVariant};
 use capnp_records::node::Value;
 use capnp_records::set::SchemaSet;
 use capnp_text::text;
 use capnp_units::errors::{Error, Result};
 use capnp_units::kinds::ErrorKind;
-use capnp_wire::arena::ReaderArena;
+use capnp_values_queries::enums::EnumSchema;
+use capnp_values_queries::introspect::{Type, TypeVariant};
+use capnp_wire_objects::arena::ReaderArena;
 
 impl<'a, A: ReaderArena> Reader<'a, A> {
-    /// A value of a node record under a type of the set: an annotation's under its own, say. A struct or a list has 64 levels of its own; an untyped value is null. It takes no memory, and has no limit of words.
+    /// A value of a node record under a type of the set: an annotation's under its own, say. A
+    /// struct or a list has 64 levels of its own; an untyped value is null. It takes no memory, and
+    /// has no limit of words.
     ///
-    /// It is refused with `TypeMismatch` where the value and the type are of two sorts, and as `PointerReader::get_struct` and `get_list` are where the bytes of a struct or a list don't read so; over values that the rules accept they do, or with the kind of a wrong type.
+    /// It is refused
+    /// - with `TypeMismatch` where the value and the type are of two sorts;
+    /// - as `PointerReader::get_struct` and `get_list` are where the bytes of a struct or a list
+    ///   don't read so. Over values that the rules accept they do, or it is refused with the kind
+    ///   of a wrong type.
     #[tactic(auto, using(crate::proofs::Named::named_rules))]
     pub fn new(set: &'a SchemaSet, value: &'a Value, ty: Type) -> Result<Self>
         requires { is_type_of (nodes_of set.now) ty ≡ true }

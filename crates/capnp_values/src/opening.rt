@@ -2,28 +2,28 @@
 ghost use Rattle.std.specs.Prelude.{◌≡◌, ◌≢◌, true, Ok, option_map, option_copied};
 ghost use Rattle.capnp_model.specs.Chains.{◌and_then◌};
 ghost use Rattle.capnp_model.specs.Schemas.{struct, list};
-ghost use Rattle.capnp_object.specs.Places.{seen};
+ghost use Rattle.capnp_wire_objects.specs.Places.{seen};
 ghost use Rattle.capnp_records.specs.NodeViews.{value_of};
 ghost use Rattle.capnp_records.specs.Sets.{nodes_of, IsNodeOf};
-ghost use Rattle.capnp_queries.specs.Types.{ty_of, is_type_of};
-ghost use Rattle.capnp_values.specs.Sources.{pointer_seen, struct_seen, list_seen, size_in, default_pointer, text_at, data_at};
+ghost use Rattle.capnp_values_queries.specs.Types.{ty_of, is_type_of};
+ghost use Rattle.capnp_values.specs.Sources.{pointer_seen, struct_seen, list_seen, size_in, default_pointer, pointed_text, pointed_data};
 ghost use Rattle.capnp_units.specs.Sizes.{size_number};
 ghost use Rattle.capnp_values.specs.ListSizes.{size_of};
-ghost use Rattle.capnp_values.specs.Shown.{a_text, a_blob, a_struct, a_list, shown, opened, segment_opened, default_opened, slot_opened, schema_in};
+ghost use Rattle.capnp_values.specs.Shown.{a_text, a_blob, a_struct, a_list, shown, shown_behind, segment_opened, default_opened, slot_opened, schema_in};
 
 use crate::defaults::{default_list, default_struct};
 use crate::dynamic_value::{Capability, Reader};
 use crate::source::{ListSource, PointerSource, StructSource};
 use crate::{any_pointer, dynamic_list, dynamic_struct};
-use capnp_queries::introspect::{Type, TypeVariant};
-use capnp_queries::structs::StructSchema;
 use capnp_records::node::Value;
 use capnp_records::raw::RawBrandedStructSchema;
 use capnp_records::set::SchemaSet;
 use capnp_text::text;
 use capnp_units::errors::Result;
 use capnp_units::sizes::ElementSize;
-use capnp_wire::arena::ReaderArena;
+use capnp_values_queries::introspect::{Type, TypeVariant};
+use capnp_values_queries::structs::StructSchema;
+use capnp_wire_objects::arena::ReaderArena;
 
 /// The size that lists of the type are asked for with.
 pub fn element_size(ty: Type) -> ElementSize
@@ -47,14 +47,14 @@ pub fn element_size(ty: Type) -> ElementSize
 
 fn open_text<'a, A: ReaderArena>(pointer: PointerSource<'a, A>) -> Result<Reader<'a, A>>
     ensures { seen (shown A.segments) result
-        ≡ (text_at (pointer_seen A.segments pointer.entry) and_then λ bytes. Ok (a_text bytes)) }
+        ≡ (pointed_text (pointer_seen A.segments pointer.entry) and_then λ bytes. Ok (a_text bytes)) }
 {
     Ok(Reader::Text(text::Reader(pointer.text()?)))
 }
 
 fn open_data<'a, A: ReaderArena>(pointer: PointerSource<'a, A>) -> Result<Reader<'a, A>>
     ensures { seen (shown A.segments) result
-        ≡ (data_at (pointer_seen A.segments pointer.entry) and_then λ bytes. Ok (a_blob bytes)) }
+        ≡ (pointed_data (pointer_seen A.segments pointer.entry) and_then λ bytes. Ok (a_blob bytes)) }
 {
     Ok(Reader::Data(pointer.data()?))
 }
@@ -96,7 +96,7 @@ fn open_struct<'a, A: ReaderArena>(
 ) -> Result<Reader<'a, A>>
     requires { IsNodeOf (nodes_of set.now) raw }
     ensures { seen (shown A.segments) result
-        ≡ opened (schema_in set.now) (struct raw.id) (pointer_seen A.segments pointer.entry) }
+        ≡ shown_behind (schema_in set.now) (struct raw.id) (pointer_seen A.segments pointer.entry) }
 {
     Ok(struct_value(pointer.structure()?, set, raw))
 }
@@ -108,14 +108,15 @@ fn open_list<'a, A: ReaderArena>(
 ) -> Result<Reader<'a, A>>
     requires { is_type_of (nodes_of set.now) element_type ≡ true }
     ensures { seen (shown A.segments) result
-        ≡ opened (schema_in set.now) (list (ty_of element_type))
+        ≡ shown_behind (schema_in set.now) (list (ty_of element_type))
         (pointer_seen A.segments pointer.entry) }
 {
     let source = pointer.list(element_size(element_type))?;
     Ok(list_value(source, set, element_type))
 }
 
-/// What a pointer is read as under a type of the set; null is the empty value. A plain type has no pointers.
+/// What a pointer is read as under a type of the set; null is the empty value. A plain type has no
+/// pointers.
 #[tactic(auto, using(crate::proofs::Named::named_rules))]
 pub(crate) fn open<'a, A: ReaderArena>(
     pointer: PointerSource<'a, A>,
@@ -124,7 +125,7 @@ pub(crate) fn open<'a, A: ReaderArena>(
 ) -> Result<Reader<'a, A>>
     requires { is_type_of (nodes_of set.now) ty ≡ true }
     ensures { seen (shown A.segments) result
-        ≡ opened (schema_in set.now) (ty_of ty) (pointer_seen A.segments pointer.entry) }
+        ≡ shown_behind (schema_in set.now) (ty_of ty) (pointer_seen A.segments pointer.entry) }
 {
     match ty.which() {
         TypeVariant::Text => open_text(pointer),
@@ -145,7 +146,7 @@ pub(crate) fn struct_of_default<'a, A: ReaderArena>(
 ) -> Result<Reader<'a, A>>
     requires { IsNodeOf (nodes_of set.now) raw }
     ensures { seen (shown A.segments) result
-        ≡ opened (schema_in set.now) (struct raw.id) (default_pointer bytes.now) }
+        ≡ shown_behind (schema_in set.now) (struct raw.id) (default_pointer bytes.now) }
 {
     let source = default_struct(bytes)?;
     Ok(struct_value(StructSource::Default(source), set, raw))
@@ -159,7 +160,7 @@ pub(crate) fn list_of_default<'a, A: ReaderArena>(
 ) -> Result<Reader<'a, A>>
     requires { is_type_of (nodes_of set.now) element_type ≡ true }
     ensures { seen (shown A.segments) result
-        ≡ opened (schema_in set.now) (list (ty_of element_type)) (default_pointer bytes.now) }
+        ≡ shown_behind (schema_in set.now) (list (ty_of element_type)) (default_pointer bytes.now) }
 {
     let source = default_list(bytes, element_size(element_type))?;
     Ok(list_value(ListSource::Default(source), set, element_type))

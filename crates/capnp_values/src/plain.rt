@@ -2,18 +2,19 @@
 ghost use Rattle.std.specs.Prelude.{◌≡◌, ◌*◌, ◌^◌, ◌<◌, true};
 ghost use Rattle.capnp_model.specs.Schemas.{width};
 ghost use Rattle.capnp_records.specs.Sets.{nodes_of};
-ghost use Rattle.capnp_queries.specs.Handles.{plain_of, is_plain_of};
+ghost use Rattle.capnp_values_queries.specs.Handles.{plain_of, is_plain_of};
 ghost use Rattle.capnp_values.specs.Sources.{struct_seen};
 ghost use Rattle.capnp_values.specs.Shown.{shown, schema_in, plain_shown};
 
 use crate::dynamic_value::{Enum, Reader};
 use crate::source::StructSource;
-use capnp_queries::enums::EnumSchema;
-use capnp_queries::slots::PlainType;
 use capnp_records::set::SchemaSet;
-use capnp_wire::arena::ReaderArena;
+use capnp_values_queries::enums::EnumSchema;
+use capnp_values_queries::slots::PlainType;
+use capnp_wire_objects::arena::ReaderArena;
 
-/// A plain value of a struct: its bits, exclusive or those of its default, which alone are there outside the section.
+/// A plain value of a struct: its bits, exclusive or those of its default, which alone are there
+/// outside the section.
 pub(crate) fn plain_value<'a, A: ReaderArena>(
     source: &StructSource<'a, A>,
     set: &'a SchemaSet,

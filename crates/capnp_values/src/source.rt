@@ -1,22 +1,22 @@
 //! What dynamic readers stand on: a message, or a default value.
 ghost use Rattle.std.specs.Prelude.{◌≡◌, ◌≢◌, ◌<◌, ◌==◌, ◌*◌, ◌^◌, IfOk};
-ghost use Rattle.capnp_object.specs.Places.{seen};
+ghost use Rattle.capnp_wire_objects.specs.Places.{seen};
 ghost use Rattle.capnp_units.specs.Sizes.{size_number};
-ghost use Rattle.capnp_wire.specs.Views.{seen_pointer, seen_struct, seen_list, pointer_field, element_of, element_number, bit_of_bool};
-ghost use Rattle.capnp_wire.specs.Reads.{is_null};
+ghost use Rattle.capnp_wire.specs.Views.{seen_pointer, seen_struct, seen_list, pointer_field, element_as_struct, element_number, bit_of_bool};
+ghost use Rattle.capnp_wire.specs.Reads.{is_null_pointer};
 ghost use Rattle.capnp_wire.specs.ValueSizes.{PointerSize, StructSizeOf};
-ghost use Rattle.capnp_values.specs.Sources.{pointer_seen, struct_seen, list_seen, size_in, default_segments, WithoutLimit, masked_bits, text_at, data_at, struct_at, list_at};
+ghost use Rattle.capnp_values.specs.Sources.{pointer_seen, struct_seen, list_seen, size_in, null_root_segments, WithoutLimit, masked_bits, pointed_text, pointed_data, pointed_struct, pointed_list};
 
 use crate::defaults::Defaults;
-use capnp_elements::element::PrimitiveElement;
 use capnp_units::errors::Result;
 use capnp_units::limiter::ReadLimiter;
 use capnp_units::primitive::{Mask, Primitive, Zero};
 use capnp_units::sizes::{ElementSize, MessageSize};
-use capnp_wire::arena::ReaderArena;
+use capnp_wire::element::PrimitiveElement;
 use capnp_wire::list::ListReader;
 use capnp_wire::pointer::PointerReader;
 use capnp_wire::structs::StructReader;
+use capnp_wire_objects::arena::ReaderArena;
 
 /// A pointer of a message, or of a default.
 #[derive_where(Clone, Copy)]
@@ -43,7 +43,7 @@ pub enum ListSource<'a, A> {
 
 #[tactic(auto, using(crate::proofs::lemmas::Unlimited::answers_reading))]
 fn text_behind<'a, A: ReaderArena>(pointer: PointerReader<'a, A>) -> Result<&'a [u8]>
-    ensures { seen (λ r. r.now) result ≡ text_at (seen_pointer A.segments pointer.entry) }
+    ensures { seen (λ r. r.now) result ≡ pointed_text (seen_pointer A.segments pointer.entry) }
 {
     let mut unlimited = ReadLimiter::new(None);
     pointer.get_text(&mut unlimited, None)
@@ -51,7 +51,7 @@ fn text_behind<'a, A: ReaderArena>(pointer: PointerReader<'a, A>) -> Result<&'a 
 
 #[tactic(auto, using(crate::proofs::lemmas::Unlimited::answers_reading))]
 fn data_behind<'a, A: ReaderArena>(pointer: PointerReader<'a, A>) -> Result<&'a [u8]>
-    ensures { seen (λ r. r.now) result ≡ data_at (seen_pointer A.segments pointer.entry) }
+    ensures { seen (λ r. r.now) result ≡ pointed_data (seen_pointer A.segments pointer.entry) }
 {
     let mut unlimited = ReadLimiter::new(None);
     pointer.get_data(&mut unlimited, None)
@@ -60,7 +60,7 @@ fn data_behind<'a, A: ReaderArena>(pointer: PointerReader<'a, A>) -> Result<&'a 
 #[tactic(auto, using(crate::proofs::lemmas::Unlimited::answers_reading))]
 fn struct_behind<'a, A: ReaderArena>(pointer: PointerReader<'a, A>) -> Result<StructReader<'a, A>>
     ensures { seen (seen_struct A.segments) result
-        ≡ struct_at (seen_pointer A.segments pointer.entry) }
+        ≡ pointed_struct (seen_pointer A.segments pointer.entry) }
 {
     let mut unlimited = ReadLimiter::new(None);
     pointer.get_struct(&mut unlimited, None)
@@ -72,7 +72,7 @@ fn list_behind<'a, A: ReaderArena>(
     expected: ElementSize,
 ) -> Result<ListReader<'a, A>>
     ensures list { seen (seen_list A.segments) result
-        ≡ list_at expected (seen_pointer A.segments pointer.entry) }
+        ≡ pointed_list expected (seen_pointer A.segments pointer.entry) }
     ensures bytewise { size_number expected ≢ 1
         → IfOk result (λ l. size_number (seen_list A.segments l).size ≢ 1) }
 {
@@ -114,7 +114,7 @@ fn number_of<T: Primitive + Zero + Mask, A: ReaderArena>(
 impl<'a, A: ReaderArena> PointerSource<'a, A> {
     /// Whether the pointer is null.
     pub(crate) fn is_null(&self) -> bool
-        ensures { result ≡ is_null (pointer_seen A.segments self.now) }
+        ensures { result ≡ is_null_pointer (pointer_seen A.segments self.now) }
     {
         match self {
             PointerSource::Message(pointer) => pointer.is_null(),
@@ -134,7 +134,7 @@ impl<'a, A: ReaderArena> PointerSource<'a, A> {
 
     /// The text behind the pointer; null is the empty one.
     pub(crate) fn text(self) -> Result<&'a [u8]>
-        ensures { seen (λ r. r.now) result ≡ text_at (pointer_seen A.segments self.entry) }
+        ensures { seen (λ r. r.now) result ≡ pointed_text (pointer_seen A.segments self.entry) }
     {
         match self {
             PointerSource::Message(pointer) => text_behind(pointer),
@@ -144,7 +144,7 @@ impl<'a, A: ReaderArena> PointerSource<'a, A> {
 
     /// The data behind the pointer; null is none.
     pub(crate) fn data(self) -> Result<&'a [u8]>
-        ensures { seen (λ r. r.now) result ≡ data_at (pointer_seen A.segments self.entry) }
+        ensures { seen (λ r. r.now) result ≡ pointed_data (pointer_seen A.segments self.entry) }
     {
         match self {
             PointerSource::Message(pointer) => data_behind(pointer),
@@ -155,7 +155,7 @@ impl<'a, A: ReaderArena> PointerSource<'a, A> {
     /// The struct behind the pointer; null is the empty one.
     pub(crate) fn structure(self) -> Result<StructSource<'a, A>>
         ensures { seen (struct_seen A.segments) result
-            ≡ struct_at (pointer_seen A.segments self.entry) }
+            ≡ pointed_struct (pointer_seen A.segments self.entry) }
     {
         match self {
             PointerSource::Message(pointer) => Ok(StructSource::Message(struct_behind(pointer)?)),
@@ -163,10 +163,11 @@ impl<'a, A: ReaderArena> PointerSource<'a, A> {
         }
     }
 
-    /// The list behind the pointer, whose elements can be read as ones of the expected size; null is the empty one.
+    /// The list behind the pointer, whose elements can be read as ones of the expected size; null
+    /// is the empty one.
     pub(crate) fn list(self, expected: ElementSize) -> Result<ListSource<'a, A>>
         ensures list { seen (list_seen A.segments) result
-            ≡ list_at expected (pointer_seen A.segments self.entry) }
+            ≡ pointed_list expected (pointer_seen A.segments self.entry) }
         ensures bytewise { size_number expected ≢ 1
             → IfOk result (λ l. size_number (size_in l) ≢ 1) }
     {
@@ -182,7 +183,8 @@ impl<'a, A: ReaderArena> PointerSource<'a, A> {
 }
 
 impl<'a, A: ReaderArena> StructSource<'a, A> {
-    /// A number of the data section, exclusive or its default; just the default where it doesn't lie wholly in the section.
+    /// A number of the data section, exclusive or its default; exactly the default where it doesn't
+    /// lie wholly in the section.
     pub(crate) fn number<T: Primitive + Zero + Mask>(&self, offset: usize, mask: T::T) -> T
         requires { T.mask_bits mask < 2 ^ (8 * T.BYTES) }
         ensures { T.bits result
@@ -259,7 +261,7 @@ impl<'a, A: ReaderArena> ListSource<'a, A> {
     pub(crate) fn structure(&self, index: u32) -> StructSource<'a, A>
         requires index { index < (list_seen A.segments self.now).count }
         requires bytes { size_number (size_in self.now) ≢ 1 }
-        ensures { struct_seen A.segments result ≡ element_of (list_seen A.segments self.now) index }
+        ensures { struct_seen A.segments result ≡ element_as_struct (list_seen A.segments self.now) index }
     {
         match self {
             ListSource::Message(reader) => StructSource::Message(reader.get_struct_element(index)),
@@ -271,7 +273,7 @@ impl<'a, A: ReaderArena> ListSource<'a, A> {
     pub(crate) fn pointer(&self, index: u32) -> PointerSource<'a, A>
         requires { index < (list_seen A.segments self.now).count }
         ensures { pointer_seen A.segments result
-            ≡ pointer_field (element_of (list_seen A.segments self.now) index) 0 }
+            ≡ pointer_field (element_as_struct (list_seen A.segments self.now) index) 0 }
     {
         match self {
             ListSource::Message(reader) => PointerSource::Message(reader.get_pointer_element(

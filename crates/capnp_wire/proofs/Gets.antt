@@ -7,15 +7,15 @@ use Rattle.capnp_model.specs.Chains.{◌and_then◌, passes}
 use Rattle.capnp_model.specs.Segments.{Segments, Place, word_at}
 use Rattle.capnp_units.specs.declared.errors.Error.{Error}
 use Rattle.capnp_units.specs.declared.limiter.ReadLimiter.{ReadLimiter}
-use Rattle.capnp_object.specs.declared.place.Place as wire
-use Rattle.capnp_object.specs.declared.object.Object.{Object}
-use Rattle.capnp_object.specs.declared.object.Object.TheVariants as object
-use Rattle.capnp_object.specs.declared.object.Found.{Found}
-use Rattle.capnp_object.specs.Places.{seen, place_view}
-use Rattle.capnp_object.specs.Objects.{object_at}
-use Rattle.capnp_object.specs.Follow.{FollowGives, found_cost}
+use Rattle.capnp_wire_objects.specs.declared.place.Place as wire
+use Rattle.capnp_wire_objects.specs.declared.object.Object.{Object}
+use Rattle.capnp_wire_objects.specs.declared.object.Object.TheVariants as object
+use Rattle.capnp_wire_objects.specs.declared.object.Found.{Found}
+use Rattle.capnp_wire_objects.specs.Places.{seen, place_view}
+use Rattle.capnp_wire_objects.specs.Objects.{object_at}
+use Rattle.capnp_wire_objects.specs.Follow.{FollowGives, follow_cost}
 use Rattle.capnp_wire.specs.Views.{PointerView, place_seen}
-use Rattle.capnp_wire.specs.Reads.{is_null_at, is_null, found_behind, object_behind, is_charged, PaysFor, PaysNothing, IsTooDear, GetGives}
+use Rattle.capnp_wire.specs.Reads.{is_null_at, is_null_pointer, found_behind, object_behind, is_charged, PaysFor, PaysNothing, IsTooDear, GetGives}
 
 zero_tested : (w : Option ℕ) → option_eq eqb w (Some 0) ≡ passes (λ n. eqb n 0) w
 zero_tested None = refl
@@ -51,32 +51,32 @@ charged_there paid null e h = rw (e, h) refl
 uncharged_default : (paid null : Bool) → paid ≡ false → (paid && not null) ≡ false
 uncharged_default paid null e = rw e refl
 
-pub null_reached : (p : PointerView) (l : ReadLimiter) → is_null p ≡ true → GetGives (λ (o : Object). o) (λ o. Ok o) p l (Ok object.Null) l
+pub null_reached : (p : PointerView) (l : ReadLimiter) → is_null_pointer p ≡ true → GetGives (λ (o : Object). o) (λ o. Ok o) p l (Ok object.Null) l
 null_reached p l h =
-    let free : is_charged p ≡ false = uncharged_null p.basis.paid (is_null p) h in
-    (nothing_found, null_names p.basis.segments p.place h, subst (λ (b : Bool). PaysFor b l l (found_cost nothing_found)) (sym free) refl, refl)
+    let free : is_charged p ≡ false = uncharged_null p.basis.paid (is_null_pointer p) h in
+    (nothing_found, null_names p.basis.segments p.place h, subst (λ (b : Bool). PaysFor b l l (follow_cost nothing_found)) (sym free) refl, refl)
 
 module _ (p : PointerView) (q : Place) (here : p.place ≡ Some q) where
   behind : object_behind p ≡ object_at p.basis.segments q
   behind = ap (found_behind p.basis.segments) here
 
-  pub followed : (r : Result Object Error) (old new : ReadLimiter) → p.basis.paid ≡ true → is_null p ≡ false → FollowGives p.basis.segments q old r new → GetGives (λ (o : Object). o) (λ o. Ok o) p old r new
+  pub followed : (r : Result Object Error) (old new : ReadLimiter) → p.basis.paid ≡ true → is_null_pointer p ≡ false → FollowGives p.basis.segments q old r new → GetGives (λ (o : Object). o) (λ o. Ok o) p old r new
   followed (Ok o) old new e h f =
-      let charged : is_charged p ≡ true = charged_there p.basis.paid (is_null p) e h in
+      let charged : is_charged p ≡ true = charged_there p.basis.paid (is_null_pointer p) e h in
       let found : Found = record { pads = f.pads; object = o } in
-      (found, behind ∙ f.is, subst (λ (b : Bool). PaysFor b old new (found_cost found)) (sym charged) (f.spends, f.follows), refl)
+      (found, behind ∙ f.is, subst (λ (b : Bool). PaysFor b old new (follow_cost found)) (sym charged) (f.spends, f.follows), refl)
   followed (Err d) old new e h f =
-      let charged : is_charged p ≡ true = charged_there p.basis.paid (is_null p) e h in
+      let charged : is_charged p ≡ true = charged_there p.basis.paid (is_null_pointer p) e h in
       let nothing = subst (λ (b : Bool). PaysNothing b old new) (sym charged) (f.0, f.1) in
       elim f.2 [
         | inl fault ↦ inl (behind ∙ fault, nothing)
-        | inr dear ↦ inr (inl (dear.1, behind ∙ dear.2, dear.0, subst (λ (b : Bool). IsTooDear b old (found_cost dear.1)) (sym charged) dear.3, nothing))
+        | inr dear ↦ inr (inl (dear.1, behind ∙ dear.2, dear.0, subst (λ (b : Bool). IsTooDear b old (follow_cost dear.1)) (sym charged) dear.3, nothing))
       ]
 
   pub read_freely : (f : Found) (l : ReadLimiter) → p.basis.paid ≡ false → object_at p.basis.segments q ≡ Ok f → GetGives (λ (o : Object). o) (λ o. Ok o) p l (Ok f.object) l
   read_freely f l e h =
-      let free : is_charged p ≡ false = uncharged_default p.basis.paid (is_null p) e in
-      (f, behind ∙ h, subst (λ (b : Bool). PaysFor b l l (found_cost f)) (sym free) refl, refl)
+      let free : is_charged p ≡ false = uncharged_default p.basis.paid (is_null_pointer p) e in
+      (f, behind ∙ h, subst (λ (b : Bool). PaysFor b l l (follow_cost f)) (sym free) refl, refl)
 
 -- ---- what is read of what was given
 

@@ -12,10 +12,10 @@ use Rattle.capnp_units.specs.declared.sizes.ElementSize.{ElementSize}
 use Rattle.capnp_units.specs.declared.sizes.ElementSize.TheVariants.{Void, Bit, Byte, TwoBytes, FourBytes, EightBytes, Pointer, InlineComposite}
 use Rattle.capnp_units.specs.Errors.{kind_of}
 use Rattle.capnp_units.specs.Sizes.{size_number}
-use Rattle.capnp_object.specs.declared.place.Place as wire
-use Rattle.capnp_object.specs.declared.object.Object.TheVariants as object
-use Rattle.capnp_object.specs.Places.{place_view}
-use Rattle.capnp_object.specs.Objects.{AreThere, IsInside}
+use Rattle.capnp_wire_objects.specs.declared.place.Place as wire
+use Rattle.capnp_wire_objects.specs.declared.object.Object.TheVariants as object
+use Rattle.capnp_wire_objects.specs.Places.{place_view}
+use Rattle.capnp_wire_objects.specs.Objects.{AreThere, IsInside}
 use Rattle.capnp_wire.specs.Levels.{level_below}
 use Rattle.capnp_wire.specs.Views.{Ground, section_at, StructView, struct_view, list_view}
 use Rattle.capnp_wire.specs.Reads.{read_struct, read_bytes, as_text, list_head, read_elements}

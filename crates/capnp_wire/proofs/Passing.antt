@@ -4,7 +4,7 @@ use Rattle.capnp_model.specs.Kinds.{Kind}
 use Rattle.capnp_model.specs.Chains.{◌and_then◌, guard}
 use Rattle.capnp_units.specs.declared.errors.Error.{Error}
 use Rattle.capnp_units.specs.Errors.{kind_of}
-use Rattle.capnp_object.specs.Places.{seen}
+use Rattle.capnp_wire_objects.specs.Places.{seen}
 use Rattle.capnp_wire.specs.Levels.{level_below}
 
 -- ---- steps

@@ -13,19 +13,19 @@ use Rattle.capnp_model.proofs.lemmas.Chaining.{bind_some, some_is, bind_ok, ok_i
 use Rattle.capnp_units.specs.declared.sizes.ElementSize.{ElementSize}
 use Rattle.capnp_units.specs.declared.sizes.ElementSize.TheVariants.{Void, Bit, Byte, TwoBytes, FourBytes, EightBytes, Pointer, InlineComposite}
 use Rattle.capnp_units.specs.Sizes.{size_number, data_bits}
-use Rattle.capnp_object.specs.declared.object.Object.{Object}
-use Rattle.capnp_object.specs.declared.object.Object.TheVariants as object
-use Rattle.capnp_object.specs.declared.object.Found.{Found}
-use Rattle.capnp_object.specs.declared.place.Place as wire
-use Rattle.capnp_object.specs.Places.{place_view}
-use Rattle.capnp_object.specs.Inside.{words_there, tree_in}
+use Rattle.capnp_wire_objects.specs.declared.object.Object.{Object}
+use Rattle.capnp_wire_objects.specs.declared.object.Object.TheVariants as object
+use Rattle.capnp_wire_objects.specs.declared.object.Found.{Found}
+use Rattle.capnp_wire_objects.specs.declared.place.Place as wire
+use Rattle.capnp_wire_objects.specs.Places.{place_view}
+use Rattle.capnp_wire_objects.specs.Inside.{words_there, tree_in}
 use Rattle.capnp_model.proofs.lemmas.Counts.{each_count}
 use Rattle.capnp_wire.specs.Levels.{level_below}
-use Rattle.capnp_wire.specs.Views.{Ground, section_at, StructView, struct_view, ListView, list_view, element_of}
+use Rattle.capnp_wire.specs.Views.{Ground, section_at, StructView, struct_view, ListView, list_view, element_as_struct}
 use Rattle.capnp_wire.specs.Reads.{read_struct, as_text, read_blob, read_text, read_list, read_elements, list_head}
 use Rattle.capnp_wire.specs.Laws.{bytes_read, reads_behind, ShowsStruct, ShowsList, IsRead, BytesAreRead, StructsAreRead, ListsAreRead}
 use Rattle.std.proofs.lemmas.Bool.Decides.{nat_tests}
-use Rattle.capnp_object.proofs.lemmas.LevelLaws.{trees}
+use Rattle.capnp_wire_objects.proofs.lemmas.LevelLaws.{trees}
 use Rattle.capnp_wire.proofs.lemmas.ListLaws.{numbers_at, numbers_low, each_child, Holds, holds_at, structs_shown}
 
 -- ---- texts and data
@@ -154,37 +154,37 @@ module _ (below : Place → Option Tree) (g : Ground) (levels left : Option ℕ)
   plain_list_read p Void n small =
       let all : ℕ = section_at g.segments (place_view p) (words_for (0 * n)) in
       let view : Option ℕ → ListView = list_view g Void n all (place_view p) 0 0 in (
-        λ l h. subst (λ x. ShowsList below x (plain_list (size_number Void) n (all % 2 ^ (0 * n)))) (elements_ok view Void 0 0 l h) (refl, refl, λ i k. (sym (numbers_at 0 n (all % 2 ^ (0 * n)) i k), refl, no_child_in (element_of (view left) i).first)),
+        λ l h. subst (λ x. ShowsList below x (plain_list (size_number Void) n (all % 2 ^ (0 * n)))) (elements_ok view Void 0 0 l h) (refl, refl, λ i k. (sym (numbers_at 0 n (all % 2 ^ (0 * n)) i k), refl, no_child_in (element_as_struct (view left) i).first)),
         λ kind s ty e h. refused_alike Void 0 0 kind (plain_list 0 n (all % 2 ^ (0 * n))) (plain_readings s 0 (plain_elements 0 n (all % 2 ^ (0 * n))) ty) ty refl e (elements_err view Void 0 0 kind h),
       )
   plain_list_read p Bit n small =
       let all : ℕ = section_at g.segments (place_view p) (words_for (1 * n)) in
       let view : Option ℕ → ListView = list_view g Bit n all (place_view p) 0 0 in (
-        λ l h. subst (λ x. ShowsList below x (plain_list (size_number Bit) n (all % 2 ^ (1 * n)))) (elements_ok view Bit 0 0 l h) (refl, refl, λ i k. (sym (numbers_at 1 n (all % 2 ^ (1 * n)) i k), refl, no_child_in (element_of (view left) i).first)),
+        λ l h. subst (λ x. ShowsList below x (plain_list (size_number Bit) n (all % 2 ^ (1 * n)))) (elements_ok view Bit 0 0 l h) (refl, refl, λ i k. (sym (numbers_at 1 n (all % 2 ^ (1 * n)) i k), refl, no_child_in (element_as_struct (view left) i).first)),
         λ kind s ty e h. refused_alike Bit 0 0 kind (plain_list 1 n (all % 2 ^ (1 * n))) (plain_readings s 1 (plain_elements 1 n (all % 2 ^ (1 * n))) ty) ty refl e (elements_err view Bit 0 0 kind h),
       )
   plain_list_read p Byte n small =
       let all : ℕ = section_at g.segments (place_view p) (words_for (8 * n)) in
       let view : Option ℕ → ListView = list_view g Byte n all (place_view p) 0 0 in (
-        λ l h. subst (λ x. ShowsList below x (plain_list (size_number Byte) n (all % 2 ^ (8 * n)))) (elements_ok view Byte 0 0 l h) (refl, refl, λ i k. (sym (numbers_at 8 n (all % 2 ^ (8 * n)) i k), refl, no_child_in (element_of (view left) i).first)),
+        λ l h. subst (λ x. ShowsList below x (plain_list (size_number Byte) n (all % 2 ^ (8 * n)))) (elements_ok view Byte 0 0 l h) (refl, refl, λ i k. (sym (numbers_at 8 n (all % 2 ^ (8 * n)) i k), refl, no_child_in (element_as_struct (view left) i).first)),
         λ kind s ty e h. refused_alike Byte 0 0 kind (plain_list 2 n (all % 2 ^ (8 * n))) (plain_readings s 8 (plain_elements 2 n (all % 2 ^ (8 * n))) ty) ty refl e (elements_err view Byte 0 0 kind h),
       )
   plain_list_read p TwoBytes n small =
       let all : ℕ = section_at g.segments (place_view p) (words_for (16 * n)) in
       let view : Option ℕ → ListView = list_view g TwoBytes n all (place_view p) 0 0 in (
-        λ l h. subst (λ x. ShowsList below x (plain_list (size_number TwoBytes) n (all % 2 ^ (16 * n)))) (elements_ok view TwoBytes 0 0 l h) (refl, refl, λ i k. (sym (numbers_at 16 n (all % 2 ^ (16 * n)) i k), refl, no_child_in (element_of (view left) i).first)),
+        λ l h. subst (λ x. ShowsList below x (plain_list (size_number TwoBytes) n (all % 2 ^ (16 * n)))) (elements_ok view TwoBytes 0 0 l h) (refl, refl, λ i k. (sym (numbers_at 16 n (all % 2 ^ (16 * n)) i k), refl, no_child_in (element_as_struct (view left) i).first)),
         λ kind s ty e h. refused_alike TwoBytes 0 0 kind (plain_list 3 n (all % 2 ^ (16 * n))) (plain_readings s 16 (plain_elements 3 n (all % 2 ^ (16 * n))) ty) ty refl e (elements_err view TwoBytes 0 0 kind h),
       )
   plain_list_read p FourBytes n small =
       let all : ℕ = section_at g.segments (place_view p) (words_for (32 * n)) in
       let view : Option ℕ → ListView = list_view g FourBytes n all (place_view p) 0 0 in (
-        λ l h. subst (λ x. ShowsList below x (plain_list (size_number FourBytes) n (all % 2 ^ (32 * n)))) (elements_ok view FourBytes 0 0 l h) (refl, refl, λ i k. (sym (numbers_at 32 n (all % 2 ^ (32 * n)) i k), refl, no_child_in (element_of (view left) i).first)),
+        λ l h. subst (λ x. ShowsList below x (plain_list (size_number FourBytes) n (all % 2 ^ (32 * n)))) (elements_ok view FourBytes 0 0 l h) (refl, refl, λ i k. (sym (numbers_at 32 n (all % 2 ^ (32 * n)) i k), refl, no_child_in (element_as_struct (view left) i).first)),
         λ kind s ty e h. refused_alike FourBytes 0 0 kind (plain_list 4 n (all % 2 ^ (32 * n))) (plain_readings s 32 (plain_elements 4 n (all % 2 ^ (32 * n))) ty) ty refl e (elements_err view FourBytes 0 0 kind h),
       )
   plain_list_read p EightBytes n small =
       let all : ℕ = section_at g.segments (place_view p) (words_for (64 * n)) in
       let view : Option ℕ → ListView = list_view g EightBytes n all (place_view p) 0 0 in (
-        λ l h. subst (λ x. ShowsList below x (plain_list (size_number EightBytes) n (all % 2 ^ (64 * n)))) (elements_ok view EightBytes 0 0 l h) (refl, refl, λ i k. (sym (numbers_at 64 n (all % 2 ^ (64 * n)) i k), refl, no_child_in (element_of (view left) i).first)),
+        λ l h. subst (λ x. ShowsList below x (plain_list (size_number EightBytes) n (all % 2 ^ (64 * n)))) (elements_ok view EightBytes 0 0 l h) (refl, refl, λ i k. (sym (numbers_at 64 n (all % 2 ^ (64 * n)) i k), refl, no_child_in (element_as_struct (view left) i).first)),
         λ kind s ty e h. refused_alike EightBytes 0 0 kind (plain_list 5 n (all % 2 ^ (64 * n))) (plain_readings s 64 (plain_elements 5 n (all % 2 ^ (64 * n))) ty) ty refl e (elements_err view EightBytes 0 0 kind h),
       )
   plain_list_read p Pointer n small = absurd (omega arith)
@@ -210,7 +210,7 @@ module _ (below : Place → Option Tree) (g : Ground) (levels left : Option ℕ)
       let a = bind_some (each below (place_view p) n) _ t e in
       let view : Option ℕ → ListView = list_view g Pointer n 0 (place_view p) 0 0 in
       let count = each_count below (place_view p) n a.0 a.1 in
-      let nothing : (i : ℕ) → (element_of (view left) i).section ≡ 0 = λ i. omega arith in
+      let nothing : (i : ℕ) → (element_as_struct (view left) i).section ≡ 0 = λ i. omega arith in
       subst (ReadsList below g levels expected (object.PointerList p n)) (some_is _ t a.2) (
         λ l h. subst (λ x. ShowsList below x (pointer_list a.0)) (elements_ok view Pointer 0 0 l h) (refl, sym count, λ i k. (nothing i, refl, λ j. one_child (place_view p) n i a.0 j a.1 (omega arith))),
         λ kind s ty c h. refused_alike Pointer 0 0 kind (pointer_list a.0) (pointer_elements s a.0 ty) ty refl c (elements_err view Pointer 0 0 kind h),

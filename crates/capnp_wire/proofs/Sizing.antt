@@ -12,11 +12,11 @@ use Rattle.capnp_units.specs.declared.errors.Error.{Error}
 use Rattle.capnp_units.specs.declared.limiter.ReadLimiter.{ReadLimiter}
 use Rattle.capnp_units.specs.declared.sizes.MessageSize.{MessageSize}
 use Rattle.capnp_units.specs.Limits.{less, limit_of, granted_of, left_of, IsPassed}
-use Rattle.capnp_object.specs.Walks.{SizeGives, SizeCounts}
-use Rattle.capnp_object.proofs.lemmas.Walks.{walked_none, first_fault}
-use Rattle.capnp_object.proofs.lemmas.Measuring.{wordless, nothing_counted}
+use Rattle.capnp_wire_objects.specs.Walks.{SizeGives, SizeCounts}
+use Rattle.capnp_wire_objects.proofs.lemmas.Walks.{walked_none, first_fault}
+use Rattle.capnp_wire_objects.proofs.lemmas.Measuring.{wordless, nothing_counted}
 use Rattle.capnp_wire.specs.Views.{PointerView, StructView}
-use Rattle.capnp_wire.specs.ValueSizes.{SizeOn, NoLevels, tree_behind, visits_behind, PointerSize, StructSizeOf}
+use Rattle.capnp_wire.specs.ValueSizes.{SizeOn, SizeWithoutLevels, tree_behind, visits_behind, PointerSize, StructSizeOf}
 
 -- ---- on a basis where nothing may be paid
 
@@ -37,7 +37,7 @@ size_nothing false l = (null, refl, nothing_counted, refl)
 pub value_size : (p : PointerView) (n : ℕ) (old new : ReadLimiter) (r : Result MessageSize Error) → p.levels ≡ Some n → SizeOn p.basis.paid object_words capability_count (tree_behind n p.basis.segments p.place) (visits_behind n p.basis.segments p.place) old r new → PointerSize p old r new
 value_size p n old new r e here =
     let s = p.basis.segments in
-    subst (λ (o : Option ℕ). MatchOption o (NoLevels old r new) (λ m. SizeOn p.basis.paid object_words capability_count (tree_behind m s p.place) (visits_behind m s p.place) old r new)) (sym e) here
+    subst (λ (o : Option ℕ). MatchOption o (SizeWithoutLevels old r new) (λ m. SizeOn p.basis.paid object_words capability_count (tree_behind m s p.place) (visits_behind m s p.place) old r new)) (sym e) here
 
 pub null_size : (p : PointerView) (n : ℕ) (l : ReadLimiter) → p.levels ≡ Some n → p.place ≡ None → PointerSize p l (Ok (wordless 0)) l
 null_size p n l e f =
@@ -55,5 +55,5 @@ struct_size v n more old new size size' e m h g =
     let s = v.basis.segments in
     let count : (w c : ℕ) → SizeCounts w c size → SizeCounts (w + (words_for v.bits + v.pointers)) c size' = λ w c k. subst (λ (x : ℕ). SizeCounts (w + x) c size') m (h w c k) in
     let here = sized_more v.basis.paid each_object_words each_capability_count (each (tree_at n s) v.first v.pointers) (from_each (visits n s) v.first v.pointers) (words_for v.bits + v.pointers) old new size size' count g in
-    subst (λ (o : Option ℕ). MatchOption o (NoLevels old (Ok size') new)
+    subst (λ (o : Option ℕ). MatchOption o (SizeWithoutLevels old (Ok size') new)
     (λ m. SizeOn v.basis.paid (λ ts. each_object_words ts + (words_for v.bits + v.pointers)) each_capability_count (each (tree_at m s) v.first v.pointers) (from_each (visits m s) v.first v.pointers) old (Ok size') new)) (sym e) here

@@ -12,14 +12,14 @@ use Rattle.capnp_model.specs.Visits.{visits}
 use Rattle.capnp_units.specs.declared.errors.Error.{Error}
 use Rattle.capnp_units.specs.declared.limiter.ReadLimiter.{ReadLimiter}
 use Rattle.capnp_units.specs.Limits.{limit_of}
-use Rattle.capnp_object.specs.Objects.{AreThere}
+use Rattle.capnp_wire_objects.specs.Objects.{AreThere}
 use Rattle.capnp_units.specs.declared.kinds.ErrorKind.{ErrorKind}
 use Rattle.capnp_units.specs.declared.kinds.ErrorKind.TheVariants.{NestingLimitExceeded}
-use Rattle.capnp_canonical.specs.Standing.{IsSmall}
-use Rattle.capnp_canonical.specs.Checks.{Tells, TellsValue, TellsStruct}
-use Rattle.capnp_canonical.proofs.lemmas.Checking.{began_none}
+use Rattle.capnp_wire_canonical.specs.Standing.{IsSmall}
+use Rattle.capnp_wire_canonical.specs.Checks.{Tells, TellsValue, TellsStruct}
+use Rattle.capnp_wire_canonical.proofs.lemmas.Checking.{began_none}
 use Rattle.capnp_units.specs.Segments.{words_in}
-use Rattle.capnp_backing.specs.declared.backing.Backing.{Backing}
+use Rattle.capnp_wire.specs.declared.backing.Backing.{Backing}
 use Rattle.capnp_wire.specs.Views.{backing_bytes, is_paid, PointerView, StructView, section_at}
 use Rattle.capnp_wire.specs.Canonical.{ToldOn, NoLevels, PointerTells, LiesAt, StandsAs, StructTellsIn, section_words}
 

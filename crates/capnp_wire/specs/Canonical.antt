@@ -11,8 +11,8 @@ use Rattle.capnp_units.specs.declared.errors.Error.{Error}
 use Rattle.capnp_units.specs.declared.kinds.ErrorKind.TheVariants.{NestingLimitExceeded}
 use Rattle.capnp_units.specs.declared.limiter.ReadLimiter.{ReadLimiter}
 use Rattle.capnp_units.specs.Limits.{limit_of}
-use Rattle.capnp_canonical.specs.Standing.{IsSmall}
-use Rattle.capnp_canonical.specs.Checks.{StandsStruct, Tells, TellsValue}
+use Rattle.capnp_wire_canonical.specs.Standing.{IsSmall}
+use Rattle.capnp_wire_canonical.specs.Checks.{StandsStruct, Tells, TellsValue}
 use Rattle.capnp_wire.specs.Views.{PointerView, StructView, section_at}
 
 -- A walk under a limiter without a limit tells it, and nothing is paid.
@@ -59,12 +59,13 @@ abbrev pub head_after : StructView → Place → Result Bool Error → Place
 head_after v p (Ok true) = after p (section_words v + v.pointers)
 head_after v p _ = p
 
--- What is told of a struct that so many levels may be followed from: whether it stands from two heads on, that of its own words and that of what its pointers lead to.
+-- What is told of a struct that n levels may be followed from: whether it stands from two heads on.
+-- One is that of its own words, the other that of what its pointers lead to.
 abbrev pub StructTellsIn : ℕ → StructView → Place → Place → Result Bool Error → Place → ReadLimiter → ReadLimiter → Type 0
 StructTellsIn n v p head r head' l m =
     let s = v.basis.segments in Tells (each (tree_at n s) v.first v.pointers) (λ more. each (tree_at (more + n) s) v.first v.pointers) have_capability (StandsAs v p head) (IsSmall s v.first) (from_each (visits n s) v.first v.pointers) head l r head' m
 
--- The same with both heads, as they are left.
+-- What is told of a struct, with both heads as they are left.
 abbrev pub StructTells : StructView → Place → Place → ReadLimiter → Result Bool Error → Place → Place → ReadLimiter → Type 0
 StructTells v p head old r p' head' new =
     MatchOption v.levels (NoLevels r old new × (p' ≡ p) × (head' ≡ head)) (λ n. (p' ≡ head_after v p r) × ToldOn v.basis.paid (StructTellsIn n v p head r head') old new)

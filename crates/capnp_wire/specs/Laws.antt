@@ -6,13 +6,13 @@ use Rattle.capnp_model.specs.Trees.{Tree, null, structure, plain_list, pointer_l
 use Rattle.capnp_model.specs.Traversal.{tree_at}
 use Rattle.capnp_model.specs.Schemas.{Schema, Ty, text, blob, struct, list}
 use Rattle.capnp_model.specs.Readings.{Reading, null_pointer, fault, text_of, blob_of, expected_size, read}
-use Rattle.capnp_object.specs.declared.object.Found.{Found}
+use Rattle.capnp_wire_objects.specs.declared.object.Found.{Found}
 use Rattle.capnp_units.specs.declared.sizes.ElementSize.{ElementSize}
 use Rattle.capnp_units.specs.declared.sizes.ElementSize.TheVariants.{Pointer, InlineComposite}
 use Rattle.capnp_units.specs.Sizes.{size_number}
-use Rattle.capnp_object.specs.Objects.{object_at}
+use Rattle.capnp_wire_objects.specs.Objects.{object_at}
 use Rattle.capnp_wire.specs.Levels.{level_below}
-use Rattle.capnp_wire.specs.Views.{Ground, StructView, pointer_field, ListView, element_of}
+use Rattle.capnp_wire.specs.Views.{Ground, StructView, pointer_field, ListView, element_as_struct}
 use Rattle.capnp_wire.specs.Reads.{read_struct, read_blob, read_text, read_list}
 
 -- The bytes of a text or of data, by what they read as; null has none.
@@ -45,14 +45,15 @@ ShowsElement below v bits section kids = (v.section ≡ section) × (v.bits ≡ 
 -- The elements from the ith on are those of the list as it is read, each with its section and its children.
 abbrev pub ShowsElements : (Place → Option Tree) → ListView → ℕ → Elements → Type 0
 ShowsElements below l i no_elements = Unit {0}
-ShowsElements below l i (element section kids es) = ShowsElement below (element_of l i) (64 * l.data_words) section kids × ShowsElements below l (suc i) es
+ShowsElements below l i (element section kids es) = ShowsElement below (element_as_struct l i) (64 * l.data_words) section kids × ShowsElements below l (suc i) es
 
--- A list as it is read has the size, the count and the elements of the value. A plain element that is read as a struct has just its bits.
+-- A list as it is read has the size, the count and the elements of the value. A plain element that
+-- is read as a struct has exactly its bits.
 abbrev pub ShowsList : (Place → Option Tree) → ListView → Tree → Type 0
 ShowsList below l null = l.count ≡ 0
 ShowsList below l (plain_list size n section) =
-    (size_number l.size ≡ size) × (l.count ≡ n) × ((i : ℕ) → i < n → ShowsElement below (element_of l i) (size_bits size) (slice_index (plain_elements size n section) i) none)
-ShowsList below l (pointer_list kids) = (l.size ≡ Pointer) × (l.count ≡ tree_count kids) × ((i : ℕ) → i < tree_count kids → ShowsElement below (element_of l i) 0 0 (child kids i ▸ none))
+    (size_number l.size ≡ size) × (l.count ≡ n) × ((i : ℕ) → i < n → ShowsElement below (element_as_struct l i) (size_bits size) (slice_index (plain_elements size n section) i) none)
+ShowsList below l (pointer_list kids) = (l.size ≡ Pointer) × (l.count ≡ tree_count kids) × ((i : ℕ) → i < tree_count kids → ShowsElement below (element_as_struct l i) 0 0 (child kids i ▸ none))
 ShowsList below l (struct_list words pointers es) = (l.size ≡ InlineComposite) × (l.count ≡ element_count es) × (l.data_words ≡ words) × ShowsElements below l 0 es
 ShowsList below l _ = ⊥
 

@@ -5,14 +5,4 @@ pub mod Reads
 pub mod ValueSizes
 pub mod Canonical
 pub mod Laws
-pub use Rattle.capnp_object.specs.Places
-pub use Rattle.capnp_object.specs.Arenas
-pub use Rattle.capnp_object.specs.Named
-pub use Rattle.capnp_object.specs.Objects
-pub use Rattle.capnp_object.specs.Follow
-pub use Rattle.capnp_object.specs.Inside
-pub use Rattle.capnp_object.specs.Walks
-pub use Rattle.capnp_units.specs.Errors
-pub use Rattle.capnp_units.specs.Limits
-pub use Rattle.capnp_units.specs.Segments
-pub use Rattle.capnp_units.specs.Sizes
+pub mod Grounds

@@ -19,12 +19,12 @@ use Rattle.capnp_units.specs.Errors.{kind_of}
 use Rattle.capnp_units.specs.Segments.{words_in}
 use Rattle.capnp_units.specs.Sizes.{size_number, data_bits}
 use Rattle.capnp_units.specs.Limits.{left_of, Spends, IsPassed, Follows}
-use Rattle.capnp_object.specs.declared.object.Object.{Object}
-use Rattle.capnp_object.specs.declared.object.Object.TheVariants as object
-use Rattle.capnp_object.specs.declared.object.Found.{Found}
-use Rattle.capnp_object.specs.Places.{place_view}
-use Rattle.capnp_object.specs.Objects.{object_at}
-use Rattle.capnp_object.specs.Follow.{found_cost, KeepsBudget}
+use Rattle.capnp_wire_objects.specs.declared.object.Object.{Object}
+use Rattle.capnp_wire_objects.specs.declared.object.Object.TheVariants as object
+use Rattle.capnp_wire_objects.specs.declared.object.Found.{Found}
+use Rattle.capnp_wire_objects.specs.Places.{place_view}
+use Rattle.capnp_wire_objects.specs.Objects.{object_at}
+use Rattle.capnp_wire_objects.specs.Follow.{follow_cost, KeepsBudget}
 use Rattle.capnp_wire.specs.Levels.{level_below}
 use Rattle.capnp_wire.specs.Views.{Ground, default_ground, section_at, arena_root, PointerView, StructView, struct_view, ListView, list_view}
 
@@ -36,8 +36,8 @@ is_null_at s None = true
 is_null_at s (Some p) = passes (λ w. w == 0) (word_at s p)
 
 -- The pointer is null.
-abbrev pub is_null : PointerView → Bool
-is_null p = is_null_at p.basis.segments p.place
+abbrev pub is_null_pointer : PointerView → Bool
+is_null_pointer p = is_null_at p.basis.segments p.place
 
 -- The root of a default, with the levels that are left.
 abbrev pub default_root : List (List ℕ) → Option ℕ → PointerView
@@ -45,12 +45,12 @@ default_root words levels = record { basis = default_ground words; place = Some 
 
 -- What is read in place of a null pointer: the default, unless its root is null too.
 abbrev pub unless_null : PointerView → PointerView → PointerView
-unless_null p d = if is_null d then p else d
+unless_null p d = if is_null_pointer d then p else d
 
 -- What is read of a pointer that may have a default.
 abbrev pub with_default : PointerView → Option (List (List ℕ)) → PointerView
 with_default p None = p
-with_default p (Some words) = if is_null p then unless_null p (default_root words p.levels) else p
+with_default p (Some words) = if is_null_pointer p then unless_null p (default_root words p.levels) else p
 
 -- The root pointer of an arena, where there is one. (Encoding, "Messages")
 abbrev pub root_of : List (List ℕ) → ℤ → Result PointerView Kind
@@ -69,9 +69,9 @@ object_behind p = found_behind p.basis.segments p.place
 
 -- The budget is asked: the pointer isn't null and no default's.
 abbrev pub is_charged : PointerView → Bool
-is_charged p = p.basis.paid && not (is_null p)
+is_charged p = p.basis.paid && not (is_null_pointer p)
 
--- So many words were paid for a followed pointer; what isn't charged changes nothing.
+-- n words were paid for a followed pointer; what isn't charged changes nothing.
 abbrev pub PaysFor : Bool → ReadLimiter → ReadLimiter → ℕ → Type 0
 PaysFor true old new words = Spends old new words × Follows old new 1
 PaysFor false old new words = new ≡ old
@@ -81,28 +81,29 @@ abbrev pub PaysNothing : Bool → ReadLimiter → ReadLimiter → Type 0
 PaysNothing true old new = KeepsBudget old new × Follows old new 1
 PaysNothing false old new = new ≡ old
 
--- So many words can't be paid.
+-- n words can't be paid.
 abbrev pub IsTooDear : Bool → ReadLimiter → ℕ → Type 0
 IsTooDear true old words = IsPassed (left_of old) words
 IsTooDear false old words = ⊥
 
--- What a get of a pointer answers: what its object reads as. It is refused by the kind of the fault there, just where the budget doesn't suffice, or by the kind of what doesn't read so.
+-- What a get of a pointer returns: what its object reads as. It is refused by the kind of the fault
+-- there, exactly where the budget doesn't suffice, or by the kind of what doesn't read so.
 abbrev pub GetGives : {X Y : Type 0} → (X → Y) → (Object → Result Y Kind) → PointerView → ReadLimiter → Result X Error → ReadLimiter → Type 0
-GetGives view read p old (Ok x) new = (f : Found) × (object_behind p ≡ Ok f) × PaysFor (is_charged p) old new (found_cost f) × (read f.object ≡ Ok (view x))
+GetGives view read p old (Ok x) new = (f : Found) × (object_behind p ≡ Ok f) × PaysFor (is_charged p) old new (follow_cost f) × (read f.object ≡ Ok (view x))
 GetGives view read p old (Err e) new =
     ((object_behind p ≡ Err (kind_of e.kind)) × PaysNothing (is_charged p) old new)
-    ⊎ ((f : Found) × (object_behind p ≡ Ok f) × (e.kind ≡ ReadLimitExceeded) × IsTooDear (is_charged p) old (found_cost f) × PaysNothing (is_charged p) old new)
-    ⊎ ((f : Found) × (object_behind p ≡ Ok f) × PaysFor (is_charged p) old new (found_cost f) × (read f.object ≡ Err (kind_of e.kind)))
+    ⊎ ((f : Found) × (object_behind p ≡ Ok f) × (e.kind ≡ ReadLimitExceeded) × IsTooDear (is_charged p) old (follow_cost f) × PaysNothing (is_charged p) old new)
+    ⊎ ((f : Found) × (object_behind p ≡ Ok f) × PaysFor (is_charged p) old new (follow_cost f) × (read f.object ≡ Err (kind_of e.kind)))
 
 -- ---- structs
 
 -- A struct without sections, as which null reads.
-abbrev pub empty_struct : Ground → Option ℕ → StructView
-empty_struct g levels = struct_view g 0 0 root 0 levels
+abbrev pub struct_of_null : Ground → Option ℕ → StructView
+struct_of_null g levels = struct_view g 0 0 root 0 levels
 
 -- An object as a struct. (Encoding, "Structs")
 abbrev pub read_struct : Ground → Option ℕ → Object → Result StructView Kind
-read_struct g levels object.Null = Ok (empty_struct g levels)
+read_struct g levels object.Null = Ok (struct_of_null g levels)
 read_struct g levels (object.Struct p d k) =
     level_below levels and_then λ l. Ok (struct_view g (section_at g.segments (place_view p) d) (64 * d) (after (place_view p) d) k l)
 read_struct g levels _ = Err WrongPointerKind
@@ -159,16 +160,16 @@ read_list g levels expected _ = Err WrongPointerKind
 -- ---- the sort of object
 
 -- The sort of the object that a pointer names, whether its words are there or not.
-abbrev pub type_of : model.Object → PointerType
-type_of model.nothing = sort.Null
-type_of (model.a_struct p d k) = sort.Struct
-type_of (model.a_list p size n) = sort.List
-type_of (model.a_capability i) = sort.Capability
+abbrev pub pointer_type_of : model.Object → PointerType
+pointer_type_of model.nothing = sort.Null
+pointer_type_of (model.a_struct p d k) = sort.Struct
+pointer_type_of (model.a_list p size n) = sort.List
+pointer_type_of (model.a_capability i) = sort.Capability
 
 -- The sort of object at a place, if there is one, where it begins inside its segment; no word of it is looked at.
 abbrev pub type_at : Segments → Option Place → Result PointerType Kind
 type_at s None = Ok sort.Null
-type_at s (Some p) = model.found_at s p and_then λ f. guard (model.begins_inside s f.object) OutOfBounds and_then λ _. Ok (type_of f.object)
+type_at s (Some p) = model.found_at s p and_then λ f. guard (model.begins_inside s f.object) OutOfBounds and_then λ _. Ok (pointer_type_of f.object)
 
 -- The sort of object behind a pointer that may be none.
 abbrev pub type_behind : PointerView → Result PointerType Kind

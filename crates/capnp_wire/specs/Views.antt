@@ -1,7 +1,7 @@
 -- Readers as their callers see them.
-pub use Rattle.capnp_object.specs.Inside.{section_in}
-unfoldable pub use Rattle.capnp_object.specs.Inside.{section_at}
-pub use Rattle.capnp_backing.specs.Grounds.{backing_bytes, is_paid, Ground, ground_of, default_ground}
+pub use Rattle.capnp_wire_objects.specs.Inside.{section_in}
+unfoldable pub use Rattle.capnp_wire_objects.specs.Inside.{section_at}
+pub use Rattle.capnp_wire.specs.Grounds.{backing_bytes, is_paid, Ground, ground_of, default_ground}
 use Rattle.std.specs.Prelude.{ℕ, ℤ, ◌+◌, ◌*◌, ◌%◌, ◌^◌, nat_lt, nat_le, if◌then◌else◌, Bool, true, false, List, length, Option, Some, None}
 use Rattle.capnp_model.specs.Answers.{levels}
 use Rattle.capnp_model.specs.Sections.{bits_at, number_of, words_for}
@@ -9,11 +9,11 @@ use Rattle.capnp_model.specs.Segments.{Place, root, after}
 use Rattle.capnp_units.specs.declared.sizes.ElementSize.{ElementSize}
 use Rattle.capnp_units.specs.Segments.{words_in}
 use Rattle.capnp_units.specs.Sizes.{size_number}
-use Rattle.capnp_object.specs.declared.place.Place as wire
+use Rattle.capnp_wire_objects.specs.declared.place.Place as wire
 use Rattle.capnp_wire.specs.declared.pointer.PointerReader.{PointerReader}
 use Rattle.capnp_wire.specs.declared.structs.StructReader.{StructReader}
 use Rattle.capnp_wire.specs.declared.list.ListReader.{ListReader}
-use Rattle.capnp_object.specs.Places.{place_view}
+use Rattle.capnp_wire_objects.specs.Places.{place_view}
 use Rattle.capnp_wire.specs.Elements.{step_bits, element_bits, step_words, element_pointers}
 
 -- A pointer to read: where it stands, if it does, and how many levels may be followed from it.
@@ -22,7 +22,8 @@ pub record PointerView : Type 0 where
   pub place : Option Place
   pub levels : Option ℕ
 
--- A struct to read: its data section, how many bits that has, where its first pointer stands and how many there are, and the levels that may be followed from each.
+-- A struct to read: its data section, how many bits that has, and the levels that may be followed
+-- from each pointer. It says where its first pointer stands and how many there are.
 pub record StructView : Type 0 where
   pub basis : Ground
   pub section : ℕ
@@ -49,7 +50,9 @@ abbrev pub seen_struct : {A : Type 0} → (A → List (List ℕ)) → StructRead
 seen_struct bytes r =
     struct_view (ground_of bytes r.backing) (number_of 8 r.section.now) (8 * length r.section.now) (place_view r.first) r.pointers r.levels
 
--- A list to read: the size of its elements, their count, the section of them all, where the first begins, for structs their data words and pointers, and the levels that may be followed from each pointer.
+-- A list to read: the size of its elements, their count, the section of them all, and where the
+-- first begins. For structs it has their data words and pointers, and the levels that may be
+-- followed from each pointer.
 pub record ListView : Type 0 where
   pub basis : Ground
   pub size : ElementSize
@@ -78,9 +81,9 @@ bit_of_bool false = 0
 abbrev pub pointer_field : StructView → ℕ → PointerView
 pointer_field s i = record { basis = s.basis; place = (if nat_lt i s.pointers then Some (after s.first i) else None); levels = s.levels }
 
--- An element as a struct; a plain one has just its bits, a pointer is its only pointer.
-abbrev pub element_of : ListView → ℕ → StructView
-element_of l i =
+-- An element as a struct; a plain one has exactly its bits, a pointer is its only pointer.
+abbrev pub element_as_struct : ListView → ℕ → StructView
+element_as_struct l i =
     let size = size_number l.size in
     let bits = element_bits size l.data_words in
     struct_view l.basis (bits_at (step_bits size l.data_words l.pointers * i) bits l.section) bits

@@ -2,27 +2,37 @@
 ghost use Rattle.std.specs.Prelude.{◌≡◌, ◌+◌};
 ghost use Rattle.std.specs.Bool.{OnTrue, OnFalse};
 ghost use Rattle.capnp_units.specs.Segments.{words_in};
-ghost use Rattle.capnp_object.specs.Places.{place_view};
-ghost use Rattle.capnp_object.specs.Objects.{AreThere};
+ghost use Rattle.capnp_wire_objects.specs.Places.{place_view};
+ghost use Rattle.capnp_wire_objects.specs.Objects.{AreThere};
 ghost use Rattle.capnp_wire.specs.Views.{backing_bytes, is_paid, seen_pointer, seen_struct};
 ghost use Rattle.capnp_wire.specs.Canonical.{ToldOn, PointerTells, StructTellsIn, StructTells, LiesAt, section_words};
 
-use crate::arena::ReaderArena;
 use crate::backing::Backing;
-use crate::place::{Place, has_words};
 use crate::pointer::PointerReader;
 use crate::section::are_equal;
 use crate::structs::StructReader;
-use capnp_canonical::check::{is_canonical, is_canonical_struct};
 use capnp_units::errors::{Error, Result};
 use capnp_units::kinds::ErrorKind;
 use capnp_units::limiter::ReadLimiter;
 use capnp_units::sizes::StructSize;
+use capnp_wire_canonical::check::{is_canonical, is_canonical_struct};
+use capnp_wire_objects::arena::ReaderArena;
+use capnp_wire_objects::place::{Place, has_words};
 
 impl<'a, A: ReaderArena> PointerReader<'a, A> {
-    /// Whether the pointer and its value stand as the value's canonical words: at its place is the pointer, and from the head on, a place behind it in its segment, are the words of what it leads to, trimmed. On a yes the head is left behind those words, else where it was. A pointer that stands nowhere doesn't. (Encoding, "Canonicalization")
+    /// Whether the pointer and its value stand as the value's canonical words. At its place is the
+    /// pointer. From the head on, a place behind it in its segment, are the words of what it leads
+    /// to, trimmed. On a yes the head is left behind those words, else where it was. A pointer that
+    /// stands nowhere doesn't. (Encoding, "Canonicalization")
     ///
-    /// In an arena pointers are followed, and objects paid for, as by `total_size`, up to the first difference; a capability is one, and so is a head that lies elsewhere. It is refused only where a walk over the whole value is, by the kind of the first fault, or with `ReadLimitExceeded` at the first object that costs more words than are left; under a negative nesting limit with `NestingLimitExceeded`. A no is exact in a segment of at most 2^29 - 1 words, the most that a message has.
+    /// In an arena pointers are followed, and objects paid for, as by `total_size`, up to the first
+    /// difference; a capability is one, and so is a head that lies elsewhere. It is refused only
+    /// where a walk over the whole value is:
+    /// - at the first fault, by its kind;
+    /// - with `ReadLimitExceeded` at the first object that costs more words than are left;
+    /// - with `NestingLimitExceeded` under a negative nesting limit.
+    ///
+    /// A no is exact in a segment of at most 2^29 - 1 words, the most that a message has.
     ///
     /// It takes no memory.
     pub fn is_canonical(&self, limiter: &mut ReadLimiter, head: &mut Place) -> Result<bool>
@@ -66,7 +76,8 @@ impl<'a, A: ReaderArena> StructReader<'a, A> {
         self.first == first && are_equal(self.section, self.backing.lend(place, words))
     }
 
-    /// Whether the struct stands in an arena with the segments that it is read from, its own words from a place on.
+    /// Whether the struct stands in an arena with the segments that it is read from, its own words
+    /// from a place on.
     fn stands_in<B: ReaderArena>(
         &self,
         arena: &B,
@@ -90,7 +101,8 @@ impl<'a, A: ReaderArena> StructReader<'a, A> {
         is_canonical_struct(arena, limiter, start, size, levels, head)
     }
 
-    /// The same, paid for in an arena, and free in a default.
+    /// Whether the struct stands from a place on. The words are paid for in an arena, and free in a
+    /// default.
     fn stands_at(
         &self,
         limiter: &mut ReadLimiter,
@@ -111,9 +123,14 @@ impl<'a, A: ReaderArena> StructReader<'a, A> {
         }
     }
 
-    /// Whether the struct and what its pointers lead to stand as canonical words: its own words from one head on, where neither the last of its data nor the last of its pointers is a word of zeros, and from the other head on, behind its pointers in their segment, those of what they lead to, trimmed, one after the other. On a yes each head is left behind its words, else where it was. (Encoding, "Canonicalization")
+    /// Whether the struct and what its pointers lead to stand as canonical words. Its own words
+    /// stand from one head on, where neither the last of its data nor the last of its pointers is a
+    /// word of zeros. From the other head on, behind its pointers in their segment, stand those of
+    /// what they lead to, trimmed, one after the other. On a yes each head is left behind its
+    /// words, else where it was. (Encoding, "Canonicalization")
     ///
-    /// It is refused, and exact, as `PointerReader::is_canonical` is. The struct's own words were paid for already; where they don't stand no pointer is followed. It takes no memory.
+    /// It is refused, and exact, as `PointerReader::is_canonical` is. The struct's own words were
+    /// paid for already; where they don't stand no pointer is followed. It takes no memory.
     pub fn is_canonical(
         &self,
         limiter: &mut ReadLimiter,

@@ -1,7 +1,7 @@
 //! How many levels of pointers may still be followed.
 ghost use Rattle.std.specs.Prelude.{◌≡◌};
 ghost use Rattle.capnp_model.specs.Answers.{levels};
-ghost use Rattle.capnp_object.specs.Places.{seen};
+ghost use Rattle.capnp_wire_objects.specs.Places.{seen};
 ghost use Rattle.capnp_wire.specs.Levels.{level_below};
 
 use capnp_units::errors::{Error, Result};
@@ -17,7 +17,8 @@ pub fn levels_of(nesting_limit: i32) -> Option<u32>
     Some(nesting_limit as u32)
 }
 
-/// The levels that are left behind the pointers of a struct or a list, which takes one. It is refused with `NestingLimitExceeded` where there is none.
+/// The levels that are left behind the pointers of a struct or a list, which takes one. It is
+/// refused with `NestingLimitExceeded` where there is none.
 pub fn level_below(levels: Option<u32>) -> Result<Option<u32>>
     ensures { seen (λ l. l) result ≡ level_below levels }
 {

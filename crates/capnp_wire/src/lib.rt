@@ -1,12 +1,13 @@
-//! Readers of segments that nobody vouches for: what pointers name, and the structs, lists, texts and data behind them, lent in place.
+//! Readers of untrusted segments: what pointers name, and the structs, lists, texts and data behind
+//! them, lent in place.
 //!
-//! Numbers lie in words of eight bytes, the lowest byte first. A reader stands over an arena of segments or over a default value, and what it follows is paid for from a `ReadLimiter`.
+//! Numbers lie in words of eight bytes, the lowest byte first. A reader stands over an arena of
+//! segments or over a default value, and what it follows is paid for from a `ReadLimiter`.
 #![tactic(auto)]
 
-pub use capnp_backing::backing;
-pub use capnp_object::{arena, follow, object, place, size};
-
+pub mod backing;
 pub mod canonical;
+pub mod element;
 pub mod laws;
 pub mod levels;
 pub mod list;

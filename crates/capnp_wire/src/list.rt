@@ -2,24 +2,25 @@
 ghost use Rattle.std.specs.Prelude.{◌≡◌, ◌≢◌, ◌+◌, ◌*◌, ◌/◌, ◌%◌, ◌<◌, ◌≤◌, ◌^◌, ◌==◌, nat_le, length};
 ghost use Rattle.capnp_model.specs.Sections.{bits_at, number_of, words_for};
 ghost use Rattle.capnp_units.specs.Segments.{words_in};
-ghost use Rattle.capnp_object.specs.Objects.{AreThere};
+ghost use Rattle.capnp_wire_objects.specs.Objects.{AreThere};
 ghost use Rattle.capnp_model.specs.Readings.{is_accepted_as};
 ghost use Rattle.capnp_units.specs.Sizes.{size_number, data_bits};
 ghost use Rattle.capnp_wire.specs.Elements.{step_bits, element_bits, step_words, element_pointers};
 
-use crate::arena::ReaderArena;
 use crate::backing::Backing;
 use crate::levels::levels_of;
-use crate::object::words_of_elements;
-use crate::place::Place;
 use crate::pointer::PointerReader;
 use crate::section::bit_of;
 use crate::structs::StructReader;
 use capnp_units::primitive::{Primitive, Zero};
 use capnp_units::sizes::{ElementSize, StructSize, data_bits_per_element, pointers_per_element};
+use capnp_wire_objects::arena::ReaderArena;
+use capnp_wire_objects::object::words_of_elements;
+use capnp_wire_objects::place::Place;
 use std::alloc::AllocError;
 
-/// A list to read. Its plain elements, or the words of its structs, are lent from what it stands on.
+/// A list to read. Its plain elements, or the words of its structs, are lent from what it stands
+/// on.
 pub struct ListReader<'a, A> {
     pub(crate) backing: Backing<'a, A>,
     pub(crate) bytes: &'a [u8],
@@ -47,7 +48,7 @@ impl<A> Clone for ListReader<'_, A> {
 
 impl<A> Copy for ListReader<'_, A> {}
 
-/// The words from the first of so many elements to the end of the last; those of pointers aren't counted.
+/// The words from the first of n elements to the end of the last; those of pointers aren't counted.
 fn words_of_steps(size: ElementSize, count: u32, data_words: u16, pointers: u16) -> usize
     ensures { result ≡ words_for (step_bits (size_number size) data_words pointers * count) }
 {
@@ -59,8 +60,8 @@ fn words_of_steps(size: ElementSize, count: u32, data_words: u16, pointers: u16)
 
 impl<'a, A: ReaderArena> ListReader<'a, A> {
     ghost use Rattle.capnp_model.specs.Segments.{root};
-    ghost use Rattle.capnp_object.specs.Places.{place_view};
-    ghost use Rattle.capnp_wire.specs.Views.{ground_of, seen_pointer, seen_struct, seen_list, list_view, list_at, element_of, element_number, pointer_field};
+    ghost use Rattle.capnp_wire_objects.specs.Places.{place_view};
+    ghost use Rattle.capnp_wire.specs.Views.{ground_of, seen_pointer, seen_struct, seen_list, list_view, list_at, element_as_struct, element_number, pointer_field};
 
     /// A list of these parts.
     pub(crate) fn of_parts(
@@ -113,7 +114,9 @@ impl<'a, A: ReaderArena> ListReader<'a, A> {
         }
     }
 
-    /// The list of so many elements of a size that begins at a place of an arena, where its words are: behind the tag for structs, which have such sections. Its pointers are followed under the arena's nesting limit.
+    /// The list of n elements of a size that begins at a place of an arena, where its words are:
+    /// behind the tag for structs, which have such sections. Its pointers are followed under the
+    /// arena's nesting limit.
     pub fn at(
         arena: &'a A,
         start: Place,
@@ -146,7 +149,8 @@ impl<'a, A: ReaderArena> ListReader<'a, A> {
         self.backing
     }
 
-    /// The bytes of the elements from the first to the end of the last, lent in place, with those of the structs' pointers. Bits behind the last element may be any.
+    /// The bytes of the elements from the first to the end of the last, lent in place, with those
+    /// of the structs' pointers. Bits behind the last element may be any.
     pub fn bytes(&self) -> &'a [u8]
         ensures section { let l = seen_list A.segments self.now in
             let bits = step_bits (size_number l.size) l.data_words l.pointers * l.count in
@@ -186,7 +190,8 @@ impl<'a, A: ReaderArena> ListReader<'a, A> {
         }
     }
 
-    /// How many levels may be followed from each pointer; none where not even the list's own was left.
+    /// How many levels may be followed from each pointer; `None` where not even the list's own was
+    /// left.
     pub fn levels(&self) -> Option<u32>
         ensures { result ≡ (seen_list A.segments self.now).levels }
     {
@@ -269,11 +274,12 @@ impl<'a, A: ReaderArena> ListReader<'a, A> {
         &self.bytes[at..at + width]
     }
 
-    /// An element as a struct: a plain one has just its bits, a pointer is its only pointer. Elements of one bit can't be read so.
+    /// An element as a struct: a plain one has exactly its bits, a pointer is its only pointer.
+    /// Elements of one bit can't be read so.
     pub fn get_struct_element(&self, index: u32) -> StructReader<'a, A>
         requires index { index < (seen_list A.segments self.now).count }
         requires bytes { size_number (seen_list A.segments self.now).size ≢ 1 }
-        ensures { seen_struct A.segments result ≡ element_of (seen_list A.segments self.now) index }
+        ensures { seen_struct A.segments result ≡ element_as_struct (seen_list A.segments self.now) index }
     {
         let section = self.element_section(index);
         let first = Place {
@@ -295,7 +301,7 @@ impl<'a, A: ReaderArena> ListReader<'a, A> {
     pub fn get_pointer_element(&self, index: u32) -> PointerReader<'a, A>
         requires { index < (seen_list A.segments self.now).count }
         ensures { seen_pointer A.segments result
-            ≡ pointer_field (element_of (seen_list A.segments self.now) index) 0 }
+            ≡ pointer_field (element_as_struct (seen_list A.segments self.now) index) 0 }
     {
         let place = if self.element_pointers() > 0 {
             Some(Place {

@@ -2,25 +2,26 @@
 ghost use Rattle.std.specs.Prelude.{◌≡◌, ◌≢◌, ◌+◌, ◌*◌, ◌<◌, ◌≤◌, ◌^◌, length, IfOk, option_copied};
 ghost use Rattle.capnp_wire.specs.Views.{ground_of, seen_pointer, seen_list, list_view};
 ghost use Rattle.capnp_wire.specs.Reads.{with_default, GetGives, read_list, read_elements, list_head};
-ghost use Rattle.capnp_object.specs.Places.{seen, place_view};
+ghost use Rattle.capnp_wire_objects.specs.Places.{seen, place_view};
 ghost use Rattle.capnp_wire.specs.Elements.{step_bits, step_words};
 ghost use Rattle.capnp_model.specs.Sections.{number_of};
 ghost use Rattle.capnp_model.specs.Readings.{is_accepted_as};
 ghost use Rattle.capnp_units.specs.Sizes.{size_number};
 
-use crate::arena::ReaderArena;
 use crate::levels::level_below;
 use crate::list::ListReader;
-use crate::object::{Object, words_of_elements};
-use crate::place::Place;
 use crate::pointer::PointerReader;
 use capnp_units::errors::{Error, Result};
 use capnp_units::kinds::ErrorKind;
 use capnp_units::limiter::ReadLimiter;
 use capnp_units::sizes::{ElementSize, Word, data_bits_per_element, pointers_per_element};
+use capnp_wire_objects::arena::ReaderArena;
+use capnp_wire_objects::object::{Object, words_of_elements};
+use capnp_wire_objects::place::Place;
 
 impl<'a, A: ReaderArena> PointerReader<'a, A> {
-    /// A list whose bytes are lent, where a level is left and its elements can be read as ones of the expected size.
+    /// A list whose bytes are lent, where a level is left and its elements can be read as ones of
+    /// the expected size.
     fn list_of(
         &self,
         expected: ElementSize,
@@ -99,9 +100,13 @@ impl<'a, A: ReaderArena> PointerReader<'a, A> {
         }
     }
 
-    /// The list behind the pointer, its elements lent in place, which can be read as ones of the expected size. A null pointer reads as the default's root, and without one as the empty list of that size.
+    /// The list behind the pointer, its elements lent in place, which can be read as ones of the
+    /// expected size. A null pointer reads as the default's root, and without one as the empty list
+    /// of that size.
     ///
-    /// It is refused as a struct is, and with `WrongElementSize` where its elements are too narrow: single bits are read as single bits alone, and never from structs; any other element has to have the bits and the pointers of the expected one, which for `InlineComposite` are none.
+    /// It is refused as a struct is, and with `WrongElementSize` where its elements are too narrow.
+    /// Single bits are read as single bits alone, and never from structs. Any other element has to
+    /// have the bits and the pointers of the expected one, which for `InlineComposite` are none.
     pub fn get_list(
         &self,
         limiter: &mut ReadLimiter,
@@ -121,7 +126,8 @@ impl<'a, A: ReaderArena> PointerReader<'a, A> {
     }
 }
 
-/// Whether elements of a size can be read as ones of an expected size. Structs have so many data words and pointers.
+/// Whether elements of a size can be read as ones of an expected size. Structs have n data words
+/// and pointers.
 fn is_accepted(expected: ElementSize, size: ElementSize, data_words: u16, pointers: u16) -> bool
     ensures { result ≡ is_accepted_as (size_number expected) (list_head size data_words pointers) }
 {

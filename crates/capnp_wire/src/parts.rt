@@ -1,13 +1,13 @@
 //! The parts of a pointer that is read, for copies.
 ghost use Rattle.std.specs.Prelude.{◌≡◌, option_map};
 
-use crate::arena::ReaderArena;
 use crate::backing::Backing;
-use crate::place::Place;
 use crate::pointer::PointerReader;
+use capnp_wire_objects::arena::ReaderArena;
+use capnp_wire_objects::place::Place;
 
 impl<'a, A: ReaderArena> PointerReader<'a, A> {
-    ghost use Rattle.capnp_object.specs.Places.{place_view};
+    ghost use Rattle.capnp_wire_objects.specs.Places.{place_view};
     ghost use Rattle.capnp_wire.specs.Views.{ground_of, seen_pointer};
 
     /// What the pointer stands on, where its value is.

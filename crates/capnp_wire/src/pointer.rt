@@ -6,25 +6,25 @@ ghost use Rattle.capnp_model.specs.Chains.{◌and_then◌, guard};
 ghost use Rattle.capnp_model.specs.Segments.{words_at};
 ghost use Rattle.capnp_units.specs.Segments.{words_in};
 ghost use Rattle.capnp_wire.specs.Views.{backing_bytes, ground_of, seen_pointer, seen_struct, pointer_at};
-ghost use Rattle.capnp_wire.specs.Reads.{root_of, is_null, with_default, GetGives, read_struct, read_bytes, read_blob, read_text, type_behind};
-ghost use Rattle.capnp_object.specs.Places.{seen, place_view};
-ghost use Rattle.capnp_object.specs.Objects.{IsInside};
+ghost use Rattle.capnp_wire.specs.Reads.{root_of, is_null_pointer, with_default, GetGives, read_struct, read_bytes, read_blob, read_text, type_behind};
+ghost use Rattle.capnp_wire_objects.specs.Places.{seen, place_view};
+ghost use Rattle.capnp_wire_objects.specs.Objects.{IsInside};
 ghost use Rattle.capnp_wire.specs.ValueSizes.{PointerSize};
 
-use crate::arena::ReaderArena;
 use crate::backing::{Backing, default_backing};
-use crate::follow::follow;
 use crate::levels::{level_below, levels_of};
-use crate::object::{Object, object_at};
-use crate::place::{Place, has_words, word_at};
 use crate::section::front_of;
-use crate::size::{NOTHING, size_at};
 use crate::structs::StructReader;
-use capnp_object::named::{NamedObject, found_at};
 use capnp_units::errors::{Error, Result};
 use capnp_units::kinds::ErrorKind;
 use capnp_units::limiter::ReadLimiter;
 use capnp_units::sizes::{ElementSize, MessageSize, PointerType, Word};
+use capnp_wire_objects::arena::ReaderArena;
+use capnp_wire_objects::follow::follow;
+use capnp_wire_objects::named::{NamedObject, found_at};
+use capnp_wire_objects::object::{Object, object_at};
+use capnp_wire_objects::place::{Place, has_words, word_at};
+use capnp_wire_objects::size::{NOTHING, size_at};
 
 /// A pointer to read: at a place, or null. What it leads to is lent from what it stands on.
 #[derive_where(Clone, Copy)]
@@ -35,7 +35,8 @@ pub struct PointerReader<'a, A> {
 }
 
 impl<'a, A: ReaderArena> PointerReader<'a, A> {
-    /// The root pointer of an arena, the first word of its first segment. It is refused with `OutOfBounds` where that isn't there.
+    /// The root pointer of an arena, the first word of its first segment. It is refused with
+    /// `OutOfBounds` where that isn't there.
     pub fn get_root_from_arena(arena: &'a A) -> Result<Self>
         ensures { seen (seen_pointer A.segments) result
             ≡ root_of (A.segments arena.now) (A.nesting arena.now) }
@@ -50,7 +51,8 @@ impl<'a, A: ReaderArena> PointerReader<'a, A> {
         Ok(PointerReader::at(arena, place))
     }
 
-    /// The pointer at a place of an arena, under the arena's nesting limit. Whether its word is there is seen when it is read.
+    /// The pointer at a place of an arena, under the arena's nesting limit. Whether its word is
+    /// there is seen when it is read.
     pub fn at(arena: &'a A, place: Place) -> Self
         ensures { seen_pointer A.segments result
             ≡ pointer_at (A.segments arena.now) (A.nesting arena.now) (place_view place) }
@@ -62,7 +64,7 @@ impl<'a, A: ReaderArena> PointerReader<'a, A> {
         }
     }
 
-    /// The same pointer.
+    /// The pointer again, lent for a shorter time.
     pub fn reborrow(&self) -> Self
         ensures { result ≡ self.now }
     {
@@ -71,7 +73,7 @@ impl<'a, A: ReaderArena> PointerReader<'a, A> {
 
     /// Whether there is no pointer here, or a word of zeros.
     pub fn is_null(&self) -> bool
-        ensures { result ≡ is_null (seen_pointer A.segments self.now) }
+        ensures { result ≡ is_null_pointer (seen_pointer A.segments self.now) }
     {
         match self.place {
             None => true,
@@ -79,7 +81,9 @@ impl<'a, A: ReaderArena> PointerReader<'a, A> {
         }
     }
 
-    /// The root of a default, read in place, with the levels that are left here; or the pointer itself where it isn't null, where there is no default, or where the default's root is null. Nothing is followed or paid for.
+    /// The root of a default, read in place, with the levels that are left here. It is the pointer
+    /// itself where it isn't null, where there is no default, or where the default's root is null.
+    /// Nothing is followed or paid for.
     pub fn with_default(&self, default: Option<&'a [Word]>) -> Self
         ensures { seen_pointer A.segments result
             ≡ with_default (seen_pointer A.segments self.now) (option_copied default.entry) }
@@ -203,9 +207,18 @@ impl<'a, A: ReaderArena> PointerReader<'a, A> {
         }
     }
 
-    /// The struct behind the pointer, its sections lent in place. A null pointer reads as the default's root, which costs nothing and takes the same levels, and without one as the empty struct.
+    /// The struct behind the pointer, its sections lent in place. A null pointer reads as the
+    /// default's root, which costs nothing and takes the same levels, and without one as the empty
+    /// struct.
     ///
-    /// It is refused by the kind of the fault there, with `ReadLimitExceeded` just where the pads and the struct's words pass what is left, with `WrongPointerKind` where something else is there, and with `NestingLimitExceeded` where no level is left. The words are granted where they don't pass what is left, also where the get is refused then.
+    /// It is refused
+    /// - by the kind of the fault there;
+    /// - with `ReadLimitExceeded` exactly where the pads and the struct's words pass what is left;
+    /// - with `WrongPointerKind` where something else is there;
+    /// - with `NestingLimitExceeded` where no level is left.
+    ///
+    /// The words are granted where they don't pass what is left, also where the get is refused
+    /// then.
     pub fn get_struct(
         &self,
         limiter: &mut ReadLimiter,
@@ -219,9 +232,11 @@ impl<'a, A: ReaderArena> PointerReader<'a, A> {
         self.with_default(default).struct_here(limiter)
     }
 
-    /// The data behind the pointer, lent in place. A null pointer reads as the default's root, and without one as no byte.
+    /// The data behind the pointer, lent in place. A null pointer reads as the default's root, and
+    /// without one as no byte.
     ///
-    /// It is refused as a struct is; with `WrongElementSize` where a list of other elements than bytes is there.
+    /// It is refused as a struct is; with `WrongElementSize` where a list of other elements than
+    /// bytes is there.
     pub fn get_data(
         &self,
         limiter: &mut ReadLimiter,
@@ -234,9 +249,11 @@ impl<'a, A: ReaderArena> PointerReader<'a, A> {
         self.with_default(default).data_here(limiter)
     }
 
-    /// The text behind the pointer, lent in place without the zero byte at its end; it may be no UTF-8. A null pointer reads as the default's root, and without one as the empty text.
+    /// The text behind the pointer, lent in place without the zero byte at its end; it may be no
+    /// UTF-8. A null pointer reads as the default's root, and without one as the empty text.
     ///
-    /// It is refused as data are, and with `TextWithoutZeroByte` where the last byte isn't zero or there is none.
+    /// It is refused as data are, and with `TextWithoutZeroByte` where the last byte isn't zero or
+    /// there is none.
     pub fn get_text(
         &self,
         limiter: &mut ReadLimiter,
@@ -249,9 +266,14 @@ impl<'a, A: ReaderArena> PointerReader<'a, A> {
         self.with_default(default).text_here(limiter)
     }
 
-    /// The sort of object that the pointer names, where it begins inside its segment; its words needn't be there, and none is looked at. It costs nothing.
+    /// The sort of object that the pointer names, where it begins inside its segment; its words
+    /// needn't be there, and none is looked at. It costs nothing.
     ///
-    /// It is refused with `OutOfBounds` where the pointer or a pad isn't there, or the object would begin in front of its segment or behind its last word; with `MalformedFarPointer` and with `UnknownPointerType`.
+    /// It is refused with
+    /// - `OutOfBounds`: the pointer or a pad isn't there, or the object would begin in front of its
+    ///   segment or behind its last word;
+    /// - `MalformedFarPointer`: a pad describes its object by a far pointer;
+    /// - `UnknownPointerType`: a pointer of the fourth form is no capability.
     pub fn get_pointer_type(&self) -> Result<PointerType>
         ensures { seen (λ t. t) result ≡ type_behind (seen_pointer A.segments self.now) }
     {
@@ -280,11 +302,21 @@ impl<'a, A: ReaderArena> PointerReader<'a, A> {
         Ok(sort)
     }
 
-    /// The size of the pointer's value: the words of its objects at every depth, without pads and without the pointer itself, and its capabilities. Each count stops at the greatest number of its type. In an arena all of it is followed and paid for.
+    /// The size of the pointer's value: the words of its objects at every depth, without pads and
+    /// without the pointer itself, and its capabilities. Each count stops at the greatest number of
+    /// its type. In an arena all of it is followed and paid for.
     ///
-    /// Pointers are followed in the order of reading, nulls too. It is refused at the first fault within the levels that are left, by its kind, and under a negative nesting limit with `NestingLimitExceeded` for every value; with `ReadLimitExceeded` at the first object that is there and costs more words than are left. Then the objects before it are paid for, and it counts as followed. On success just the value's pointers count as followed, and else no more than words are granted, and one.
+    /// Pointers are followed in the order of reading, nulls too. It is refused
+    /// - with `NestingLimitExceeded` under a negative nesting limit, whatever the value;
+    /// - at the first fault within the levels that are left, by its kind;
+    /// - with `ReadLimitExceeded` at the first object that is there and costs more words than are
+    ///   left.
     ///
-    /// What bounds its time and its stack stands at `size_at`; a default has the words that it has, and no limit.
+    /// Then the objects before it are paid for, and it counts as followed. On success exactly the
+    /// value's pointers count as followed, and else no more than words are granted, and one.
+    ///
+    /// What bounds its time and its stack stands at `size_at`; a default has the words that it has,
+    /// and no limit.
     pub fn total_size(&self, limiter: &mut ReadLimiter) -> Result<MessageSize>
         ensures { PointerSize (seen_pointer A.segments self.now) limiter.old result limiter.new }
     {

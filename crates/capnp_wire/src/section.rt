@@ -3,7 +3,8 @@ ghost use Rattle.std.specs.Prelude.{◌≡◌, ◌+◌, ◌*◌, ◌/◌, ◌<�
 ghost use Rattle.std.specs.Bool.{OnTrue, OnFalse};
 ghost use Rattle.capnp_model.specs.Sections.{bits_at, number_of, numbers_in};
 
-/// The bytes from a number of so many bytes on, which stands behind others of its width, where it lies wholly in the section.
+/// The bytes from a number of n bytes on, which stands behind others of its width, where it lies
+/// wholly in the section.
 pub(crate) fn bytes_from(section: &[u8], index: usize, width: usize) -> Option<&[u8]>
     ensures within { MatchOption result
         (length section.now < width * index + width)
@@ -29,7 +30,7 @@ pub(crate) fn bit_of(bytes: &[u8], index: usize) -> bool
     bytes[index / 8] / (1 << (index % 8)) % 2 == 1
 }
 
-/// So many bytes at the front of others.
+/// n bytes at the front of others.
 pub(crate) fn front_of(bytes: &[u8], count: usize) -> &[u8]
     requires { count ≤ length bytes.now }
     ensures { result.now ≡ numbers_in 8 count (number_of 8 bytes.now) }
@@ -42,7 +43,7 @@ fn are_bytes(bytes: &[u8])
     ensures { (i : ℕ) → slice_index bytes.now i < 256 }
 {}
 
-/// Whether bytes are as many others, as they are just where their numbers are equal.
+/// Whether bytes are as many others, as they are exactly where their numbers are equal.
 pub(crate) fn are_equal(bytes: &[u8], others: &[u8]) -> bool
     requires { length bytes.now ≡ length others.now }
     ensures same { OnTrue result (number_of 8 bytes.now ≡ number_of 8 others.now) }

@@ -3,24 +3,25 @@ ghost use Rattle.std.specs.Prelude.{◌≡◌, ◌+◌, ◌-◌, ◌*◌, ◌<�
 ghost use Rattle.capnp_model.specs.Sections.{number_of};
 ghost use Rattle.capnp_model.specs.Readings.{field_bits, just_bits};
 ghost use Rattle.capnp_units.specs.Segments.{words_in};
-ghost use Rattle.capnp_object.specs.Objects.{AreThere};
+ghost use Rattle.capnp_wire_objects.specs.Objects.{AreThere};
 
-use crate::arena::ReaderArena;
 use crate::backing::Backing;
 use crate::levels::levels_of;
-use crate::place::Place;
 use crate::pointer::PointerReader;
 use crate::section::{bit_of, bytes_from};
-use crate::size::{size_of_row, with_words};
 use capnp_units::errors::{Error, Result};
 use capnp_units::kinds::ErrorKind;
 use capnp_units::limiter::ReadLimiter;
 use capnp_units::primitive::{Mask, Primitive, Zero};
 use capnp_units::sizes::MessageSize;
 use capnp_units::units::{ElementCount, WirePointerCount};
+use capnp_wire_objects::arena::ReaderArena;
+use capnp_wire_objects::place::Place;
+use capnp_wire_objects::size::{size_of_row, with_words};
 use std::alloc::AllocError;
 
-/// A struct to read. Its data section is lent from what it stands on; outside the sections there are zeros and nulls.
+/// A struct to read. Its data section is lent from what it stands on; outside the sections there
+/// are zeros and nulls.
 pub struct StructReader<'a, A> {
     pub(crate) backing: Backing<'a, A>,
     pub(crate) section: &'a [u8],
@@ -44,9 +45,9 @@ impl<A> Clone for StructReader<'_, A> {
 impl<A> Copy for StructReader<'_, A> {}
 
 impl<'a, A: ReaderArena> StructReader<'a, A> {
-    ghost use Rattle.capnp_object.specs.Places.{place_view};
+    ghost use Rattle.capnp_wire_objects.specs.Places.{place_view};
     ghost use Rattle.capnp_wire.specs.Views.{ground_of, seen_pointer, seen_struct, struct_view, struct_at, pointer_field, bit_of_bool};
-    ghost use Rattle.capnp_wire.specs.Reads.{empty_struct, is_null};
+    ghost use Rattle.capnp_wire.specs.Reads.{struct_of_null, is_null_pointer};
     ghost use Rattle.capnp_wire.specs.ValueSizes.{SizeOn, StructSizeOf};
     ghost use Rattle.capnp_model.specs.Traversal.{tree_at, each};
     ghost use Rattle.capnp_model.specs.Coverage.{from_each};
@@ -76,10 +77,11 @@ impl<'a, A: ReaderArena> StructReader<'a, A> {
         }
     }
 
-    /// The struct without sections, as which a null pointer reads: each field has its default. Its pointers are null.
+    /// The struct without sections, as which a null pointer reads: each field has its default. Its
+    /// pointers are null.
     pub fn empty(backing: Backing<'a, A>, levels: Option<u32>) -> Self
         ensures { seen_struct A.segments result
-            ≡ empty_struct (ground_of A.segments backing.entry) levels }
+            ≡ struct_of_null (ground_of A.segments backing.entry) levels }
     {
         StructReader {
             backing,
@@ -100,7 +102,8 @@ impl<'a, A: ReaderArena> StructReader<'a, A> {
         self.backing
     }
 
-    /// The bytes of the data section, lent in place: whole words, but for an element of a plain list, which has just its own.
+    /// The bytes of the data section, lent in place: whole words, but for an element of a plain
+    /// list, which has exactly its own.
     pub fn section(&self) -> &'a [u8]
         ensures section { number_of 8 result.now ≡ (seen_struct A.segments self.now).section }
         ensures bits { 8 * length result.now ≡ (seen_struct A.segments self.now).bits }
@@ -124,14 +127,16 @@ impl<'a, A: ReaderArena> StructReader<'a, A> {
         self.pointers
     }
 
-    /// How many levels may be followed from each pointer; none where not even the struct's own was left.
+    /// How many levels may be followed from each pointer; `None` where not even the struct's own
+    /// was left.
     pub fn levels(&self) -> Option<u32>
         ensures { result ≡ (seen_struct A.segments self.now).levels }
     {
         self.levels
     }
 
-    /// The struct at a place of an arena, of so many data words and pointers, which are there. Its pointers are followed under the arena's nesting limit.
+    /// The struct at a place of an arena, of n data words and pointers, which are there. Its
+    /// pointers are followed under the arena's nesting limit.
     pub fn at(arena: &'a A, start: Place, data_words: u16, pointers: u16) -> Self
         requires there { AreThere (words_in (A.segments arena.now)) (place_view start) data_words }
         requires near { start.position + (data_words + pointers) < 2 ^ 62 }
@@ -149,7 +154,8 @@ impl<'a, A: ReaderArena> StructReader<'a, A> {
         StructReader::of_parts(backing, section, first, pointers, levels)
     }
 
-    /// A number of the data section, counted in its own width; 0 where it doesn't lie wholly in the section.
+    /// A number of the data section, counted in its own width; 0 where it doesn't lie wholly in the
+    /// section.
     pub fn get_data_field<T: Primitive + Zero>(&self, offset: ElementCount) -> T
         ensures { let s = seen_struct A.segments self.now in
             result ≡ T.from_bits
@@ -161,7 +167,7 @@ impl<'a, A: ReaderArena> StructReader<'a, A> {
         }
     }
 
-    /// The same, exclusive or the field's default.
+    /// As the getter without a mask, of the bits exclusive or those of the field's default.
     pub fn get_data_field_mask<T: Primitive + Zero + Mask>(
         &self,
         offset: ElementCount,
@@ -183,7 +189,7 @@ impl<'a, A: ReaderArena> StructReader<'a, A> {
         offset / 8 < self.section.len() && bit_of(self.section, offset)
     }
 
-    /// The same, exclusive or the field's default.
+    /// As the getter without a mask, of the bits exclusive or those of the field's default.
     pub fn get_bool_field_mask(&self, offset: ElementCount, mask: bool) -> bool
         ensures { let s = seen_struct A.segments self.now in
             result ≡ (bit_xor (field_bits (just_bits s.bits) s.section offset 1)
@@ -214,14 +220,16 @@ impl<'a, A: ReaderArena> StructReader<'a, A> {
 
     /// Whether a pointer of the pointer section is null, as it is past its end.
     pub fn is_pointer_field_null(&self, ptr_index: WirePointerCount) -> bool
-        ensures { result ≡ is_null (pointer_field (seen_struct A.segments self.now) ptr_index) }
+        ensures { result ≡ is_null_pointer (pointer_field (seen_struct A.segments self.now) ptr_index) }
     {
         self.get_pointer_field(ptr_index).is_null()
     }
 
-    /// The size of the struct: its sections in whole words, the words of the objects behind its pointers, and their capabilities. Each count stops at the greatest number of its type. In an arena the pointers are followed and paid for; the struct's own words were paid for already.
+    /// The size of the struct: its sections in whole words, the words of the objects behind its
+    /// pointers, and their capabilities. Each count stops at the greatest number of its type. In an
+    /// arena the pointers are followed and paid for; the struct's own words were paid for already.
     ///
-    /// It is refused as the size of a pointer's value is, and bounded in time and stack likewise.
+    /// It is refused, and bounded in time and stack, as the size of a pointer's value is.
     pub fn total_size(&self, limiter: &mut ReadLimiter) -> Result<MessageSize>
         ensures { StructSizeOf (seen_struct A.segments self.now) limiter.old result limiter.new }
     {

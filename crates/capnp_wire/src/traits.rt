@@ -7,13 +7,13 @@ ghost use Rattle.capnp_wire.specs.declared.list.ListReader.{ListReader};
 ghost use Rattle.capnp_wire.specs.Views.{PointerView, seen_pointer};
 ghost use Rattle.capnp_wire.specs.Reads.{with_default, GetGives, read_blob};
 
-use crate::arena::ReaderArena;
 use crate::list::ListReader;
 use crate::pointer::PointerReader;
 use crate::structs::StructReader;
 use capnp_units::errors::Result;
 use capnp_units::limiter::ReadLimiter;
 use capnp_units::sizes::{StructSize, Word};
+use capnp_wire_objects::arena::ReaderArena;
 
 /// A type of structs, with the sizes that its schema gives them.
 pub trait HasStructSize {
@@ -65,7 +65,7 @@ pub trait IntoInternalStructReader<'a, A: 'a>: From<StructReader<'a, A>> {
     fn into_internal_struct_reader(self) -> StructReader<'a, A>
         ensures { result ≡ inner_struct self };
 
-    /// What is made from a struct has just that one.
+    /// What is made from a struct has exactly that one.
     ghost made: { (s : StructReader A) (r : Self) → Self.from_gives s r → inner_struct r ≡ s };
 }
 

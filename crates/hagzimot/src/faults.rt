@@ -1,8 +1,8 @@
 //! What is said of a fault.
 
-use capnp_loop::ends::Fault;
-use capnp_tool::schemas::SchemaTrouble;
+use capnp_relay_loop::ends::Fault;
 use capnp_units::kinds::ErrorKind;
+use hagzimot_commands::schemas::SchemaTrouble;
 use std::alloc::{AllocError, AllocFailed, Global};
 use std::fmt::{Display, Formatter, Write};
 use std::{fmt, io};

@@ -2,7 +2,7 @@
 
 use crate::faults::Failure;
 use crate::tape::Tape;
-use capnp_io::adapters::{Sink, Source};
+use capnp_stream_io::adapters::{Sink, Source};
 use std::alloc::Global;
 use std::fs::File;
 use std::io::{BufWriter, Read, Stderr, Stdin, Stdout, Write};

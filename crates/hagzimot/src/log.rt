@@ -1,23 +1,23 @@
 //! The log of a run.
 ghost use Rattle.std.specs.Prelude.{◌≡◌, OnOk, OnErr, ⊤};
 ghost use Rattle.std.specs.Io.Buffered.{writer_buffer};
-ghost use Rattle.capnp_io.specs.Adapters.{sink_inner};
-ghost use Rattle.capnp_io.specs.Counting.{Rose};
+ghost use Rattle.capnp_stream_io.specs.Adapters.{sink_inner};
+ghost use Rattle.capnp_stream_io.specs.Counting.{Rose};
 ghost use Rattle.capnp_units.specs.declared.kinds.ErrorKind.{ErrorKind};
 
 use crate::faults::Failure;
 use crate::files::{Input, OutSink, Output, open_sink};
 use crate::tape::Tape;
-use capnp_io::adapters::Source;
-use capnp_io::traits::Write;
-use capnp_loop::ends::Fault;
-use capnp_loop::pauses::Pause;
-use capnp_program::ahead::BoundedForm;
-use capnp_program::sinks::Flush;
-use capnp_program::sources::flush_before_wait;
-use capnp_tool::log_lines::json_line;
+use capnp_relay_loop::ends::Fault;
+use capnp_relay_loop::pauses::Pause;
+use capnp_relay_program::ahead::BoundedForm;
+use capnp_relay_program::sinks::Flush;
+use capnp_relay_program::sources::flush_before_wait;
+use capnp_stream_io::adapters::Source;
+use capnp_stream_io::traits::Write;
 use capnp_units::errors::Error;
 use capnp_units::kinds::ErrorKind;
+use hagzimot_commands::log_lines::json_line;
 use std::alloc::Global;
 use std::marker::PhantomData;
 use std::rc::Rc;

@@ -5,17 +5,17 @@ use crate::files::{Input, OutSink, Output, open_sink};
 use crate::log::{Lines, Log, LogEnd, Refusals, TurnAndFlush};
 use crate::relay_task::RelayTask;
 use crate::{files, words};
-use capnp_between::between::BetweenFault;
-use capnp_io::adapters::Source;
-use capnp_loop::ends::Counts;
-use capnp_packing::form::Packed;
-use capnp_program::ahead::BoundedForm;
-use capnp_program::sinks::Flush;
+use capnp_relay_loop::ends::Counts;
+use capnp_relay_program::ahead::BoundedForm;
+use capnp_relay_program::sinks::Flush;
+use capnp_relay_streams::between::BetweenFault;
 use capnp_relay_streams::options::Form;
 use capnp_stream::forms::{Framed, MessageForm};
-use capnp_tool::canonical::{Canonical, canonicalize_all};
-use capnp_tool::convert::convert_all;
+use capnp_stream_io::adapters::Source;
+use capnp_stream_packed::form::Packed;
 use clap::ArgMatches;
+use hagzimot_commands::canonical::{Canonical, canonicalize_all};
+use hagzimot_commands::convert::convert_all;
 use std::alloc::Global;
 
 /// The status where all was done and written.

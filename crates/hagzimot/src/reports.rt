@@ -3,9 +3,9 @@
 use crate::faults::Failure;
 use crate::files::read_file;
 use crate::words;
-use capnp_tool::schema_text::schema_text;
-use capnp_tool::schemas::{read_nodes, read_set};
 use clap::ArgMatches;
+use hagzimot_commands::schema_text::schema_text;
+use hagzimot_commands::schemas::{read_nodes, read_set};
 
 /// Prints a line.
 pub fn print_line(rt: &HostRuntime, line: &str) -> Result<(), Failure> {

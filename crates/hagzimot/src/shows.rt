@@ -4,17 +4,17 @@ use crate::faults::Failure;
 use crate::files::{Input, OutSink, Output, open_sink, open_source};
 use crate::log::{Lines, Log, Refusals, TurnAndFlush};
 use crate::words;
-use capnp_io::adapters::Source;
-use capnp_io::traits::Write;
 use capnp_message::options::ReaderOptions;
-use capnp_packing::form::Packed;
-use capnp_program::ahead::BoundedForm;
-use capnp_program::sinks::Flush;
-use capnp_queries::structs::StructSchema;
+use capnp_relay_program::ahead::BoundedForm;
+use capnp_relay_program::sinks::Flush;
 use capnp_relay_streams::options::Form;
 use capnp_stream::forms::Framed;
-use capnp_tool::show::{Chosen, ShowForm, ShownCounts, StreamFault, show_all};
+use capnp_stream_io::adapters::Source;
+use capnp_stream_io::traits::Write;
+use capnp_stream_packed::form::Packed;
+use capnp_values_queries::structs::StructSchema;
 use clap::ArgMatches;
+use hagzimot_commands::show::{Chosen, ShowForm, ShownCounts, StreamFault, show_all};
 use std::alloc::Global;
 
 /// What is shown, and how.

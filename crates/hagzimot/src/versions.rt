@@ -3,11 +3,11 @@
 use crate::faults::Failure;
 use crate::reports::print_line;
 use crate::words;
-use capnp_compatible::renamings::Renamings;
-use capnp_compatible::root::Root;
-use capnp_tool::breaks::{Version, breaks_between, sentence};
-use capnp_tool::schemas::RootedSchema;
+use capnp_calls_versions::renamings::Renamings;
+use capnp_calls_versions::root::Root;
 use clap::ArgMatches;
+use hagzimot_commands::breaks::{Version, breaks_between, sentence};
+use hagzimot_commands::schemas::RootedSchema;
 
 /// One of the two schemas, and its age: `older` or `newer`.
 #[derive(Clone, Copy)]

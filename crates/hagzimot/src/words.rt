@@ -2,13 +2,13 @@
 
 use crate::faults::Failure;
 use crate::files::read_file;
-use capnp_compatible::renamings::{RenamingFault, Renamings};
-use capnp_files::fault::FileFault;
-use capnp_files::renames_file::renames_file;
+use capnp_calls_versions::renamings::{RenamingFault, Renamings};
+use capnp_relay_files::fault::FileFault;
+use capnp_relay_files::renames_file::renames_file;
+use capnp_relay_requests::request::Floats;
 use capnp_relay_streams::options::Form;
-use capnp_requests::request::Floats;
-use capnp_tool::schemas::RootedSchema;
 use clap::ArgMatches;
+use hagzimot_commands::schemas::RootedSchema;
 use std::alloc::Global;
 
 /// The most words of a message, and the most that following it may cost, where no word says otherwise.

@@ -3,7 +3,7 @@ use Rattle.std.proofs.Common.{◌≡◌, ℕ, zero, suc, ◌<◌, ◌≤◌, max
 use Rattle.std.specs.Prelude.{option_map}
 use Rattle.capnp_model.specs.Schemas.{Shape, shape, Fields, no_fields, field, Body, void_slot, plain_slot, pointer_slot, group_slot}
 use Rattle.capnp_model.specs.Printing.{fields_in}
-use Rattle.capnp_queries.specs.Fields.{Entry, field_at}
+use Rattle.capnp_values_queries.specs.Fields.{Entry, field_at}
 
 unfoldable mutual
   pub shape_depth : Shape → ℕ

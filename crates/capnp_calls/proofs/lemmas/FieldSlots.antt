@@ -4,15 +4,15 @@ use Rattle.std.specs.Prelude.{option_map}
 use Rattle.capnp_model.specs.Trees.{Tree}
 use Rattle.capnp_model.specs.Schemas.{Ty, void, plain, text, blob, untyped, interface, struct, list, type_of, Value, FieldKind, slot, group, Field as FieldNode, StructNode, Shape, Body, pointer_slot}
 use Rattle.capnp_model.specs.Accepted.{default_tree, slot_body, field_body, is_default_of, has_good_default, opens_as, is_good_value, default_reads}
-use Rattle.capnp_queries.specs.Structs.{nodes_around, schema_around, id_of, IsRecordOf}
-use Rattle.capnp_queries.specs.Handles.{entry_of, IsFieldRecord}
-use Rattle.capnp_queries.specs.declared.fields.Field.{Field}
+use Rattle.capnp_values_queries.specs.Structs.{nodes_around, schema_around, id_of, IsRecordOf}
+use Rattle.capnp_values_queries.specs.Handles.{entry_of_field, IsFieldRecord}
+use Rattle.capnp_values_queries.specs.declared.fields.Field.{Field}
 use Rattle.capnp_model.proofs.lemmas.Tests.{same_some}
 use Rattle.capnp_calls.specs.Finding.{default_in}
 use Rattle.capnp_calls.proofs.AcceptedSlots.{SoundField, sound_field}
 
 -- the body that the node says
-pub body_is : (f : Field) (r : FieldNode) (b : Body) → IsFieldRecord f.parent f.index r → option_map (λ e. e.body) (entry_of f) ≡ Some b → field_body (schema_around f.parent).shape_of r.kind ≡ b
+pub body_is : (f : Field) (r : FieldNode) (b : Body) → IsFieldRecord f.parent f.index r → option_map (λ e. e.body) (entry_of_field f) ≡ Some b → field_body (schema_around f.parent).shape_of r.kind ≡ b
 body_is f r b rec h = same_some (sym (ap (option_map (λ e. e.body)) rec.entry) ∙ h)
 
 -- what is known of a pointer slot
@@ -59,10 +59,10 @@ module _ (f : Field) (r : FieldNode) (rec : IsFieldRecord f.parent f.index r) (n
   sound : SoundField f.parent r
   sound = sound_field f.parent f.index r rec n holder
 
-  pub kind_of_pointer : (i : ℕ) (t : Ty) (x : Option Tree) → option_map (λ e. e.body) (entry_of f) ≡ Some (pointer_slot i t x) → PointerKind r.kind t
+  pub kind_of_pointer : (i : ℕ) (t : Ty) (x : Option Tree) → option_map (λ e. e.body) (entry_of_field f) ≡ Some (pointer_slot i t x) → PointerKind r.kind t
   kind_of_pointer i t x h = pointer_kind (schema_around f.parent).shape_of r.kind i t x (body_is f r (pointer_slot i t x) rec h) sound.default sound.reads
 
-  pub body_of_pointer : (i : ℕ) (t : Ty) (x : Option Tree) → option_map (λ e. e.body) (entry_of f) ≡ Some (pointer_slot i t x) → option_map (λ e. e.body) (entry_of f) ≡ Some (pointer_slot i t (default_tree (default_in r.kind)))
+  pub body_of_pointer : (i : ℕ) (t : Ty) (x : Option Tree) → option_map (λ e. e.body) (entry_of_field f) ≡ Some (pointer_slot i t x) → option_map (λ e. e.body) (entry_of_field f) ≡ Some (pointer_slot i t (default_tree (default_in r.kind)))
   body_of_pointer i t x h =
       let b = body_is f r (pointer_slot i t x) rec h in
       h ∙ ap (λ (z : Body). Some z) (sym b ∙ pointer_body (schema_around f.parent).shape_of r.kind i t x b sound.default)

@@ -4,7 +4,7 @@ use Rattle.std.specs.Prelude.{option_map}
 use Rattle.std.specs.Str.{bytes_eq}
 use Rattle.capnp_model.specs.Schemas.{Fields, no_fields, field}
 use Rattle.capnp_model.specs.Steps.{no_target, target, target_if, target_of}
-use Rattle.capnp_queries.specs.Fields.{place_of_name}
+use Rattle.capnp_values_queries.specs.Fields.{place_of_name}
 
 none_mapped : (o : Option ℕ) → option_map (λ i. suc i) o ≡ None → o ≡ None
 none_mapped None h = refl

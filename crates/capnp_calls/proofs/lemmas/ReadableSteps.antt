@@ -3,12 +3,12 @@ use Rattle.std.proofs.Common.{◌≡◌, ℕ, true, Option, Some, None}
 use Rattle.capnp_model.specs.Schemas.{struct, Value, no_value, bits, text_bytes, blob_bytes, list_segment, struct_segment, untyped_value, interface_value}
 use Rattle.capnp_model.specs.Accepted.{is_default_of, opens_as, is_good_value}
 use Rattle.capnp_records.proofs.lemmas.Segments.{segment_found}
-use Rattle.capnp_calls.specs.Slots.{HasGoodDefault, IsSegment}
+use Rattle.capnp_calls.specs.Slots.{IsWellTypedDefault, IsReadableDefault}
 
-pub struct_default_found : (id : ℕ) (d : Option Value) → HasGoodDefault (struct id) d → IsSegment d
+pub struct_default_found : (id : ℕ) (d : Option Value) → IsWellTypedDefault (struct id) d → IsReadableDefault d
 struct_default_found id d h = by d h.is h.reads
   where
-    by : (d : Option Value) → is_default_of (struct id) d ≡ true → is_good_value (λ t. opens_as t (struct id)) d ≡ true → IsSegment d
+    by : (d : Option Value) → is_default_of (struct id) d ≡ true → is_good_value (λ t. opens_as t (struct id)) d ≡ true → IsReadableDefault d
     by None k l = tt
     by (Some no_value) k l = tt
     by (Some (bits q n)) k l = tt

@@ -30,17 +30,17 @@ use Rattle.capnp_units.specs.declared.limiter.ReadLimiter.{ReadLimiter}
 use Rattle.capnp_units.specs.Limits.{left_of}
 use Rattle.capnp_units.specs.Segments.{whole_words}
 use Rattle.capnp_units.specs.Sizes.{size_number, data_bits}
-use Rattle.capnp_object.specs.declared.object.Found.{Found}
-use Rattle.capnp_object.specs.declared.object.Object.{Object}
-use Rattle.capnp_object.specs.declared.object.Object.TheVariants as object
-use Rattle.capnp_object.specs.Places.{place_view}
-use Rattle.capnp_object.specs.Objects.{object_at}
-use Rattle.capnp_object.specs.Inside.{tree_in, section_at, words_there}
-use Rattle.capnp_object.specs.Laws.{TreesByLevels, VisitsOfFaults}
-use Rattle.capnp_object.specs.Walks.{Stopped, CannotPass}
+use Rattle.capnp_wire_objects.specs.declared.object.Found.{Found}
+use Rattle.capnp_wire_objects.specs.declared.object.Object.{Object}
+use Rattle.capnp_wire_objects.specs.declared.object.Object.TheVariants as object
+use Rattle.capnp_wire_objects.specs.Places.{place_view}
+use Rattle.capnp_wire_objects.specs.Objects.{object_at}
+use Rattle.capnp_wire_objects.specs.Inside.{tree_in, section_at, words_there}
+use Rattle.capnp_wire_objects.specs.Laws.{TreesByLevels, VisitsOfFaults}
+use Rattle.capnp_wire_objects.specs.Walks.{Stopped, CannotPass}
 use Rattle.capnp_model.proofs.lemmas.ByteLists.{words_spell}
-use Rattle.capnp_object.proofs.lemmas.Words.{whole_words-length}
-use Rattle.capnp_canonical.specs.Standing.{IsSmall, segment_words}
+use Rattle.capnp_wire_objects.proofs.lemmas.Words.{whole_words-length}
+use Rattle.capnp_wire_canonical.specs.Standing.{IsSmall, segment_words}
 use Rattle.capnp_model.proofs.lemmas.Tests.{and_false, and_right}
 use Rattle.capnp_model.proofs.lemmas.Lists.{only_is}
 use Rattle.capnp_records.specs.NodeViews.{type_record_of}

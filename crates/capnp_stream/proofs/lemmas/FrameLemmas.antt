@@ -14,10 +14,10 @@ use Rattle.capnp_model.specs.Segments.{Segments}
 use Rattle.capnp_model.specs.Messages.{Reader, within, halves, cut, behind_lengths, behind_first, message_at}
 use Rattle.capnp_model.proofs.lemmas.Chaining.{ok_is, ok_then, guard_then, bind_ok}
 use Rattle.capnp_stream.specs.Pieces.{EndsEarly, EachIsNeeded, ReadsFronts, TakesPiece, TakesPieceStart}
-use Rattle.capnp_stream.specs.Frames.{IsFrameFault, HasNoMessage, TakesMessage, TakesStart, TakesPart, TakesTable, TakesBody, IsFramingKind, IsCut}
+use Rattle.capnp_stream.specs.Frames.{IsFrameFault, HasNoMessage, TakesMessage, TakesStart, TakesMessagePart, TakesTable, TakesBody, IsFramingKind, IsPieceRefusal}
 use Rattle.capnp_stream.specs.Flat.{table_bytes}
 use Rattle.capnp_stream.specs.Lent.{NeedsMore, HasAsLong, HasLonger}
-use Rattle.capnp_io.proofs.lemmas.KnownLemmas.{IfSome-of_front, IfSome-of_behind, Consumes-of_kept}
+use Rattle.capnp_stream_io.proofs.lemmas.KnownLemmas.{IfSome-of_front, IfSome-of_behind, Consumes-of_kept}
 use Rattle.capnp_stream.proofs.lemmas.EarlyLemmas.{early-same, early-then, early-guard, early-none, wants-some, none-needed, needed-joined}
 use Rattle.capnp_stream.proofs.lemmas.PieceLemmas.{err_then, guard_err, message_more}
 
@@ -93,13 +93,13 @@ module _ (read : Reader) (fronts : ReadsFronts read) (limit : Option ℕ) where
       absurd (omega (arith, ap length none, length-drop n part))
 
   -- a whole message has no message as a proper beginning
-  pub TakesPart-of_message : (a b : Option (List ℕ)) (s : Segments) → TakesMessage read limit a b s → TakesPart read limit a b
+  pub TakesPart-of_message : (a b : Option (List ℕ)) (s : Segments) → TakesMessage read limit a b s → TakesMessagePart read limit a b
   TakesPart-of_message a b s m =
       (m.0, HasNoMessage-of m.0 (λ r e. ap (λ (p : Segments × List ℕ). p.1) (sym (ok_is (s, []) r (sym m.1 ∙ e)))), m.2)
 
 module _ (read : Reader) (limit : Option ℕ) where
   -- less than a message was taken
-  pub TakesPart-of_start : (a b : Option (List ℕ)) → TakesStart read limit a b → TakesPart read limit a b
+  pub TakesPart-of_start : (a b : Option (List ℕ)) → TakesStart read limit a b → TakesMessagePart read limit a b
   TakesPart-of_start a b p = (p.0, (λ n s below found. early-none _ _ (p.3 n below) found), p.2)
 
   -- part was taken, and what the bytes then say is said by those behind it
@@ -136,7 +136,7 @@ module _ (read : Reader) (limit : Option ℕ) where
         start-taken p =
             (part ++ p.0, (λ r e. let x = reads p.0 r (sym (leads p.0) ∙ e) in absurd (p.1 x.0 x.1)), Consumes-trans a b c part p.0 first p.2, piece-needed p.0 p.3)
 
-        part-of_cut : ReadsFronts read → (k : ErrorKind) → IsCut read n b c k → TakesStart read limit a c
+        part-of_cut : ReadsFronts read → (k : ErrorKind) → IsPieceRefusal read n b c k → TakesStart read limit a c
         part-of_cut fronts OutOfMemory cut = let p = before-taken fronts cut.1 in (p.0, p.1, Consumes-kept a b c p.0 p.2 cut.0, p.3)
         part-of_cut fronts Device cut = start-taken cut.1
         part-of_cut fronts FailedToFillTheWholeBuffer cut = start-taken cut.1
@@ -147,7 +147,7 @@ module _ (read : Reader) (limit : Option ℕ) where
         fault-behind : (k : ErrorKind) → IfSome b (λ xs. read n xs ≡ Err (kind_of k)) → IfSome a (λ xs. IsFrameFault read limit xs k)
         fault-behind k fault = IfSome-of_behind a b part _ (λ xs. IsFrameFault read limit xs k) first fault (λ more e. leads more ∙ wants more (kind_of k) e)
 
-        fault-of_cut : (k : ErrorKind) → IsCut read n b c k → IsFramingKind k → IfSome a (λ xs. IsFrameFault read limit xs k)
+        fault-of_cut : (k : ErrorKind) → IsPieceRefusal read n b c k → IsFramingKind k → IfSome a (λ xs. IsFrameFault read limit xs k)
         fault-of_cut FailedToFillTheWholeBuffer cut framing = fault-behind FailedToFillTheWholeBuffer cut.0
         fault-of_cut PrematureEndOfPackedInput cut framing = fault-behind PrematureEndOfPackedInput cut.0
         fault-of_cut PackedInputDidNotEndCleanlyOnASegmentBoundary cut framing = fault-behind PackedInputDidNotEndCleanlyOnASegmentBoundary cut.0
@@ -158,7 +158,7 @@ module _ (read : Reader) (limit : Option ℕ) where
 -- ---- the pieces of a message, one after the other
 
 module _ (read : Reader) (fronts : ReadsFronts read) (limit : Option ℕ) where
-  module _ (a c : Option (List ℕ)) (k : ErrorKind) (cut : IsCut read 1 a c k) where
+  module _ (a c : Option (List ℕ)) (k : ErrorKind) (cut : IsPieceRefusal read 1 a c k) where
     pub start-fault : IsFramingKind k → IfSome a (λ xs. IsFrameFault read limit xs k)
     start-fault framing = fault-of_cut read limit [] (message_at read limit) (λ more. refl) (none-needed (message_at read limit)) a a (Consumes-nil a) 1 (message-wants read limit) (message-early read limit) (message-reads read limit) c k cut framing
 
@@ -215,10 +215,10 @@ module _ (read : Reader) (fronts : ReadsFronts read) (limit : Option ℕ) where
       first-part some = before-taken read limit taken.0 says leads needed a b taken.2 _ wants early fronts (omega arith)
 
       module _ (c : Option (List ℕ)) where
-        pub others-fault : (k : ErrorKind) → IsCut read ((word % 2 ^ 32 + 1) / 2) b c k → IsFramingKind k → IfSome a (λ xs. IsFrameFault read limit xs k)
+        pub others-fault : (k : ErrorKind) → IsPieceRefusal read ((word % 2 ^ 32 + 1) / 2) b c k → IsFramingKind k → IfSome a (λ xs. IsFrameFault read limit xs k)
         others-fault k cut framing = fault-of_cut read limit taken.0 says leads needed a b taken.2 _ wants early reads c k cut framing
 
-        pub others-part : (k : ErrorKind) → IsCut read ((word % 2 ^ 32 + 1) / 2) b c k → TakesStart read limit a c
+        pub others-part : (k : ErrorKind) → IsPieceRefusal read ((word % 2 ^ 32 + 1) / 2) b c k → TakesStart read limit a c
         others-part k cut = part-of_cut read limit taken.0 says leads needed a b taken.2 _ wants early reads c fronts k cut
 
         pub table-of_pieces : (others : List ℕ) → length others ≡ (word % 2 ^ 32 + 1) / 2 → TakesPiece read b c others
@@ -259,11 +259,11 @@ module _ (read : Reader) (fronts : ReadsFronts read) (limit : Option ℕ) where
       table-part some = before-taken read limit table.0 (behind_lengths read limit ns) table.2 table.3 a b table.1 (sum ns) (λ q k e. lengths-want read limit ns q k kept e) (λ q h. lengths-early read limit ns q kept h) fronts some
 
       module _ (c : Option (List ℕ)) where
-        pub body-fault : (k : ErrorKind) → IsCut read (sum ns) b c k → IsFramingKind k → IfSome a (λ xs. IsFrameFault read limit xs k)
+        pub body-fault : (k : ErrorKind) → IsPieceRefusal read (sum ns) b c k → IsFramingKind k → IfSome a (λ xs. IsFrameFault read limit xs k)
         body-fault k cut framing =
             fault-of_cut read limit table.0 (behind_lengths read limit ns) table.2 table.3 a b table.1 (sum ns) (λ q k e. lengths-want read limit ns q k kept e) (λ q h. lengths-early read limit ns q kept h) (lengths-read read limit ns) c k cut framing
 
-        pub body-part : (k : ErrorKind) → IsCut read (sum ns) b c k → TakesStart read limit a c
+        pub body-part : (k : ErrorKind) → IsPieceRefusal read (sum ns) b c k → TakesStart read limit a c
         body-part k cut =
             part-of_cut read limit table.0 (behind_lengths read limit ns) table.2 table.3 a b table.1 (sum ns) (λ q k e. lengths-want read limit ns q k kept e) (λ q h. lengths-early read limit ns q kept h) (lengths-read read limit ns) c fronts k cut
 

@@ -14,10 +14,10 @@ use Rattle.capnp_model.specs.Bytes.{words_in_bytes, bytes_of_words, taken, AreBy
 use Rattle.capnp_model.specs.Messages.{Reader, within, plain_words, halves, behind_lengths, behind_first, message_at}
 use Rattle.capnp_model.proofs.lemmas.Chaining.{ok_is, ok_then, bind_ok}
 use Rattle.capnp_model.proofs.lemmas.ByteWords.{taken_front}
-use Rattle.capnp_io.specs.Streams.{ConsumesFewer, EndsBefore}
+use Rattle.capnp_stream_io.specs.Streams.{ConsumesFewer, EndsBefore}
 use Rattle.capnp_model.proofs.lemmas.WordsInBytes.{words_in_bytes-length}
 use Rattle.capnp_stream.specs.Pieces.{EachIsNeeded, ReadsFronts, TakesPiece, TakesPieceStart, IsPieceFault, IsPieceKind, is_framed_fault}
-use Rattle.capnp_stream.specs.Frames.{IsCut}
+use Rattle.capnp_stream.specs.Frames.{IsPieceRefusal}
 use Rattle.capnp_stream.proofs.lemmas.EarlyLemmas.{EndsEarly-of}
 use Rattle.capnp_stream.specs.Segments.{whole_words}
 use Rattle.capnp_model.proofs.lemmas.ByteLists.{words_spell}
@@ -90,7 +90,7 @@ plain-bytes buf whole small = words_spell (length buf / 8) buf (omega arith) sma
 pub one-word : (read : Reader) (a b : Option (List ℕ)) (bytes : List ℕ) (word : ℕ) → length bytes ≡ 8 → word ≡ from_le_bytes w64 bytes → TakesPiece read a b (whole_words bytes) → TakesPiece read a b (word ∷ [])
 one-word read a b bytes word size reads piece = subst (TakesPiece read a b) (whole_words-of_length 1 bytes size ∙ ap (λ w. w ∷ []) (sym reads)) piece
 
-pub IsCut-of_piece : (read : Reader) (n : ℕ) (a b : Option (List ℕ)) (k : ErrorKind) → IsPieceFault read n a k → TakesPieceStart read n a b → IsCut read n a b k
+pub IsCut-of_piece : (read : Reader) (n : ℕ) (a b : Option (List ℕ)) (k : ErrorKind) → IsPieceFault read n a k → TakesPieceStart read n a b → IsPieceRefusal read n a b k
 IsCut-of_piece read n a b Device fault start = (tt, start)
 IsCut-of_piece read n a b FailedToFillTheWholeBuffer fault start = (fault, start)
 IsCut-of_piece read n a b PrematureEndOfPackedInput fault start = (fault, start)

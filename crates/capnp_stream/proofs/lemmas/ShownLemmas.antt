@@ -5,7 +5,7 @@ use Rattle.std.proofs.Math.Seq.{take-add}
 use Rattle.std.specs.Int.{from_le_bytes, w64}
 use Rattle.std.specs.declared.option.Option.{Option}
 use Rattle.std.specs.Io.KnownBytes.{Keeps, Consumes}
-use Rattle.capnp_io.specs.Streams.{Drops}
+use Rattle.capnp_stream_io.specs.Streams.{Drops}
 use Rattle.capnp_units.specs.Segments.{whole_words, words_in}
 use Rattle.capnp_model.specs.Kinds as kinds
 use Rattle.capnp_model.specs.Kinds.{Kind}

@@ -23,13 +23,13 @@ use Rattle.capnp_model.proofs.lemmas.Numbers.{numbers_in-number_of}
 use Rattle.capnp_model.proofs.lemmas.ByteWords.{bytes_length}
 use Rattle.capnp_units.specs.Segments.{words_in}
 use Rattle.capnp_wire.specs.Views.{PointerView, StructView, pointer_field}
-use Rattle.capnp_wire.specs.Reads.{is_null, default_root}
+use Rattle.capnp_wire.specs.Reads.{is_null_pointer, default_root}
 use Rattle.capnp_model.proofs.lemmas.Paths.{read_child-is}
 use Rattle.capnp_model.proofs.lemmas.Tests.{and_right}
 use Rattle.capnp_values.specs.Sources.{null_default, default_pointer}
 use Rattle.capnp_values.specs.GoodDefaults.{IsGoodDefault}
-use Rattle.capnp_values.specs.Shown.{opened, default_opened, slot_opened, slot_shown, kind_shown}
-use Rattle.capnp_values.specs.Standing.{Leads, Stands, or_empty, or_default, filled, HasGoodDefault, Answers, IsPointerType, PointersAreRead, FieldsAreRead}
+use Rattle.capnp_values.specs.Shown.{shown_behind, default_opened, slot_opened, slot_shown, kind_shown}
+use Rattle.capnp_values.specs.Standing.{LeadsToValue, HasSectionAndChildren, null_as_empty, or_default, defaulted_field, HasGoodDefault, Answers, IsPointerType, PointersAreRead, FieldsAreRead}
 use Rattle.capnp_values.specs.Records.{is_there}
 use Rattle.capnp_values.proofs.lemmas.FieldReadings.{plain_base, plain_type, aligned_by, bits_shown, word_null, null_tree, null_behind, number_read, pointer_read}
 use Rattle.capnp_values.proofs.lemmas.Nulls.{nulls}
@@ -55,11 +55,11 @@ pub with_zero : (bs : List ℕ) → AllByRecursion (λ b. b < 2 ^ 8) bs → AllB
 with_zero [] h = (omega arith, tt)
 with_zero (b ∷ bs) h = (h.0, with_zero bs h.1)
 
-text_default : (s : Schema) (bs : List ℕ) → AllByRecursion (λ b. b < 2 ^ 8) bs → or_empty s text (read s (text_tree bs) text) ≡ text_of bs
+text_default : (s : Schema) (bs : List ℕ) → AllByRecursion (λ b. b < 2 ^ 8) bs → null_as_empty s text (read s (text_tree bs) text) ≡ text_of bs
 unfolding read
-text_default s bs h = ap (λ xs. or_empty s text (text_reading xs)) (numbers_in-number_of 8 (bs ++ 0 ∷ []) (with_zero bs h)) ∙ ap (or_empty s text) (text_is bs)
+text_default s bs h = ap (λ xs. null_as_empty s text (text_reading xs)) (numbers_in-number_of 8 (bs ++ 0 ∷ []) (with_zero bs h)) ∙ ap (null_as_empty s text) (text_is bs)
 
-blob_default : (s : Schema) (bs : List ℕ) → AllByRecursion (λ b. b < 2 ^ 8) bs → or_empty s blob (read s (blob_tree bs) blob) ≡ blob_of bs
+blob_default : (s : Schema) (bs : List ℕ) → AllByRecursion (λ b. b < 2 ^ 8) bs → null_as_empty s blob (read s (blob_tree bs) blob) ≡ blob_of bs
 unfolding read
 blob_default s bs h = ap blob_of (numbers_in-number_of 8 bs h)
 
@@ -95,7 +95,7 @@ joined (suc n) bs h =
     let less : length (drop 8 bs) ≡ 8 * n = omega (arith, length-drop 8 bs) in
     ap (λ (x : List ℕ). take 8 bs ++ x) (joined n (drop 8 bs) less) ∙ take-append-drop 8 bs
 
-pub null_leads : Leads 64 null_default null
+pub null_leads : LeadsToValue 64 null_default null
 null_leads = record { left = 64; levels = refl; enough = omega arith; tree = null_tree 64 (words_in (replicate 8 0 ∷ [])) root (word_null (words_in (replicate 8 0 ∷ [])) root refl) }
 
 module _ (bs : List ℕ) (t : Tree) (is : Encoded bs t) where
@@ -107,29 +107,29 @@ module _ (bs : List ℕ) (t : Tree) (is : Encoded bs t) where
       let eighth : length bs / 8 ≡ is.words = omega (arith, is.long) in
       ap (λ (k : ℕ). flat_map (λ w. w) (first_chunks 8 k bs)) eighth ∙ joined is.words bs is.long
 
-  words_lead : Leads 64 default_words t
+  words_lead : LeadsToValue 64 default_words t
   unfolding default_words
   words_lead = record { left = 64; levels = refl; enough = omega arith; tree = ap (λ (x : List ℕ). tree_at 64 (words_in (x ∷ [])) root) same_words ∙ is.tree }
 
   -- a default's pointer leads to its value, with 64 levels
-  default_leads : Leads 64 (default_pointer bs) t
+  default_leads : LeadsToValue 64 (default_pointer bs) t
   unfolding default_words
-  default_leads = by (is_null default_words) refl
+  default_leads = by (is_null_pointer default_words) refl
     where
-      by : (b : Bool) → is_null default_words ≡ b → Leads 64 (if b then null_default else default_words) t
-      by true e = let none : t ≡ null = null_behind 64 default_words t words_lead e in subst (Leads 64 null_default) (sym none) null_leads
+      by : (b : Bool) → is_null_pointer default_words ≡ b → LeadsToValue 64 (if b then null_default else default_words) t
+      by true e = let none : t ≡ null = null_behind 64 default_words t words_lead e in subst (LeadsToValue 64 null_default) (sym none) null_leads
       by false e = words_lead
 
 -- ---- each default
 
 module _ (pointers : PointersAreRead) (s : Schema) where
-  pub segment_read : (test : Tree → Bool) (ty : Ty) (bs : List ℕ) → IsPointerType ty → is_good_segment test bs ≡ true → Answers s (opened s ty (default_pointer bs)) (or_empty s ty (read s (default_or_null (decode bs)) ty))
+  pub segment_read : (test : Tree → Bool) (ty : Ty) (bs : List ℕ) → IsPointerType ty → is_good_segment test bs ≡ true → Answers s (shown_behind s ty (default_pointer bs)) (null_as_empty s ty (read s (default_or_null (decode bs)) ty))
   segment_read test ty bs pointer good =
       let d = decoded test bs good in
-      let P : Option Tree → Type 0 = λ o. Answers s (opened s ty (default_pointer bs)) (or_empty s ty (read s (default_or_null o) ty)) in
+      let P : Option Tree → Type 0 = λ o. Answers s (shown_behind s ty (default_pointer bs)) (null_as_empty s ty (read s (default_or_null o) ty)) in
       subst P (sym d.1) (pointers 64 (default_pointer bs) d.0 s ty pointer (default_leads bs d.0 (encoded bs d.0 d.1)))
 
-  default_read : (ty : Ty) (p : PointerView) (d : Value) → IsPointerType ty → IsGoodDefault ty (Some d) → Answers s (default_opened s ty p d) (or_empty s ty (read s (default_or_null (default_tree (Some d))) ty))
+  default_read : (ty : Ty) (p : PointerView) (d : Value) → IsPointerType ty → IsGoodDefault ty (Some d) → Answers s (default_opened s ty p d) (null_as_empty s ty (read s (default_or_null (default_tree (Some d))) ty))
   default_read void p d pointer good = absurd pointer
   default_read (plain q) p d pointer good = absurd pointer
   default_read text p (text_bytes bs) pointer good = text_default s bs good.2
@@ -190,7 +190,7 @@ module _ (pointers : PointersAreRead) (s : Schema) where
 -- ---- readings that aren't null
 
 module _ (s : Schema) where
-  no_default : (ty : Ty) (r : Reading) → or_default s ty null r ≡ or_empty s ty r
+  no_default : (ty : Ty) (r : Reading) → or_default s ty null r ≡ null_as_empty s ty r
   unfolding read
   no_default ty inactive = refl
   no_default ty null_pointer = refl
@@ -203,7 +203,7 @@ module _ (s : Schema) where
   no_default ty (opaque t) = refl
 
   -- what is there is read without its default
-  stays : (ty : Ty) (d : Tree) (r : Reading) → is_there r ≡ true → or_default s ty d r ≡ or_empty s ty r
+  stays : (ty : Ty) (d : Tree) (r : Reading) → is_there r ≡ true → or_default s ty d r ≡ null_as_empty s ty r
   stays ty d inactive h = absurd cc
   stays ty d null_pointer h = absurd cc
   stays ty d (fault kind) h = refl
@@ -214,35 +214,35 @@ module _ (s : Schema) where
   stays ty d (record_as r) h = refl
   stays ty d (opaque t) h = refl
 
-  null_read : (ty : Ty) (d t : Tree) → t ≡ null → or_default s ty d (read s t ty) ≡ or_empty s ty (read s d ty)
+  null_read : (ty : Ty) (d t : Tree) → t ≡ null → or_default s ty d (read s t ty) ≡ null_as_empty s ty (read s d ty)
   unfolding read
   null_read ty d t is = ap (λ u. or_default s ty d (read s u ty)) is
 
 -- ---- slots
 
-module _ (pointers : PointersAreRead) (n : ℕ) (v : StructView) (e : Extent) (section : ℕ) (kids : Trees) (s : Schema) (stands : Stands n v e section kids) where
+module _ (pointers : PointersAreRead) (n : ℕ) (v : StructView) (e : Extent) (section : ℕ) (kids : Trees) (s : Schema) (stands : HasSectionAndChildren n v e section kids) where
   slot_read : (i : ℕ) (ty : Ty) (d : Option Value) → IsPointerType ty → (child kids i ≡ null → IsGoodDefault ty d) → Answers s (slot_opened s ty d (pointer_field v i)) (or_default s ty (default_or_null (default_tree d)) (read_child s kids i ty))
   slot_read i ty None pointer h =
-      let P : Reading → Type 0 = λ r. Answers s (opened s ty (pointer_field v i)) r in
+      let P : Reading → Type 0 = λ r. Answers s (shown_behind s ty (pointer_field v i)) r in
       subst P (sym (no_default s ty (read_child s kids i ty))) (pointer_read pointers n v e section kids s stands i ty pointer)
-  slot_read i ty (Some d) pointer h = by (is_null (pointer_field v i)) refl
+  slot_read i ty (Some d) pointer h = by (is_null_pointer (pointer_field v i)) refl
     where
       to : Tree
       to = default_or_null (default_tree (Some d))
 
-      by : (b : Bool) → is_null (pointer_field v i) ≡ b → Answers s (if b then default_opened s ty (pointer_field v i) d else opened s ty (pointer_field v i)) (or_default s ty to (read_child s kids i ty))
+      by : (b : Bool) → is_null_pointer (pointer_field v i) ≡ b → Answers s (if b then default_opened s ty (pointer_field v i) d else shown_behind s ty (pointer_field v i)) (or_default s ty to (read_child s kids i ty))
       by true f =
           let none : child kids i ≡ null = null_behind n (pointer_field v i) (child kids i) (stands.children i) f in
-          let same : or_default s ty to (read_child s kids i ty) ≡ or_empty s ty (read s to ty) = ap (or_default s ty to) (read_child-is s kids i ty) ∙ null_read s ty to (child kids i) none in
+          let same : or_default s ty to (read_child s kids i ty) ≡ null_as_empty s ty (read s to ty) = ap (or_default s ty to) (read_child-is s kids i ty) ∙ null_read s ty to (child kids i) none in
           let P : Reading → Type 0 = λ r. Answers s (default_opened s ty (pointer_field v i) d) r in
           subst P (sym same) (default_read pointers s ty (pointer_field v i) d pointer (h none))
       by false f =
           let some : is_null_tree (child kids i) ≡ false = sym (nulls n (pointer_field v i) (child kids i) (stands.children i)) ∙ f in
-          let same : or_default s ty to (read_child s kids i ty) ≡ or_empty s ty (read_child s kids i ty) = ap (or_default s ty to) (read_child-is s kids i ty) ∙ stays s ty to (read s (child kids i) ty) (there s ty (child kids i) some) ∙ ap (or_empty s ty) (sym (read_child-is s kids i ty)) in
-          let P : Reading → Type 0 = λ r. Answers s (opened s ty (pointer_field v i)) r in
+          let same : or_default s ty to (read_child s kids i ty) ≡ null_as_empty s ty (read_child s kids i ty) = ap (or_default s ty to) (read_child-is s kids i ty) ∙ stays s ty to (read s (child kids i) ty) (there s ty (child kids i) some) ∙ ap (null_as_empty s ty) (sym (read_child-is s kids i ty)) in
+          let P : Reading → Type 0 = λ r. Answers s (shown_behind s ty (pointer_field v i)) r in
           subst P (sym same) (pointer_read pointers n v e section kids s stands i ty pointer)
 
-  slot_type_read : (o : ℕ) (ty : TypeRecord) (d : Option Value) (t : Ty) → type_of ty ≡ t → (child kids o ≡ null → IsGoodDefault t d) → Answers s (slot_shown s v o t d) (filled s (slot_body o t d) (body_of (slot_body o t d) e section (read_child s kids)))
+  slot_type_read : (o : ℕ) (ty : TypeRecord) (d : Option Value) (t : Ty) → type_of ty ≡ t → (child kids o ≡ null → IsGoodDefault t d) → Answers s (slot_shown s v o t d) (defaulted_field s (slot_body o t d) (body_of (slot_body o t d) e section (read_child s kids)))
   unfolding body_of
   slot_type_read o ty d void is h = refl
   slot_type_read o ty d (plain p) is h =
@@ -254,7 +254,7 @@ module _ (pointers : PointersAreRead) (n : ℕ) (v : StructView) (e : Extent) (s
   slot_type_read o ty d (struct id) is h = slot_read o (struct id) d tt h
   slot_type_read o ty d (list t) is h = slot_read o (list t) d tt h
 
-  field_read : (k : FieldKind) → HasGoodDefault kids k → Answers s (kind_shown s v k) (filled s (field_body s.shape_of k) (body_of (field_body s.shape_of k) e section (read_child s kids)))
+  field_read : (k : FieldKind) → HasGoodDefault kids k → Answers s (kind_shown s v k) (defaulted_field s (field_body s.shape_of k) (body_of (field_body s.shape_of k) e section (read_child s kids)))
   unfolding body_of
   field_read (slot o ty d) h = slot_type_read o ty d (type_of ty) refl h
   field_read (group id) h = (refl, record { levels = n; extent = e; section = section; kids = kids; stands = stands; is = refl })

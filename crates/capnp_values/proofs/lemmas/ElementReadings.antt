@@ -12,12 +12,12 @@ use Rattle.capnp_model.specs.Schemas.{PlainType, width, TypeRecord, type_of, Ty,
 use Rattle.capnp_model.specs.Readings.{Reading, inactive, null_pointer, list_of, record_as, Readings, no_readings, ◌▹◌, Extent, whole_words, just_bits, Children, no_children, only_child, shape_record, have_room, is_list_of, element_as, list_reading, plain_readings, read, read_child, pointer_elements, struct_elements}
 use Rattle.capnp_model.specs.ActiveMembers.{element_of as reading_of}
 use Rattle.capnp_model.proofs.lemmas.Numbers.{length-numbers_in}
-use Rattle.capnp_wire.specs.Views.{ListView, element_of, element_number}
+use Rattle.capnp_wire.specs.Views.{ListView, element_as_struct, element_number}
 use Rattle.capnp_wire.specs.Laws.{ShowsElement, ShowsElements, ShowsList}
 use Rattle.capnp_model.proofs.lemmas.WordBits.{low_bits}
 use Rattle.capnp_model.proofs.lemmas.Tests.{both_true}
 use Rattle.capnp_values.specs.Shown.{element_shown}
-use Rattle.capnp_values.specs.Standing.{IsExtent, Stands, AreItems, or_empty, Answers, PointersAreRead, ElementsAreRead}
+use Rattle.capnp_values.specs.Standing.{IsExtent, HasSectionAndChildren, AreItems, null_as_empty, Answers, PointersAreRead, ElementsAreRead}
 use Rattle.capnp_values.proofs.lemmas.FieldReadings.{plain_base, plain_type, number_read, pointer_read}
 
 -- ---- numbers at the front of elements
@@ -80,7 +80,7 @@ structs_have_room ty words k es h p is = room (width p) (64 * words) k (width_of
 
 -- ---- what lists read as, by their indices
 
-listed : (s : Schema) (ty : Ty) (b : Bool) (rs items : Readings) → or_empty s ty (list_reading b rs) ≡ list_of items → (b ≡ true) × (rs ≡ items)
+listed : (s : Schema) (ty : Ty) (b : Bool) (rs items : Readings) → null_as_empty s ty (list_reading b rs) ≡ list_of items → (b ≡ true) × (rs ≡ items)
 listed s ty true rs items e = (refl, cc)
 listed s ty false rs items e = absurd cc
 
@@ -133,38 +133,38 @@ pub record IsElement (n : ℕ) (l : ListView) (s : Schema) (ty : Ty) (i : ℕ) (
   pub extent : Extent
   pub section : ℕ
   pub kids : Trees
-  pub stands : Stands n (element_of l i) extent section kids
+  pub stands : HasSectionAndChildren n (element_as_struct l i) extent section kids
   pub number : (p : PlainType) → ty ≡ plain p → element_number l i (width p) ≡ bits_at 0 (width p) section
   pub is : r ≡ element_as s ty extent section (read_child s kids)
 
 module _ (s : Schema) (n : ℕ) (l : ListView) (left : ℕ) (levels : l.levels ≡ Some left) (enough : n ≤ left) where
-  element_stands : (ty : Ty) (i bits : ℕ) (e : Extent) (section : ℕ) (kids : Trees) (below : Children) → below ≡ read_child s kids → IsExtent e (element_of l i) → HasRoom ty bits → ShowsElement (tree_at n l.basis.segments) (element_of l i) bits section kids
+  element_stands : (ty : Ty) (i bits : ℕ) (e : Extent) (section : ℕ) (kids : Trees) (below : Children) → below ≡ read_child s kids → IsExtent e (element_as_struct l i) → HasRoom ty bits → ShowsElement (tree_at n l.basis.segments) (element_as_struct l i) bits section kids
       → IsElement n l s ty i (element_as s ty e section below)
   element_stands ty i bits e section kids below same extent roomy shows = record {
     extent = e;
     section = section;
     kids = kids;
     stands = record { extent = extent; same = shows.0; children = λ j. record { left = left; levels = levels; enough = enough; tree = shows.2 j } };
-    number = λ p is. number_there _ (element_of l i).bits (width p) l.section section shows.0 (ap (nat_le (width p)) shows.1 ∙ roomy p is);
+    number = λ p is. number_there _ (element_as_struct l i).bits (width p) l.section section shows.0 (ap (nat_le (width p)) shows.1 ∙ roomy p is);
     is = ap (element_as s ty e section) same;
   }
 
   -- ---- each kind of list
 
-  plain_stands : (ty : Ty) (size section i : ℕ) → HasRoom ty (size_bits size) → ShowsElement (tree_at n l.basis.segments) (element_of l i) (size_bits size) section none
+  plain_stands : (ty : Ty) (size section i : ℕ) → HasRoom ty (size_bits size) → ShowsElement (tree_at n l.basis.segments) (element_as_struct l i) (size_bits size) section none
       → IsElement n l s ty i (element_as s ty (just_bits (size_bits size)) section no_children)
   unfolding read
   plain_stands ty size section i roomy shows = element_stands ty i (size_bits size) (just_bits (size_bits size)) section none no_children (λ k j t. null_pointer) shows.1 roomy shows
 
-  child_stands : (ty : Ty) (t : Tree) (i : ℕ) → HasRoom ty 0 → ShowsElement (tree_at n l.basis.segments) (element_of l i) 0 0 (t ▸ none)
+  child_stands : (ty : Ty) (t : Tree) (i : ℕ) → HasRoom ty 0 → ShowsElement (tree_at n l.basis.segments) (element_as_struct l i) 0 0 (t ▸ none)
       → IsElement n l s ty i (element_as s ty (just_bits 0) 0 (only_child (read s t)))
   child_stands ty t i roomy shows = element_stands ty i 0 (just_bits 0) 0 (t ▸ none) (only_child (read s t)) (λ k j u. one_child s t j u k) shows.1 roomy shows
 
-  struct_stands : (ty : Ty) (words section i : ℕ) (kids : Trees) → HasRoom ty (64 * words) → ShowsElement (tree_at n l.basis.segments) (element_of l i) (64 * words) section kids
+  struct_stands : (ty : Ty) (words section i : ℕ) (kids : Trees) → HasRoom ty (64 * words) → ShowsElement (tree_at n l.basis.segments) (element_as_struct l i) (64 * words) section kids
       → IsElement n l s ty i (element_as s ty whole_words section (read_child s kids))
   struct_stands ty words section i kids roomy shows =
-      let bound : (element_of l i).section < 2 ^ (element_of l i).bits = mod-lt _ (pow_pos (element_of l i).bits) in
-      let inside : (element_of l i).section < 2 ^ (64 * words) = subst (λ b. (element_of l i).section < 2 ^ b) shows.1 bound in
+      let bound : (element_as_struct l i).section < 2 ^ (element_as_struct l i).bits = mod-lt _ (pow_pos (element_as_struct l i).bits) in
+      let inside : (element_as_struct l i).section < 2 ^ (64 * words) = subst (λ b. (element_as_struct l i).section < 2 ^ b) shows.1 bound in
       element_stands ty i (64 * words) whole_words section kids (read_child s kids) refl (words, shows.1, inside) roomy shows
 
   structs_stand : (ty : Ty) → HasRoom ty (64 * l.data_words) → (es : Elements) (k : ℕ) → ShowsElements (tree_at n l.basis.segments) l k es → (i j : ℕ) → j ≡ k + i → i < element_count es → IsElement n l s ty j (reading_of i (struct_elements s es ty))
@@ -184,7 +184,7 @@ pub record AreElements (n : ℕ) (l : ListView) (s : Schema) (ty : Ty) (items : 
   pub each : (i : ℕ) → i < l.count → IsElement n l s ty i (reading_of i items)
 
 module _ (s : Schema) (ty : TypeRecord) (n : ℕ) (l : ListView) (items : Readings) (left : ℕ) (levels : l.levels ≡ Some left) (enough : n ≤ left) where
-  tree_elements : (t : Tree) → ShowsList (tree_at n l.basis.segments) l t → or_empty s (list (type_of ty)) (read s t (list (type_of ty))) ≡ list_of items → AreElements n l s (type_of ty) items
+  tree_elements : (t : Tree) → ShowsList (tree_at n l.basis.segments) l t → null_as_empty s (list (type_of ty)) (read s t (list (type_of ty))) ≡ list_of items → AreElements n l s (type_of ty) items
   unfolding read item_count
   tree_elements null shows e =
       let empty : no_readings ≡ items = cc in
@@ -225,21 +225,21 @@ elements_stand s ty l r are = tree_elements s ty are.levels l are.items are.list
 -- ---- what they show
 
 module _ (pointers : PointersAreRead) (s : Schema) (n : ℕ) (l : ListView) where
-  element_read : (ty : Ty) (i : ℕ) (e : Extent) (section : ℕ) (kids : Trees) → Stands n (element_of l i) e section kids
-      → ((p : PlainType) → ty ≡ plain p → element_number l i (width p) ≡ bits_at 0 (width p) section) → Answers s (element_shown s ty l i) (or_empty s ty (element_as s ty e section (read_child s kids)))
+  element_read : (ty : Ty) (i : ℕ) (e : Extent) (section : ℕ) (kids : Trees) → HasSectionAndChildren n (element_as_struct l i) e section kids
+      → ((p : PlainType) → ty ≡ plain p → element_number l i (width p) ≡ bits_at 0 (width p) section) → Answers s (element_shown s ty l i) (null_as_empty s ty (element_as s ty e section (read_child s kids)))
   element_read void i e section kids stands h = refl
   element_read (plain p) i e section kids stands h = number_read s p _ _ (h p refl)
   element_read (struct id) i e section kids stands h = (refl, record { levels = n; extent = e; section = section; kids = kids; stands = stands; is = refl })
-  element_read text i e section kids stands h = pointer_read pointers n (element_of l i) e section kids s stands 0 text tt
-  element_read blob i e section kids stands h = pointer_read pointers n (element_of l i) e section kids s stands 0 blob tt
-  element_read untyped i e section kids stands h = pointer_read pointers n (element_of l i) e section kids s stands 0 untyped tt
-  element_read interface i e section kids stands h = pointer_read pointers n (element_of l i) e section kids s stands 0 interface tt
-  element_read (list ty) i e section kids stands h = pointer_read pointers n (element_of l i) e section kids s stands 0 (list ty) tt
+  element_read text i e section kids stands h = pointer_read pointers n (element_as_struct l i) e section kids s stands 0 text tt
+  element_read blob i e section kids stands h = pointer_read pointers n (element_as_struct l i) e section kids s stands 0 blob tt
+  element_read untyped i e section kids stands h = pointer_read pointers n (element_as_struct l i) e section kids s stands 0 untyped tt
+  element_read interface i e section kids stands h = pointer_read pointers n (element_as_struct l i) e section kids s stands 0 interface tt
+  element_read (list ty) i e section kids stands h = pointer_read pointers n (element_as_struct l i) e section kids s stands 0 (list ty) tt
 
 pub elements : PointersAreRead → ElementsAreRead
 elements pointers s ty l r are i =
     let all = elements_stand s ty l r are in (
       (λ h. let x = all.each i h in
-          subst (λ z. Answers s (element_shown s (type_of ty) l i) (or_empty s (type_of ty) z)) (sym x.is) (element_read pointers s are.levels l (type_of ty) i x.extent x.section x.kids x.stands x.number)),
+          subst (λ z. Answers s (element_shown s (type_of ty) l i) (null_as_empty s (type_of ty) z)) (sym x.is) (element_read pointers s are.levels l (type_of ty) i x.extent x.section x.kids x.stands x.number)),
       (λ h. past_items are.items i (omega (arith, all.count, h))),
     )

@@ -14,11 +14,11 @@ use Rattle.capnp_model.specs.Schemas.{PlainType, bool, int, uint, «enum», widt
 use Rattle.capnp_model.specs.Readings.{Reading, number, field_bits, Extent, whole_words, just_bits, read, read_child}
 use Rattle.capnp_model.proofs.lemmas.Chaining.{some_is}
 use Rattle.capnp_wire.specs.Views.{PointerView, StructView, pointer_field}
-use Rattle.capnp_wire.specs.Reads.{is_null_at, is_null}
+use Rattle.capnp_wire.specs.Reads.{is_null_at, is_null_pointer}
 use Rattle.capnp_wire.specs.Laws.{reads_behind}
 use Rattle.capnp_model.proofs.lemmas.Paths.{read_child-is}
-use Rattle.capnp_values.specs.Shown.{number_shown, opened}
-use Rattle.capnp_values.specs.Standing.{Leads, Stands, IsExtent, or_empty, Answers, IsPointerType, PointersAreRead, DiscriminantsAreRead}
+use Rattle.capnp_values.specs.Shown.{number_shown, shown_behind}
+use Rattle.capnp_values.specs.Standing.{LeadsToValue, HasSectionAndChildren, IsExtent, null_as_empty, Answers, IsPointerType, PointersAreRead, DiscriminantsAreRead}
 
 -- ---- bits
 
@@ -137,7 +137,7 @@ null_tree zero s q e = rw e refl
 null_tree (suc n) s q e = rw e refl
 
 -- a null pointer leads to null
-pub null_behind : (n : ℕ) (p : PointerView) (t : Tree) → Leads n p t → is_null p ≡ true → t ≡ null
+pub null_behind : (n : ℕ) (p : PointerView) (t : Tree) → LeadsToValue n p t → is_null_pointer p ≡ true → t ≡ null
 null_behind n p t leads e = by p.place e leads.tree
   where
     by : (o : Option Place) → is_null_at p.basis.segments o ≡ true → reads_behind (tree_at n p.basis.segments) o ≡ Some t → t ≡ null
@@ -152,10 +152,10 @@ number_read s (int w) x y e = ap number (sym e)
 number_read s (uint w) x y e = ap number (sym e)
 number_read s («enum» id) x y e = (refl, ap number (sym e))
 
-module _ (pointers : PointersAreRead) (n : ℕ) (v : StructView) (e : Extent) (section : ℕ) (kids : Trees) (s : Schema) (stands : Stands n v e section kids) where
-  pub pointer_read : (i : ℕ) (ty : Ty) → IsPointerType ty → Answers s (opened s ty (pointer_field v i)) (or_empty s ty (read_child s kids i ty))
+module _ (pointers : PointersAreRead) (n : ℕ) (v : StructView) (e : Extent) (section : ℕ) (kids : Trees) (s : Schema) (stands : HasSectionAndChildren n v e section kids) where
+  pub pointer_read : (i : ℕ) (ty : Ty) → IsPointerType ty → Answers s (shown_behind s ty (pointer_field v i)) (null_as_empty s ty (read_child s kids i ty))
   pointer_read i ty pointer =
-      let P : Reading → Type 0 = λ r. Answers s (opened s ty (pointer_field v i)) (or_empty s ty r) in
+      let P : Reading → Type 0 = λ r. Answers s (shown_behind s ty (pointer_field v i)) (null_as_empty s ty r) in
       subst P (sym (read_child-is s kids i ty)) (pointers n (pointer_field v i) (child kids i) s ty pointer (stands.children i))
 
 pub discriminants : DiscriminantsAreRead

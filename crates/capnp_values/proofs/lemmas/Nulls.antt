@@ -10,9 +10,9 @@ use Rattle.capnp_model.specs.Trees.{Tree, null, capability, structure, plain_lis
 use Rattle.capnp_model.specs.Traversal.{tree_at, tree_of, leaf_of, list_tree, ListKind, of_bits, of_pointers, of_structs, list_kind, list_words, tag_in, each, each_element}
 use Rattle.capnp_model.proofs.lemmas.Chaining.{bind_some, bind_found, bind_ok, ok_is, some_is}
 use Rattle.capnp_wire.specs.Views.{PointerView}
-use Rattle.capnp_wire.specs.Reads.{is_null_at, is_null as pointer_is_null}
+use Rattle.capnp_wire.specs.Reads.{is_null_at, is_null_pointer as pointer_is_null}
 use Rattle.capnp_wire.specs.Laws.{reads_behind}
-use Rattle.capnp_values.specs.Standing.{Leads, NullsAreRead}
+use Rattle.capnp_values.specs.Standing.{LeadsToValue, NullsAreRead}
 use Rattle.capnp_values.proofs.lemmas.FieldReadings.{null_behind}
 
 -- what is described is something
@@ -92,7 +92,7 @@ module _ (s : Segments) (q : Place) where
   null_at (suc n) e = let a = bind_found (model.found_at s q) _ null e in null_word a.0 a.1 (tree_null (tree_at n s) a.0.object a.2)
 
 -- a pointer that leads to null is null
-null_pointer_there : (n : ℕ) (p : PointerView) → Leads n p null → pointer_is_null p ≡ true
+null_pointer_there : (n : ℕ) (p : PointerView) → LeadsToValue n p null → pointer_is_null p ≡ true
 null_pointer_there n p leads = by p.place leads.tree
   where
     by : (o : Option Place) → reads_behind (tree_at n p.basis.segments) o ≡ Some null → is_null_at p.basis.segments o ≡ true
@@ -115,7 +115,7 @@ nulls n p t leads = by (pointer_is_null p) (is_null t) refl refl
     by false false f g = refl
     by true false f g = let is : is_null t ≡ true = ap is_null (null_behind n p t leads f) in let no : true ≡ false = sym is ∙ g in absurd cc
     by false true f g =
-        let P : Tree → Type 0 = λ u. Leads n p u in
+        let P : Tree → Type 0 = λ u. LeadsToValue n p u in
         let there : pointer_is_null p ≡ true = null_pointer_there n p (subst P (of_null t g) leads) in
         let no : true ≡ false = sym there ∙ f in
         absurd cc

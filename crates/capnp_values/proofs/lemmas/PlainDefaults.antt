@@ -7,8 +7,8 @@ use Rattle.capnp_model.specs.Printing.{fields_in}
 use Rattle.capnp_model.specs.Accepted.{find_node, fields_of_kind, slot_body, field_body, fields_from, union_place, no_shape, shape_of_node, shape_in, schema_of, same_plain, is_default_of, has_good_default, IsAccepted}
 use Rattle.capnp_model.proofs.lemmas.KeptRules.{found_passes}
 use Rattle.capnp_model.proofs.lemmas.SoundRules.{rules_kept}
-use Rattle.capnp_queries.specs.Fields.{Entry, field_at}
-use Rattle.capnp_queries.proofs.lemmas.Shapes.{shape_fixed}
+use Rattle.capnp_values_queries.specs.Fields.{Entry, field_at}
+use Rattle.capnp_values_queries.proofs.lemmas.Shapes.{shape_fixed}
 use Rattle.capnp_model.proofs.lemmas.Tests.{lt_is, and_left, and_right}
 
 -- the default of a plain slot is of the slot's width

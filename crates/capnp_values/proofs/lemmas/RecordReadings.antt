@@ -6,14 +6,14 @@ use Rattle.capnp_model.specs.Readings.{Reading, inactive, null_pointer, fault, n
 use Rattle.capnp_model.specs.Printing.{fields_in}
 use Rattle.capnp_model.specs.Accepted.{find_node, field_body, fields_from, union_place, no_shape, shape_of_node, shape_in, schema_of}
 use Rattle.capnp_wire.specs.Views.{StructView, pointer_field}
-use Rattle.capnp_queries.specs.Fields.{Entry, field_at, union_in, place_of_member, entry_in}
-use Rattle.capnp_queries.specs.Structs.{nodes_around, schema_around, id_of, shape_of_struct}
-use Rattle.capnp_queries.specs.declared.structs.StructSchema.{StructSchema}
+use Rattle.capnp_values_queries.specs.Fields.{Entry, field_at, union_in, place_of_member, entry_in}
+use Rattle.capnp_values_queries.specs.Structs.{nodes_around, schema_around, id_of, shape_of_struct}
+use Rattle.capnp_values_queries.specs.declared.structs.StructSchema.{StructSchema}
 use Rattle.capnp_model.proofs.lemmas.Paths.{record_is, read_child-is}
 use Rattle.capnp_values.specs.GoodDefaults.{KeepsDefault}
 use Rattle.capnp_values.specs.Shown.{kind_shown, discriminant_shown, is_active_field, is_null_slot}
-use Rattle.capnp_values.specs.Standing.{Stands, HasGoodDefault, filled, Answers, PointersAreRead}
-use Rattle.capnp_values.specs.Records.{reading_at, is_live, is_there, active_place, FieldsOfRecords, MembersOfRecords, ValuesOfRecords}
+use Rattle.capnp_values.specs.Standing.{HasSectionAndChildren, HasGoodDefault, defaulted_field, Answers, PointersAreRead}
+use Rattle.capnp_values.specs.Records.{reading_at_index, is_live, is_there, active_place, FieldsOfRecords, MembersOfRecords, ValuesOfRecords}
 use Rattle.capnp_values.proofs.lemmas.FieldReadings.{discriminants}
 use Rattle.capnp_values.proofs.lemmas.Nulls.{nulls}
 use Rattle.capnp_values.proofs.lemmas.Presence.{there}
@@ -44,7 +44,7 @@ pub counted : (nodes : List Node) (id : ℕ) → (o : Option ℕ) × (union_in (
 unfolding schema_of
 counted nodes id = union_counted nodes (length nodes) id
 
-discriminant_read : (sch : StructSchema) (n : ℕ) (v : StructView) (e : Extent) (section : ℕ) (kids : Trees) → Stands n v e section kids → discriminant_shown sch v ≡ discriminant (union_in (shape_of_struct sch)) e section
+discriminant_read : (sch : StructSchema) (n : ℕ) (v : StructView) (e : Extent) (section : ℕ) (kids : Trees) → HasSectionAndChildren n v e section kids → discriminant_shown sch v ≡ discriminant (union_in (shape_of_struct sch)) e section
 discriminant_read sch n v e section kids stands =
     let u = counted (nodes_around sch) (id_of sch) in
     ap (λ o. discriminant o (just_bits v.bits) v.section) u.1 ∙ discriminants n v e section kids u.0 stands ∙ ap (λ o. discriminant o e section) (sym u.1)
@@ -56,7 +56,7 @@ unfolding shape_record
 shape_is (shape nid w p u fs) e section kids = refl
 
 pub field_of_record : (fs : Fields) (i : ℕ) (d : Option ℕ) (e : Extent) (section : ℕ) (kids : Children) (x : Entry) → field_at fs i ≡ Some x
-    → reading_at i (fields_of fs d e section kids) ≡ only_if (is_active x.member d) (body_of x.body e section kids)
+    → reading_at_index i (fields_of fs d e section kids) ≡ only_if (is_active x.member d) (body_of x.body e section kids)
 unfolding fields_of
 field_of_record no_fields zero d e section kids x h = absurd cc
 field_of_record no_fields (suc i) d e section kids x h = absurd cc
@@ -104,7 +104,7 @@ pub only_live : (a : Bool) (r : Reading) → is_live (only_if a r) ≡ true → 
 only_live true r h = refl
 only_live false r h = absurd cc
 
-module _ (n : ℕ) (v : StructView) (e : Extent) (section : ℕ) (kids : Trees) (s : Schema) (stands : Stands n v e section kids) where
+module _ (n : ℕ) (v : StructView) (e : Extent) (section : ℕ) (kids : Trees) (s : Schema) (stands : HasSectionAndChildren n v e section kids) where
   body_there : (b : Body) → is_there (body_of b e section (read_child s kids)) ≡ not (is_null_slot v (Some b))
   unfolding body_of
   body_there (void_slot j) = refl
@@ -156,7 +156,7 @@ fields_of_records pointers f said v r is keeps rec =
     let whole = body_of body rec.extent rec.section kids in
     let a = is_active said.member d in
     let same : r ≡ shape_record g rec.extent rec.section kids = record_is r (shape_record g rec.extent rec.section kids) rec.is in
-    let has : reading_at f.index r ≡ only_if a whole = ap (reading_at f.index) (same ∙ shape_is g rec.extent rec.section kids) ∙ field_of_record (fields_in g) f.index d rec.extent rec.section kids (entry_in s said) is.entry in
+    let has : reading_at_index f.index r ≡ only_if a whole = ap (reading_at_index f.index) (same ∙ shape_is g rec.extent rec.section kids) ∙ field_of_record (fields_in g) f.index d rec.extent rec.section kids (entry_in s said) is.entry in
     let shown = discriminant_read f.parent rec.levels v rec.extent rec.section rec.kids rec.stands in
     record {
       has = ap (λ (o : Option Entry). is_active_field (discriminant_shown f.parent v) (option_map (λ x. x.member) o) && not (is_null_slot v (option_map (λ x. x.body) o))) is.entry
@@ -165,8 +165,8 @@ fields_of_records pointers f said v r is keeps rec =
           ∙ sym (only_there a whole)
           ∙ ap is_there (sym has);
       shows = λ live.
-          let here : reading_at f.index r ≡ whole = has ∙ only_live a whole (ap is_live (sym has) ∙ live) in
-          let P : Reading → Type 0 = λ x. Answers s (kind_shown s v said.kind) (filled s body x) in
+          let here : reading_at_index f.index r ≡ whole = has ∙ only_live a whole (ap is_live (sym has) ∙ live) in
+          let P : Reading → Type 0 = λ x. Answers s (kind_shown s v said.kind) (defaulted_field s body x) in
           subst P (sym here) (fields pointers rec.levels v rec.extent rec.section rec.kids s said.kind rec.stands (good_by rec.kids said.kind keeps));
     }
 

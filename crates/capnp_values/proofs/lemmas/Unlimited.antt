@@ -3,9 +3,9 @@ use Rattle.std.proofs.Common.{◌≡◌, ℕ, sym, ◌∙◌, ap, subst, Bool, t
 use Rattle.std.specs.Simd.{first_chunks}
 use Rattle.capnp_model.specs.Kinds.{Kind}
 use Rattle.capnp_model.specs.Chains.{◌and_then◌}
-use Rattle.capnp_object.specs.declared.object.Object.{Object}
-use Rattle.capnp_object.specs.Places.{seen}
-use Rattle.capnp_object.specs.Follow.{found_cost}
+use Rattle.capnp_wire_objects.specs.declared.object.Object.{Object}
+use Rattle.capnp_wire_objects.specs.Places.{seen}
+use Rattle.capnp_wire_objects.specs.Follow.{follow_cost}
 use Rattle.capnp_units.specs.declared.errors.Error.{Error}
 use Rattle.capnp_units.specs.declared.limiter.ReadLimiter.{ReadLimiter}
 use Rattle.capnp_units.specs.Limits.{left_of, IsPassed}
@@ -25,7 +25,7 @@ answers_reading view read p old new (Err e) unlimited g =
     elim g [
       | inl h ↦ sym (ap (λ o. o and_then λ g. read g.object) h.0)
       | inr h ↦ elim h [
-        | inl dear ↦ absurd (never_dear (is_charged p) old (found_cost dear.0) unlimited dear.3)
+        | inl dear ↦ absurd (never_dear (is_charged p) old (follow_cost dear.0) unlimited dear.3)
         | inr unread ↦ sym (ap (λ o. o and_then λ g. read g.object) unread.1 ∙ unread.3)
       ]
     ]

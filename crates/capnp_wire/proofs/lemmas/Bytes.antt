@@ -6,7 +6,7 @@ use Rattle.std.proofs.Math.Seq.{take-length}
 use lib.Pow as pow
 use Rattle.capnp_model.specs.Sections.{numbers_in, number_of}
 use Rattle.capnp_model.specs.Bytes.{AreBytes}
-pub use Rattle.capnp_backing.proofs.lemmas.Bytes.{word_is, number_of-drop, number_of-take, section_of_part}
+pub use Rattle.capnp_wire.proofs.lemmas.BackedBytes.{word_is, number_of-drop, number_of-take, section_of_part}
 
 pub bytes_of_front : (n : ℕ) (bytes : List ℕ) → n ≤ length bytes → AreBytes bytes → numbers_in 8 n (number_of 8 bytes) ≡ take n bytes
 bytes_of_front zero bytes h small = refl

@@ -13,23 +13,23 @@ use Rattle.capnp_model.specs.Traversal.{tag_in, ListKind, of_bits, of_pointers, 
 use Rattle.std.specs.Option.{ok_or}
 use Rattle.capnp_model.proofs.lemmas.Chaining.{bind_some, some_is, bind_ok, ok_is, ok_or_some}
 use Rattle.capnp_model.proofs.lemmas.ReadFits.{words_length}
-use Rattle.capnp_object.specs.declared.object.Object.{Object}
+use Rattle.capnp_wire_objects.specs.declared.object.Object.{Object}
 use Rattle.capnp_units.specs.declared.sizes.ElementSize.{ElementSize}
 use Rattle.capnp_units.specs.declared.sizes.ElementSize.TheVariants.{FourBytes, EightBytes, InlineComposite}
-use Rattle.capnp_object.specs.declared.object.Object.TheVariants as object
-use Rattle.capnp_object.specs.Places.{place_view}
-use Rattle.capnp_object.specs.Objects.{plain_size, whole_list, whole, object_at}
-use Rattle.capnp_object.specs.declared.object.Found.{Found}
+use Rattle.capnp_wire_objects.specs.declared.object.Object.TheVariants as object
+use Rattle.capnp_wire_objects.specs.Places.{place_view}
+use Rattle.capnp_wire_objects.specs.Objects.{plain_size, whole_list, whole, object_at}
+use Rattle.capnp_wire_objects.specs.declared.object.Found.{Found}
 use Rattle.capnp_units.specs.Sizes.{size_number}
 use Rattle.std.proofs.lemmas.Bool.Decides.{nat_tests}
 use Rattle.capnp_model.proofs.lemmas.Visits.{tag_fits}
 use Rattle.capnp_wire.specs.Views.{Ground, section_at, list_view}
-use Rattle.capnp_object.specs.Inside.{words_there}
+use Rattle.capnp_wire_objects.specs.Inside.{words_there}
 use Rattle.capnp_wire.specs.Laws.{reads_behind, ShowsElements}
 use Rattle.capnp_wire.proofs.lemmas.Bytes.{number_of-drop, number_of-take}
 use Rattle.capnp_wire.proofs.Elements.{bits_of_low}
-use Rattle.capnp_object.proofs.lemmas.Linking.{section_front, words_behind}
-use Rattle.capnp_object.proofs.lemmas.Walking.{object_found}
+use Rattle.capnp_wire_objects.proofs.lemmas.Linking.{section_front, words_behind}
+use Rattle.capnp_wire_objects.proofs.lemmas.Walking.{object_found}
 
 -- ---- plain elements
 

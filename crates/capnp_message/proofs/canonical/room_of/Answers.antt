@@ -3,7 +3,7 @@ use Rattle.capnp_units.specs.Segments.{words_in}
 use Rattle.capnp_units.specs.Limits.{granted_of}
 use Rattle.capnp_model.specs.Segments.{root}
 use Rattle.capnp_model.specs.Visits.{visits}
-use Rattle.capnp_canonical.specs.Copies.{copy_visits}
+use Rattle.capnp_wire_canonical.specs.Copies.{copy_visits}
 use Rattle.capnp_message.specs.Canonical.{most_cost, IsAsked, Suffices}
 use Rattle.capnp_message.proofs.Rooms.{measured, whole_told, whole_asked, stopped_told, stopped_asked}
 use Rattle.capnp_message.proofs.canonical.room_of.Goals as goal

@@ -1,7 +1,7 @@
 use Rattle.std.proofs.Common.{suc, arith}
 use Rattle.capnp_model.specs.Segments.{root}
-use Rattle.capnp_footprints.proofs.lemmas.Lift.{replaced_owned}
-use Rattle.capnp_footprints.proofs.lemmas.Levels.{owned_more}
+use Rattle.capnp_model_writes.proofs.lemmas.Lift.{replaced_owned}
+use Rattle.capnp_model_writes.proofs.lemmas.Levels.{owned_more}
 use Rattle.capnp_message.proofs.NullRoot.{null_root}
 use Rattle.capnp_message.proofs.laws.roots_that_are_built.Goals as goal
 

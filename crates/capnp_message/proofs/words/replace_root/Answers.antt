@@ -1,6 +1,6 @@
 use Rattle.std.proofs.Common.{ℕ, List, map, ap, sym, refl, inl, ◌∙◌, Bor, rules}
 use Rattle.capnp_units.specs.Segments.{words_in}
-use Rattle.capnp_canonical.specs.Writes.{words_view}
+use Rattle.capnp_wire_canonical.specs.Writes.{words_view}
 use Rattle.capnp_message.specs.declared.reader.SegmentArray.{SegmentArray}
 use Rattle.capnp_message.proofs.Building.{one_segment, copied_root}
 use Rattle.capnp_message.proofs.words.replace_root.Goals as goal

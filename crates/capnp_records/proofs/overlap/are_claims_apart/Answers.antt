@@ -7,7 +7,7 @@ use Rattle.capnp_records.specs.Listed.{listed}
 use Rattle.capnp_records.specs.NodeViews.{field_of, struct_of}
 use Rattle.capnp_records.specs.Storage.{areas_seen}
 use Rattle.capnp_records.specs.Claims.{claim_in, claims_in}
-use Rattle.capnp_records.specs.Marks.{AllowsAll, Refuses, Puts, most_mark, level_mark}
+use Rattle.capnp_records.specs.Marks.{AllowsAll, HasMarkAbove, MarksAreas, most_mark, level_mark}
 use Rattle.capnp_records.proofs.Forward.{forward}
 use Rattle.capnp_records.proofs.Marked.{clash}
 use Rattle.capnp_records.proofs.Claimed.{IsWalked, begun, all_allowed, walked_on, walked_out, next_is, grown, map_twice, none_left}
@@ -21,9 +21,9 @@ loop-field-init c =
     let all : List (Bool × List ModelArea) = claims_in g (struct_of c.args.holder.now) in
     let d : Bool × List ModelArea = (false, union_area (union_place (struct_of c.args.holder.now))) in
     let here : areas_seen c.push_union_area.new.areas.items ≡ d.1 = c.in_ok-push_union_area.ensures ∙ ap (λ (as' : List Area). areas_seen as' ++ d.1) c.new-areas.ensures.items in
-    let put : Puts c.new-marks.result c.put_all.new.marks (areas_seen c.deref.result.now) c.level_mark.result = c.in_ok-put_all.ensures in
-    let put_level : Puts c.new-marks.result c.put_all.new.marks (areas_seen c.deref.result.now) (level_mark false) = subst (λ (n : ℕ). Puts c.new-marks.result c.put_all.new.marks (areas_seen c.deref.result.now) n) c.level_mark.ensures put in
-    let p : Puts c.new-marks.result c.put_all.new.marks (areas_seen c.push_union_area.new.areas.items) (level_mark false) = subst (λ (as' : List Area). Puts c.new-marks.result c.put_all.new.marks (areas_seen as') (level_mark false)) c.deref.ensures.value put_level in
+    let put : MarksAreas c.new-marks.result c.put_all.new.marks (areas_seen c.deref.result.now) c.level_mark.result = c.in_ok-put_all.ensures in
+    let put_level : MarksAreas c.new-marks.result c.put_all.new.marks (areas_seen c.deref.result.now) (level_mark false) = subst (λ (n : ℕ). MarksAreas c.new-marks.result c.put_all.new.marks (areas_seen c.deref.result.now) n) c.level_mark.ensures put in
+    let p : MarksAreas c.new-marks.result c.put_all.new.marks (areas_seen c.push_union_area.new.areas.items) (level_mark false) = subst (λ (as' : List Area). MarksAreas c.new-marks.result c.put_all.new.marks (areas_seen as') (level_mark false)) c.deref.ensures.value put_level in
     let walked : IsWalked c.new-marks.result [] (d ∷ map f fs) all = subst (λ (rest : List (Bool × List ModelArea)). IsWalked c.new-marks.result [] (d ∷ rest) all) (map_twice (claim_in g) field_of fs) (begun c.new-marks.result all c.new-marks.ensures) in
     walked_on c.new-marks.result [] (map f fs) all d c.push_union_area.new.areas.items here walked c.put_all.new.marks (all_allowed c.new-marks.result (areas_seen c.push_union_area.new.areas.items) 0 c.new-marks.ensures) p
 
@@ -41,7 +41,7 @@ returns-then-not-allows_all c =
     let is : x ≡ get_or fs i x = c.field-item.is ∙ ap (λ (ys : List FieldRecord). get_or ys i x) same in
     let here : areas_seen c.push_areas_of_body.new.areas.items ≡ (f x).1 = c.in_ok-push_areas_of_body.ensures ∙ ap (λ (as' : List Area). areas_seen as' ++ (f x).1) c.clear.ensures.items in
     let walked : IsWalked c.loop-field.marks (d ∷ map f (take i fs)) (f x ∷ map f (drop (i + 1) fs)) all = subst (λ (rest : List (Bool × List ModelArea)). IsWalked c.loop-field.marks (d ∷ map f (take i fs)) rest all) (next_is f fs i x lt is) c.loop-field.invariant in
-    let r : Refuses c.loop-field.marks (areas_seen c.push_areas_of_body.new.areas.items) (most_mark (f x).0) = rw (c.deref-in-loop-field.ensures.value, c.most_mark.ensures, c.is_member-member.ensures) at c.if-not-allows_all.ensures in
+    let r : HasMarkAbove c.loop-field.marks (areas_seen c.push_areas_of_body.new.areas.items) (most_mark (f x).0) = rw (c.deref-in-loop-field.ensures.value, c.most_mark.ensures, c.is_member-member.ensures) at c.if-not-allows_all.ensures in
     walked_out c.loop-field.marks (d ∷ map f (take i fs)) (map f (drop (i + 1) fs)) all (f x) c.push_areas_of_body.new.areas.items here walked r
 
 pub loop-field-preserved : goal.loop-field-preserved
@@ -61,9 +61,9 @@ loop-field-preserved c =
     let a : AllowsAll c.loop-field.marks (areas_seen c.push_areas_of_body.new.areas.items) (most_mark (f x).0) = rw (c.deref-in-loop-field.ensures.value, c.most_mark.ensures, c.is_member-member.ensures) at c.if-not-allows_all.ensures in
     let m = c.loop-field.marks in
     let n = c.put_all-in-loop-field.new.marks in
-    let put : Puts m n (areas_seen c.deref-in-loop-field-2.result.now) c.level_mark-in-loop-field.result = c.in_ok-put_all-2.ensures in
-    let put_level : Puts m n (areas_seen c.deref-in-loop-field-2.result.now) (level_mark (f x).0) = subst (λ (k : ℕ). Puts m n (areas_seen c.deref-in-loop-field-2.result.now) k) (c.level_mark-in-loop-field.ensures ∙ ap level_mark c.is_member-member.ensures) put in
-    let p : Puts m n (areas_seen c.push_areas_of_body.new.areas.items) (level_mark (f x).0) = subst (λ (as' : List Area). Puts m n (areas_seen as') (level_mark (f x).0)) c.deref-in-loop-field-2.ensures.value put_level in
+    let put : MarksAreas m n (areas_seen c.deref-in-loop-field-2.result.now) c.level_mark-in-loop-field.result = c.in_ok-put_all-2.ensures in
+    let put_level : MarksAreas m n (areas_seen c.deref-in-loop-field-2.result.now) (level_mark (f x).0) = subst (λ (k : ℕ). MarksAreas m n (areas_seen c.deref-in-loop-field-2.result.now) k) (c.level_mark-in-loop-field.ensures ∙ ap level_mark c.is_member-member.ensures) put in
+    let p : MarksAreas m n (areas_seen c.push_areas_of_body.new.areas.items) (level_mark (f x).0) = subst (λ (as' : List Area). MarksAreas m n (areas_seen as') (level_mark (f x).0)) c.deref-in-loop-field-2.ensures.value put_level in
     subst (λ (done : List (Bool × List ModelArea)). IsWalked n (d ∷ done) (map f (drop (i + 1) fs)) all) (grown f fs i x lt is)
     (walked_on m (d ∷ map f (take i fs)) (map f (drop (i + 1) fs)) all (f x) c.push_areas_of_body.new.areas.items here walked n a p)
 

@@ -1,8 +1,8 @@
 use Rattle.std.proofs.Common.{◌≡◌, ℕ, Bool, true, false, Ok, sym, arith}
 use Rattle.capnp_model.specs.Segments.{Segments, root}
 use Rattle.capnp_model.specs.Canonical.{is_canonical_message}
-use Rattle.capnp_canonical.specs.Standing.{IsSmall}
-use Rattle.capnp_canonical.specs.Checks.{TellsMessage}
+use Rattle.capnp_wire_canonical.specs.Standing.{IsSmall}
+use Rattle.capnp_wire_canonical.specs.Checks.{TellsMessage}
 use Rattle.capnp_units.specs.declared.limiter.ReadLimiter.{ReadLimiter}
 use Rattle.capnp_units.specs.Segments.{words_in}
 use Rattle.capnp_records.proofs.lemmas.Segments.{stopped_not}

@@ -1,7 +1,7 @@
 use Rattle.std.proofs.Common.{map}
 use Rattle.capnp_records.specs.Sets.{nodes_of}
 use Rattle.capnp_calls.specs.CallViews.{call_view}
-use Rattle.capnp_queries.specs.Structs.{nodes_around, id_of}
+use Rattle.capnp_values_queries.specs.Structs.{nodes_around, id_of}
 use Rattle.capnp_relay.proofs.Admissions.{same_admission}
 use Rattle.capnp_relay.proofs.versions.admitted.Goals as goal
 

@@ -1,8 +1,8 @@
 use Rattle.std.proofs.Common.{map}
 use Rattle.capnp_records.specs.Sets.{nodes_of}
 use Rattle.capnp_calls.specs.CallViews.{call_view}
-use Rattle.capnp_compatible.specs.Renamed.{renamings_of}
-use Rattle.capnp_queries.specs.Structs.{nodes_around, id_of}
+use Rattle.capnp_calls_versions.specs.Renamed.{renamings_of}
+use Rattle.capnp_values_queries.specs.Structs.{nodes_around, id_of}
 use Rattle.capnp_relay.proofs.Admissions.{same_admission_with}
 use Rattle.capnp_relay.proofs.versions.admitted_with.Goals as goal
 

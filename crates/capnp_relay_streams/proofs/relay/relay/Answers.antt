@@ -1,6 +1,6 @@
-use Rattle.capnp_loop.specs.Streams.{source_seen, sink_seen, streams}
+use Rattle.capnp_relay_loop.specs.Streams.{source_seen, sink_seen, streams}
 use Rattle.capnp_relay_streams.specs.Relaying.{relay_work}
-use Rattle.capnp_loop.proofs.lemmas.PauseLemmas.{never_pausing}
+use Rattle.capnp_relay_loop.proofs.lemmas.PauseLemmas.{never_pausing}
 use Rattle.capnp_relay_streams.proofs.relay.relay.Goals as goal
 
 pub returns-clause-run : goal.returns-clause-run

@@ -1,7 +1,7 @@
 use Rattle.std.proofs.Common.{◌∙◌}
 use Rattle.capnp_relay_streams.specs.Relaying.{relay_work}
-use Rattle.capnp_loop.specs.Streams.{source_seen, sink_seen, streams}
-use Rattle.capnp_loop.proofs.lemmas.PauseLemmas.{wants_first}
+use Rattle.capnp_relay_loop.specs.Streams.{source_seen, sink_seen, streams}
+use Rattle.capnp_relay_loop.proofs.lemmas.PauseLemmas.{wants_first}
 use Rattle.capnp_relay_streams.proofs.relay.relay_pausing.Goals as goal
 
 pub returns-in-Err : goal.returns-in-Err

@@ -6,7 +6,7 @@ use Rattle.capnp_model.specs.Messages.{cut, within}
 use Rattle.capnp_model.specs.Spelling.{CanSpell}
 use Rattle.capnp_model.proofs.lemmas.WordsInBytes.{words_in_bytes-length}
 use Rattle.capnp_stream.specs.Segments.{whole_words, lengths_of, segments_of}
-use Rattle.capnp_stream.specs.Frames.{TakesMessage, IsCut}
+use Rattle.capnp_stream.specs.Frames.{TakesMessage, IsPieceRefusal}
 use Rattle.capnp_stream.proofs.lemmas.WordLemmas.{whole_words-of_length, cut-of_joined, concat-of_joined, writable-joined}
 use Rattle.capnp_stream.proofs.SpellLemmas.{CanSpell-of_cut}
 use Rattle.capnp_stream.proofs.lemmas.FrameLemmas.{large-fault, large-part, body-fault, body-part, message-of_pieces}
@@ -55,7 +55,7 @@ returns-in_err-bytes g c =
     let ns = lengths_of c.in_ok-table.table in
     let t = c.in_ok-table.ensures in
     let kept : within (sum ns) c.args.limit ≡ true = ap (λ n. within n c.args.limit) (sym c.total_words-total.ensures) ∙ sym c.is_within.ensures ∙ c.if-not-is_within.false in
-    let Cut : ℕ → Type 0 = λ n. IsCut g.F.MessageForm.reader n (g.R.Read.remaining c.read_table.new.source) (g.R.Read.remaining c.take_piece.new.source) kind in
+    let Cut : ℕ → Type 0 = λ n. IsPieceRefusal g.F.MessageForm.reader n (g.R.Read.remaining c.read_table.new.source) (g.R.Read.remaining c.take_piece.new.source) kind in
     let cut = subst Cut c.total_words-total.ensures r.cut in
     rw (p.1, p.2) (record {
       message = tt;

@@ -4,7 +4,7 @@ use Rattle.std.proofs.lemmas.List.{with_items_is}
 use Rattle.std.proofs.lemmas.Result.{err_from_is_err_and}
 use Rattle.capnp_stream.specs.Pieces.{TakesPiece}
 use Rattle.capnp_stream.specs.Segments.{whole_words}
-use Rattle.capnp_stream.specs.Frames.{IsCut}
+use Rattle.capnp_stream.specs.Frames.{IsPieceRefusal}
 use Rattle.capnp_stream.proofs.lemmas.PieceLemmas.{IsCut-of_piece}
 use Rattle.capnp_stream.proofs.TableLemmas.{read-kind}
 use Rattle.capnp_stream.proofs.RefusalLemmas.{unread, memory-kind, memory-counts, some-words}
@@ -18,7 +18,7 @@ returns-in_err-resize g c =
     rw p.1 (record {
       len = tt;
       ok = tt;
-      cut = subst (IsCut g.F.MessageForm.reader c.args.words source source) (sym p.2) (unread source, some);
+      cut = subst (IsPieceRefusal g.F.MessageForm.reader c.args.words source source) (sym p.2) (unread source, some);
       own = memory-kind p.0.kind p.2 g.F.MessageForm.faults;
       count = memory-counts p.0.kind p.2 _ _ refl;
     })
@@ -28,7 +28,7 @@ returns-in_err-read_piece g c =
     let p = err_from_is_err_and c.from_residual-in_err-read_piece.result c.from_residual-in_err-read_piece.ensures.1 in
     let r = c.in_err-read_piece.ensures in
     let kind = c.in_err-read_piece.field-0.0.kind in
-    let Cut : ℕ → Type 0 = λ m. IsCut g.F.MessageForm.reader m (g.R.Read.remaining c.args.source.now) (g.R.Read.remaining c.read_piece.new.source) kind in
+    let Cut : ℕ → Type 0 = λ m. IsPieceRefusal g.F.MessageForm.reader m (g.R.Read.remaining c.args.source.now) (g.R.Read.remaining c.read_piece.new.source) kind in
     let long : length c.deref_mut.result.now / 8 ≡ c.args.words = omega (arith, c.deref_mut.ensures.len, c.in_ok-resize.ensures.len) in
     let cut = IsCut-of_piece g.F.MessageForm.reader _ _ _ kind r.kind r.part in
     rw (p.1, p.2) (record {

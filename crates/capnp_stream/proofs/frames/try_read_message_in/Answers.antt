@@ -1,6 +1,6 @@
 use Rattle.std.proofs.Common.{ℕ, subst}
 use Rattle.std.proofs.lemmas.Result.{err_from_is_err_and}
-use Rattle.capnp_io.specs.Counting.{KindCounts}
+use Rattle.capnp_stream_io.specs.Counting.{KindCounts}
 use Rattle.capnp_stream.proofs.ReadLemmas.{tries-failed, tries-refused, tries-read}
 use Rattle.capnp_stream.proofs.frames.try_read_message_in.Goals as goal
 

@@ -1,7 +1,7 @@
 use Rattle.std.proofs.Common.{inr, true, false, ◌≡◌, ◌*◌, ◌/◌, arith, length, sum, sym, ap, subst, ℕ, ◌∙◌}
 use Rattle.std.proofs.lemmas.Result.{err_from_is_err_and}
 use Rattle.capnp_model.specs.Messages.{within}
-use Rattle.capnp_stream.specs.Frames.{IsCut}
+use Rattle.capnp_stream.specs.Frames.{IsPieceRefusal}
 use Rattle.capnp_stream.specs.Flat.{table_lengths, table_bytes}
 use Rattle.capnp_stream.proofs.FlatLemmas.{table-holds}
 use Rattle.capnp_stream.proofs.TableLemmas.{fill-kind}
@@ -70,7 +70,7 @@ returns-in_err-fill_body g c =
     let table = c.in_ok-count.ensures.table in
     let total : c.words_before-total.result ≡ sum ns = c.words_before-total.ensures.total in
     let kept : within (sum ns) c.args.limit ≡ true = ap (λ m. within m c.args.limit) (sym total) ∙ sym c.is_within.ensures ∙ c.if-not-is_within.false in
-    let Cut : ℕ → Type 0 = λ m. IsCut g.F.MessageForm.reader m (g.R.Read.remaining c.fill_table.new.source) (g.R.Read.remaining c.fill_body.new.source) kind in
+    let Cut : ℕ → Type 0 = λ m. IsPieceRefusal g.F.MessageForm.reader m (g.R.Read.remaining c.fill_table.new.source) (g.R.Read.remaining c.fill_body.new.source) kind in
     let size : 8 * c.words_before-total.result / 8 ≡ sum ns = omega (arith, total) in
     let cut = subst Cut size r.cut in
     rw (p.1, p.2) (record {

@@ -1,7 +1,7 @@
 use Rattle.std.proofs.Common.{sym, subst}
 use Rattle.capnp_units.specs.Segments.{words_in}
 use Rattle.capnp_units.specs.declared.sizes.StructSize.{StructSize}
-use Rattle.capnp_copy.specs.declared.fields.StructPlace.{StructPlace}
+use Rattle.capnp_copy_arenas.specs.declared.fields.StructPlace.{StructPlace}
 use Rattle.capnp_message.specs.Placed.{StructPlaced}
 use Rattle.capnp_message.proofs.placed.AnyPlaced.init_at.Goals as goal
 

@@ -1,5 +1,5 @@
 use Rattle.std.proofs.Common.{rules}
-use Rattle.capnp_builders.specs.Making.{state_of}
+use Rattle.capnp_layout_builders.specs.Making.{state_of}
 use Rattle.capnp_message.proofs.Blobs.{data_made}
 use Rattle.capnp_message.proofs.placed.DataPlacePlaced.init_at.Goals as goal
 

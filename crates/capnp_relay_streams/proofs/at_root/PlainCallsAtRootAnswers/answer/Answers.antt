@@ -1,8 +1,8 @@
 use Rattle.std.proofs.lemmas.Result.{IfOk-weaker}
 use Rattle.capnp_units.specs.Segments.{words_in}
 use Rattle.capnp_stream.specs.Buffers.{found_segments}
-use Rattle.capnp_loop.specs.MessageAnswers.{answer_view}
-use Rattle.capnp_answers.specs.RootCalls.{root_schema, root_calls}
+use Rattle.capnp_relay_loop.specs.MessageAnswers.{answer_view}
+use Rattle.capnp_relay_answers.specs.RootCalls.{root_schema, root_calls}
 use Rattle.capnp_relay_streams.proofs.Reading.{PlainRecords, plain_reads}
 use Rattle.capnp_relay_streams.proofs.at_root.PlainCallsAtRootAnswers.answer.Goals as goal
 

@@ -1,6 +1,6 @@
 use Rattle.std.proofs.Common.{arith, subst, ◌≡◌, ◌*◌, ◌/◌, ◌⊎◌, ℕ, length}
 use Rattle.std.proofs.lemmas.Result.{IfOk-weaker, IfErr-weaker}
-use Rattle.capnp_io.specs.Streams.{ConsumesFewer, EndsBefore}
+use Rattle.capnp_stream_io.specs.Streams.{ConsumesFewer, EndsBefore}
 use Rattle.capnp_units.specs.declared.kinds.ErrorKind.TheVariants.{FailedToFillTheWholeBuffer}
 use Rattle.capnp_stream.proofs.lemmas.PieceLemmas.{plain-piece, plain-fault, plain-part, plain-own}
 use Rattle.capnp_stream.proofs.forms.FramedMessageForm.read_piece.Goals as goal

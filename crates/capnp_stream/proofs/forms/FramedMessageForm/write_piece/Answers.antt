@@ -1,5 +1,5 @@
 use Rattle.std.proofs.Common.{ℕ, List, arith, subst, sym}
-use Rattle.capnp_io.specs.Writes.{Writes, sink_seen}
+use Rattle.capnp_stream_io.specs.Writes.{Writes, sink_seen}
 use Rattle.capnp_stream.proofs.lemmas.PieceLemmas.{plain-bytes}
 use Rattle.capnp_stream.proofs.forms.FramedMessageForm.write_piece.Goals as goal
 

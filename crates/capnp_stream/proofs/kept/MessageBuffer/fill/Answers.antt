@@ -5,7 +5,7 @@ use Rattle.std.proofs.lemmas.List.{with_items_is}
 use Rattle.std.proofs.lemmas.Result.{err_from_is_err_and}
 use Rattle.capnp_units.specs.Segments.{words_in}
 use Rattle.capnp_model.specs.Messages.{within}
-use Rattle.capnp_stream.specs.Frames.{IsCut, TakesBody}
+use Rattle.capnp_stream.specs.Frames.{IsPieceRefusal, TakesBody}
 use Rattle.capnp_stream.specs.Flat.{table_lengths, table_bytes, frame_segments, Describes}
 use Rattle.capnp_stream.specs.Lent.{HoldsMessage}
 use Rattle.capnp_stream.specs.declared.flat.NoAllocSegmentTableInfo.{NoAllocSegmentTableInfo}
@@ -140,7 +140,7 @@ returns-in_err-fill_body g c =
     let p = err_from_is_err_and c.from_residual-in_err-fill_body.result c.from_residual-in_err-fill_body.ensures.1 in
     let r = c.in_err-fill_body.ensures in
     let kind = c.in_err-fill_body.field-0.0.kind in
-    let Cut : ℕ → Type 0 = λ m. IsCut g.F.MessageForm.reader m (g.R.Read.remaining c.fill_any_table.new.source) (g.R.Read.remaining c.fill_body.new.source) kind in
+    let Cut : ℕ → Type 0 = λ m. IsPieceRefusal g.F.MessageForm.reader m (g.R.Read.remaining c.fill_any_table.new.source) (g.R.Read.remaining c.fill_body.new.source) kind in
     let wanted : Cut (8 * c.words_before-total.result / 8) = r.cut in
     let n = c.in_ok-count.count in
     let read = c.fill_any_table.new.buffer in

@@ -5,11 +5,11 @@ use Rattle.capnp_model.specs.Schemas.{width}
 use Rattle.capnp_model.specs.Accepted.{schema_of, default_tree}
 use Rattle.capnp_records.specs.NodeViews.{value_of, field_of}
 use Rattle.capnp_wire.specs.Views.{pointer_field}
-use Rattle.capnp_queries.specs.Types.{ty_of}
-use Rattle.capnp_queries.specs.Structs.{nodes_around, schema_around, shape_of_struct, id_of}
-use Rattle.capnp_queries.specs.Handles.{entry_of, plain_of, is_plain_of, body_of_place}
-use Rattle.capnp_queries.specs.Fields.{entry_in}
-use Rattle.capnp_queries.specs.declared.slots.FieldPlace.TheVariants as place
+use Rattle.capnp_values_queries.specs.Types.{ty_of}
+use Rattle.capnp_values_queries.specs.Structs.{nodes_around, schema_around, shape_of_struct, id_of}
+use Rattle.capnp_values_queries.specs.Handles.{entry_of_field, plain_of, is_plain_of, body_of_place}
+use Rattle.capnp_values_queries.specs.Fields.{entry_in}
+use Rattle.capnp_values_queries.specs.declared.slots.FieldPlace.TheVariants as place
 use Rattle.capnp_values.specs.Sources.{pointer_seen, struct_seen, masked_bits}
 use Rattle.capnp_values.specs.Shown.{Shown, a_struct, number_shown, slot_opened}
 use Rattle.capnp_values.proofs.lemmas.GoodDefaults.{good_default}
@@ -37,7 +37,7 @@ returns-in-Void g c =
     let s = schema_around c.args.field.parent in
     let said = field_of c.get_proto-said.result.now in
     let b = body_of_place (place.Void c.in-Void.offset) in
-    let is = body_said (entry_of c.args.field) (entry_in s said) b c.get_proto-said.ensures.entry c.in-Void.ensures.body in
+    let is = body_said (entry_of_field c.args.field) (entry_in s said) b c.get_proto-said.ensures.entry c.in-Void.ensures.body in
     record { said = said; is = c.get_proto-said.ensures; default = good_default c.args.field.parent c.args.field.index said c.get_proto-said.ensures c.default_of-default.ensures.bytes; shows = sym (shown_by_body s (struct_seen g.A.ReaderArena.segments c.args.self.source) said.kind b is) }
 
 pub returns-in-Plain : goal.returns-in-Plain
@@ -45,7 +45,7 @@ returns-in-Plain g c =
     let s = schema_around c.args.field.parent in
     let said = field_of c.get_proto-said.result.now in
     let b = body_of_place (place.Plain c.in-Plain.ty c.in-Plain.offset c.in-Plain.default_bits) in
-    let is = body_said (entry_of c.args.field) (entry_in s said) b c.get_proto-said.ensures.entry c.in-Plain.ensures.body in
+    let is = body_said (entry_of_field c.args.field) (entry_in s said) b c.get_proto-said.ensures.entry c.in-Plain.ensures.body in
     let v = struct_seen g.A.ReaderArena.segments c.args.self.source in
     let ty = plain_of c.in-Plain.ty in
     let bits = masked_bits v (width ty * c.in-Plain.offset) (width ty) c.in-Plain.default_bits in
@@ -58,7 +58,7 @@ returns-in-Group g c =
     let b = body_of_place (place.Group c.in-Group.schema) in
     let v = struct_seen g.A.ReaderArena.segments c.args.self.source in
     let inner = shape_of_struct c.in-Group.schema in
-    let is = body_said (entry_of c.args.field) (entry_in s said) b c.get_proto-said.ensures.entry c.in-Group.ensures.body in
+    let is = body_said (entry_of_field c.args.field) (entry_in s said) b c.get_proto-said.ensures.entry c.in-Group.ensures.body in
     record { said = said; is = c.get_proto-said.ensures; default = good_default c.args.field.parent c.args.field.index said c.get_proto-said.ensures c.default_of-default.ensures.bytes; shows = ap (λ nodes. answered (a_struct (schema_of nodes) inner v)) c.in-Group.ensures.of_set ∙ sym (shown_by_body s v said.kind b is) }
 
 pub returns-in-Pointer : goal.returns-in-Pointer
@@ -68,12 +68,12 @@ returns-in-Pointer g c =
     let v = struct_seen g.A.ReaderArena.segments c.args.self.source in
     let said = field_of c.get_proto-said.result.now in
     let b = body_of_place (place.Pointer c.in-Pointer.index c.in-Pointer.ty c.in-Pointer.default) in
-    let is = body_said (entry_of f) (entry_in s said) b c.get_proto-said.ensures.entry c.in-Pointer.ensures.body in
+    let is = body_said (entry_of_field f) (entry_in s said) b c.get_proto-said.ensures.entry c.in-Pointer.ensures.body in
     let got = ty_of c.get_type.result in
     let ty = ty_of c.in-Pointer.ty in
     let d = option_map value_of (option_copied c.default_of-default.result) in
     let p = pointer_seen g.A.ReaderArena.segments c.pointer.result in
-    let same : got ≡ ty = pointer_type (entry_of f) c.in-Pointer.index ty got (default_tree (option_map value_of (option_copied c.in-Pointer.default))) c.in-Pointer.ensures.body c.get_type.ensures.ty in
+    let same : got ≡ ty = pointer_type (entry_of_field f) c.in-Pointer.index ty got (default_tree (option_map value_of (option_copied c.in-Pointer.default))) c.in-Pointer.ensures.body c.get_type.ensures.ty in
     record {
       said = said;
       is = c.get_proto-said.ensures;

@@ -6,7 +6,7 @@ use Rattle.capnp_model.specs.Readings.{field_bits, just_bits}
 use Rattle.capnp_units.specs.declared.sizes.ElementSize.{ElementSize}
 use Rattle.capnp_units.specs.declared.sizes.ElementSize.TheVariants.{Bit}
 use Rattle.capnp_units.specs.contracts.sizes.ElementSize.{the_type}
-use Rattle.capnp_object.specs.Places.{place_view}
+use Rattle.capnp_wire_objects.specs.Places.{place_view}
 use Rattle.capnp_units.specs.Sizes.{size_number}
 use Rattle.capnp_wire.specs.Elements.{step_bits, element_bits}
 use Rattle.capnp_wire.specs.Views.{StructView, ground_of, seen_list, element_number, list_view}

@@ -1,9 +1,9 @@
 -- The bytes of a list of bytes are lent.
 use Rattle.std.proofs.Common.{ℕ, Ok, None, Some, Option, List, ap, ◌∙◌, subst}
 use Rattle.capnp_units.specs.Segments.{words_in}
-use Rattle.capnp_object.specs.declared.object.Object.TheVariants as object
+use Rattle.capnp_wire_objects.specs.declared.object.Object.TheVariants as object
 use Rattle.capnp_units.specs.declared.sizes.ElementSize.{ElementSize}
-use Rattle.capnp_object.specs.Objects.{IsInside}
+use Rattle.capnp_wire_objects.specs.Objects.{IsInside}
 use Rattle.capnp_wire.specs.Views.{backing_bytes, seen_pointer}
 use Rattle.capnp_wire.specs.Reads.{read_bytes}
 use Rattle.capnp_wire.proofs.Gets.{read_of}

@@ -2,7 +2,7 @@
 use Rattle.std.proofs.Common.{refl, ap}
 use Rattle.std.proofs.lemmas.Result.{err_from_is_err_and}
 use Rattle.capnp_units.specs.Segments.{words_in}
-use Rattle.capnp_object.specs.Named.{found_view, named_view}
+use Rattle.capnp_wire_objects.specs.Named.{found_view, named_view}
 use Rattle.capnp_wire.specs.Views.{backing_bytes}
 use Rattle.capnp_wire.proofs.Sorts.{sort_told, sort_untold}
 use Rattle.capnp_wire.proofs.pointer.PointerReader.get_pointer_type.Goals as goal

@@ -2,8 +2,8 @@
 use Rattle.std.proofs.Common.{ap, sym}
 use Rattle.capnp_model.specs.Segments.{Segments}
 use Rattle.capnp_units.specs.Segments.{words_in}
-use Rattle.capnp_object.specs.Places.{place_view}
-use Rattle.capnp_canonical.specs.Checks.{TellsValue}
+use Rattle.capnp_wire_objects.specs.Places.{place_view}
+use Rattle.capnp_wire_canonical.specs.Checks.{TellsValue}
 use Rattle.capnp_wire.specs.Views.{backing_bytes, is_paid, seen_pointer, place_seen}
 use Rattle.capnp_wire.proofs.Telling.{told_freely, told_over, pointer_told, pointer_untold, pointer_nowhere}
 use Rattle.capnp_wire.proofs.pointer.PointerReader.is_canonical.Goals as goal

@@ -4,8 +4,8 @@ use Rattle.std.proofs.lemmas.Result.{err_from_is_err_and, IfOk-from_err}
 use Rattle.capnp_units.specs.declared.sizes.ElementSize.TheVariants.{InlineComposite}
 use Rattle.capnp_units.specs.Segments.{words_in}
 use Rattle.capnp_units.specs.Sizes.{size_number}
-use Rattle.capnp_object.specs.Places.{place_view}
-use Rattle.capnp_object.specs.Objects.{AreThere}
+use Rattle.capnp_wire_objects.specs.Places.{place_view}
+use Rattle.capnp_wire_objects.specs.Objects.{AreThere}
 use Rattle.capnp_wire.specs.Views.{backing_bytes, section_at, ListView, seen_pointer, seen_list}
 use Rattle.capnp_wire.specs.Reads.{read_list}
 use Rattle.capnp_wire.proofs.Elements.{no_step_words}

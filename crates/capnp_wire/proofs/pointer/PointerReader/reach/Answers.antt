@@ -1,7 +1,7 @@
 -- Null is nothing, an arena's object is paid for.
 use Rattle.std.proofs.Common.{Option, ap, sym}
-use Rattle.capnp_object.specs.declared.place.Place.{Place}
-use Rattle.capnp_object.specs.Places.{place_view}
+use Rattle.capnp_wire_objects.specs.declared.place.Place.{Place}
+use Rattle.capnp_wire_objects.specs.Places.{place_view}
 use Rattle.capnp_wire.specs.Views.{seen_pointer, place_seen, is_paid}
 use Rattle.capnp_wire.specs.Reads.{is_null_at}
 use Rattle.capnp_wire.proofs.Gets.{null_reached, followed}

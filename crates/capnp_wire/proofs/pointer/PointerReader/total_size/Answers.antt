@@ -5,7 +5,7 @@ use Rattle.capnp_model.specs.Sizes.{object_words, capability_count}
 use Rattle.capnp_model.specs.Traversal.{tree_at}
 use Rattle.capnp_model.specs.Visits.{visits}
 use Rattle.capnp_units.specs.Segments.{words_in}
-use Rattle.capnp_object.specs.Places.{place_view}
+use Rattle.capnp_wire_objects.specs.Places.{place_view}
 use Rattle.capnp_wire.specs.Views.{backing_bytes, is_paid, seen_pointer, place_seen}
 use Rattle.capnp_wire.specs.ValueSizes.{SizeOn, tree_behind, visits_behind}
 use Rattle.capnp_wire.proofs.Sizing.{freely, value_size, null_size}

@@ -2,8 +2,8 @@
 use Rattle.std.proofs.Common.{◌+◌, ◌/◌, length, refl, sym, ◌∙◌}
 use Rattle.std.proofs.lemmas.Bool.{OnTrue_at, OnTrue_from, OnFalse_at, OnFalse_from}
 use Rattle.capnp_model.specs.Segments.{after}
-use Rattle.capnp_object.specs.Places.{place_view}
-use Rattle.capnp_object.specs.Objects.{AreThere}
+use Rattle.capnp_wire_objects.specs.Places.{place_view}
+use Rattle.capnp_wire_objects.specs.Objects.{AreThere}
 use Rattle.capnp_wire.specs.Views.{seen_struct}
 use Rattle.capnp_wire.proofs.Telling.{own_words_lie, lie_whole, lie_there, lie_alike, lie_before, places_same, places_apart}
 use Rattle.capnp_wire.proofs.structs.StructReader.lies_at.Goals as goal

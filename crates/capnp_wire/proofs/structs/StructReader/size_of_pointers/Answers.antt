@@ -6,7 +6,7 @@ use Rattle.capnp_model.specs.Traversal.{tree_at, each}
 use Rattle.capnp_model.specs.Coverage.{from_each}
 use Rattle.capnp_model.specs.Visits.{visits}
 use Rattle.capnp_units.specs.Segments.{words_in}
-use Rattle.capnp_object.specs.Places.{place_view}
+use Rattle.capnp_wire_objects.specs.Places.{place_view}
 use Rattle.capnp_wire.specs.Views.{backing_bytes, is_paid}
 use Rattle.capnp_wire.specs.ValueSizes.{SizeOn}
 use Rattle.capnp_wire.proofs.Sizing.{freely}

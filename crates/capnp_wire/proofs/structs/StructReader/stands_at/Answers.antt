@@ -1,6 +1,6 @@
 -- A default is read without a limit.
 use Rattle.std.proofs.Common.{ap, sym}
-use Rattle.capnp_object.specs.Places.{place_view}
+use Rattle.capnp_wire_objects.specs.Places.{place_view}
 use Rattle.capnp_wire.specs.Views.{is_paid, seen_struct}
 use Rattle.capnp_wire.specs.Canonical.{StructTellsIn}
 use Rattle.capnp_wire.proofs.Telling.{told_freely}

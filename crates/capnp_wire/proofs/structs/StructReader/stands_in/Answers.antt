@@ -1,8 +1,8 @@
 -- Own words that lie elsewhere, or the row of the pointers.
 use Rattle.std.proofs.Common.{◌/◌, length, subst, arith}
 use Rattle.capnp_model.specs.Segments.{Segments, Place}
-use Rattle.capnp_object.specs.Places.{place_view}
-use Rattle.capnp_canonical.specs.Checks.{TellsStruct}
+use Rattle.capnp_wire_objects.specs.Places.{place_view}
+use Rattle.capnp_wire_canonical.specs.Checks.{TellsStruct}
 use Rattle.capnp_wire.specs.Views.{seen_struct}
 use Rattle.capnp_wire.proofs.Telling.{lies_told, elsewhere_told}
 use Rattle.capnp_wire.proofs.structs.StructReader.stands_in.Goals as goal

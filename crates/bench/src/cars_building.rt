@@ -1,0 +1,234 @@
+//! Cars that are built.
+//!
+//! A caller without proofs tests that the words of a struct are there before it sets its fields, as
+//! here.
+ghost use Rattle.std.specs.Prelude.{◌≡◌, ◌+◌, ◌*◌, ◌<◌, ◌≤◌, ◌^◌};
+ghost use Rattle.capnp_copy_arenas.specs.States.{HasWords};
+ghost use Rattle.capnp_message.specs.Built.{loans_held};
+
+use crate::cars::{CAR, CAR_WHEELS, ENGINE, LOT, MAKE, MODEL, PART, WHEELS, make_of, model_of};
+use capnp_layout::laws::words_that_stay;
+use capnp_layout::{
+    BuilderArena, Error, ErrorKind, Memory, Place, PointerBuilder, Primitive, Result,
+    StructBuilder, StructPlace, StructSize, has_words,
+};
+use capnp_message::message::{Allocator, Builder};
+
+/// Why a struct isn't set whose words aren't there.
+fn not_there() -> Error {
+    Error::from(ErrorKind::OutOfBounds)
+}
+
+/// Sets a number of a struct.
+fn set<A: BuilderArena, T: Primitive>(
+    memory: &mut Memory<A>,
+    place: StructPlace,
+    offset: usize,
+    value: T,
+)
+    requires there { HasWords (A.segments memory.old.arena) place.start place.data_words }
+    requires near { place.start.position < 2 ^ 61 }
+    requires inside { T.BYTES * offset + T.BYTES ≤ 8 * place.data_words }
+    ensures there { HasWords (A.segments memory.new.arena) place.start place.data_words }
+    ensures books { A.books memory.new.arena ≡ A.books memory.old.arena }
+{
+    words_that_stay();
+    StructBuilder { memory, place }.set_data_field::<T>(offset, value);
+}
+
+/// Sets a truth value of a struct.
+fn set_bool<A: BuilderArena>(memory: &mut Memory<A>, place: StructPlace, offset: usize, value: bool)
+    requires there { HasWords (A.segments memory.old.arena) place.start place.data_words }
+    requires near { place.start.position < 2 ^ 61 }
+    requires inside { offset < 64 * place.data_words }
+    ensures there { HasWords (A.segments memory.new.arena) place.start place.data_words }
+    ensures books { A.books memory.new.arena ≡ A.books memory.old.arena }
+{
+    words_that_stay();
+    StructBuilder { memory, place }.set_bool_field(offset, value);
+}
+
+/// Fills a wheel of a car, both by their numbers.
+fn fill_wheel<A: BuilderArena>(
+    memory: &mut Memory<A>,
+    place: StructPlace,
+    car: u32,
+    wheel: u32,
+) -> Result<()>
+    ensures { A.books memory.new.arena ≡ A.books memory.old.arena }
+{
+    if place.start.position >= 1 << 60 || place.data_words != 1 {
+        return Err(not_there());
+    }
+    if !has_words(&memory.arena, place.start, 1) {
+        return Err(not_there());
+    }
+    set::<A, u16>(memory, place, 0, (25 + car % 15) as u16);
+    set::<A, u32>(memory, place, 1, 30 + car.wrapping_add(wheel) % 20);
+    set_bool(memory, place, 16, car % 16 == 0);
+    Ok(())
+}
+
+/// Fills the engine of a car, by its number.
+fn fill_engine<A: BuilderArena>(memory: &mut Memory<A>, place: StructPlace, car: u32) -> Result<()>
+    ensures { A.books memory.new.arena ≡ A.books memory.old.arena }
+{
+    if place.start.position >= 1 << 60 || place.data_words != 1 {
+        return Err(not_there());
+    }
+    if !has_words(&memory.arena, place.start, 1) {
+        return Err(not_there());
+    }
+    set::<A, u16>(memory, place, 0, (100 * (car % 400)) as u16);
+    set::<A, u8>(memory, place, 2, (4 + 2 * (car % 3)) as u8);
+    set::<A, u32>(memory, place, 1, 800 + car % 10_000);
+    set_bool(memory, place, 24, true);
+    set_bool(memory, place, 25, car % 2 == 1);
+    Ok(())
+}
+
+/// Sets the numbers and the truth values of a car, by its number.
+fn fill_numbers<A: BuilderArena>(memory: &mut Memory<A>, place: StructPlace, car: u32) -> Result<()>
+    ensures { A.books memory.new.arena ≡ A.books memory.old.arena }
+{
+    if place.start.position >= 1 << 60 || place.data_words != 3 {
+        return Err(not_there());
+    }
+    if !has_words(&memory.arena, place.start, 3) {
+        return Err(not_there());
+    }
+    set::<A, u16>(memory, place, 0, (car % 9) as u16);
+    set::<A, u8>(memory, place, 2, (2 + car % 6) as u8);
+    set::<A, u8>(memory, place, 3, (2 + car % 3) as u8);
+    set::<A, u16>(memory, place, 2, (170 + car % 150) as u16);
+    set::<A, u16>(memory, place, 3, (48 + car % 36) as u16);
+    set::<A, u16>(memory, place, 4, (54 + car % 48) as u16);
+    set::<A, u32>(memory, place, 3, car.wrapping_mul(7));
+    set::<A, u32>(memory, place, 4, 100 + car % 300);
+    set::<A, u32>(memory, place, 5, car % 100);
+    set_bool(memory, place, 80, car % 2 == 1);
+    set_bool(memory, place, 81, car % 3 == 0);
+    set_bool(memory, place, 82, car % 4 == 0);
+    set::<A, u8>(memory, place, 11, (car % 12) as u8);
+    set_bool(memory, place, 83, car % 5 == 0);
+    Ok(())
+}
+
+/// Where a pointer of a struct stands.
+fn pointer_of(place: StructPlace, index: usize) -> Place {
+    Place {
+        segment: place.start.segment,
+        position: place
+            .start
+            .position
+            .saturating_add(place.data_words as usize)
+            .saturating_add(index),
+    }
+}
+
+/// Where an element of a list of structs lies, behind the tag.
+fn element_of(tag: Place, size: StructSize, index: u32) -> StructPlace {
+    let words = size.data_words as usize + size.pointers as usize;
+    StructPlace {
+        start: Place {
+            segment: tag.segment,
+            position: tag
+                .position
+                .saturating_add(1)
+                .saturating_add(words * index as usize),
+        },
+        data_words: size.data_words,
+        pointers: size.pointers,
+    }
+}
+
+/// Makes a pointer lead to a text.
+fn set_text<A: BuilderArena>(memory: &mut Memory<A>, place: Place, text: &str) -> Result<()>
+    ensures { A.books memory.new.arena ≡ A.books memory.old.arena }
+{
+    if place.position >= 1 << 60 || !has_words(&memory.arena, place, 1) {
+        return Err(not_there());
+    }
+    PointerBuilder { memory, place }.set_text(text.as_bytes())
+}
+
+/// Makes a pointer lead to a struct, and returns where it lies.
+fn init_struct<A: BuilderArena>(
+    memory: &mut Memory<A>,
+    place: Place,
+    size: StructSize,
+) -> Result<StructPlace>
+    ensures { A.books memory.new.arena ≡ A.books memory.old.arena }
+{
+    if place.position >= 1 << 60 || !has_words(&memory.arena, place, 1) {
+        return Err(not_there());
+    }
+    let pointer = PointerBuilder { memory, place };
+    Ok(pointer.init_struct(size)?.place)
+}
+
+/// Makes a pointer lead to a list of structs, and returns where its tag lies.
+fn init_structs<A: BuilderArena>(
+    memory: &mut Memory<A>,
+    place: Place,
+    count: u32,
+    size: StructSize,
+) -> Result<Place>
+    ensures { A.books memory.new.arena ≡ A.books memory.old.arena }
+{
+    if place.position >= 1 << 60 || !has_words(&memory.arena, place, 1) {
+        return Err(not_there());
+    }
+    let pointer = PointerBuilder { memory, place };
+    Ok(pointer.init_struct_list(count, size)?.place.start)
+}
+
+/// Makes the wheels of a car, and fills them.
+fn add_wheels<A: BuilderArena>(memory: &mut Memory<A>, place: StructPlace, car: u32) -> Result<()>
+    ensures { A.books memory.new.arena ≡ A.books memory.old.arena }
+{
+    let tag = init_structs(memory, pointer_of(place, CAR_WHEELS), WHEELS, PART)?;
+    for wheel in 0..WHEELS {
+        fill_wheel(memory, element_of(tag, PART, wheel), car, wheel)?;
+    }
+    Ok(())
+}
+
+/// Fills a car, by its number.
+fn fill_car<A: BuilderArena>(memory: &mut Memory<A>, place: StructPlace, car: u32) -> Result<()>
+    ensures { A.books memory.new.arena ≡ A.books memory.old.arena }
+{
+    fill_numbers(memory, place, car)?;
+    set_text(memory, pointer_of(place, MAKE), make_of(car))?;
+    set_text(memory, pointer_of(place, MODEL), model_of(car))?;
+    add_wheels(memory, place, car)?;
+    let engine = init_struct(memory, pointer_of(place, ENGINE), PART)?;
+    fill_engine(memory, engine, car)
+}
+
+/// Builds n cars in an empty message.
+fn build_in<A: BuilderArena>(memory: &mut Memory<A>, count: u32) -> Result<()>
+    ensures { A.books memory.new.arena ≡ A.books memory.old.arena }
+{
+    memory.arena.allocate_anywhere(1)?;
+    let lot = init_struct(
+        memory,
+        Place {
+            segment: 0,
+            position: 0,
+        },
+        LOT,
+    )?;
+    let tag = init_structs(memory, pointer_of(lot, 0), count, CAR)?;
+    for car in 0..count {
+        fill_car(memory, element_of(tag, CAR, car), car)?;
+    }
+    Ok(())
+}
+
+/// Builds n cars in an empty message.
+pub fn build<A: Allocator>(message: &mut Builder<A>, count: u32) -> Result<()>
+    ensures { loans_held message.new.memory.arena ≡ loans_held message.old.memory.arena }
+{
+    build_in(&mut message.memory, count)
+}

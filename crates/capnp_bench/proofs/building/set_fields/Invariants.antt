@@ -1,6 +1,0 @@
--- What is borrowed stays as it was.
-use Rattle.std.proofs.Common.{◌≡◌}
-use Rattle.capnp_bench.proofs.building.set_fields.Given as goal
-
-abbrev pub invariant-loop-i : goal.invariant-loop-i
-invariant-loop-i g l = g.A.BuilderArena.books l.memory.arena ≡ g.A.BuilderArena.books l.fn.memory.arena

@@ -1,5 +1,0 @@
-mod OpenedRoots
-mod NewerRecords
-mod PlainRecords
-mod Answering
-mod RunsBetween

@@ -1,3 +1,0 @@
-pub mod Newer
-pub mod Ends
-pub mod Relay

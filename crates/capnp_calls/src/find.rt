@@ -1,0 +1,86 @@
+//! Fields of names that were found before.
+ghost use Rattle.std.specs.Prelude.{◌≡◌, slice_get, Some, None, IfOk, IfErr, IsOkAnd};
+ghost use Rattle.capnp_units.specs.declared.kinds.ErrorKind.TheVariants.{FieldNotFound};
+ghost use Rattle.capnp_values_queries.specs.Handles.{IsFieldAt};
+ghost use Rattle.capnp_values_queries.specs.Structs.{schema_around, id_of, index_named};
+ghost use Rattle.capnp_calls.specs.Ways.{Finds, FindsFirst, fields_behind_first};
+
+use crate::ways::FoundField;
+use capnp_units::errors::{Error, Result};
+use capnp_units::kinds::ErrorKind;
+use capnp_values_queries::fields::Field;
+use capnp_values_queries::structs::StructSchema;
+
+/// The first field of a way.
+#[inline]
+fn first_found(way: &[FoundField]) -> Option<FoundField>
+    ensures { result ≡ slice_get way.now 0 }
+{
+    way.first().copied()
+}
+
+/// The field of a name, as it was found under this very struct.
+#[inline]
+fn known_field<'a>(
+    schema: StructSchema<'a>,
+    name: &str,
+    found: FoundField,
+) -> Result<Option<Field<'a>>>
+    requires here { found.node ≡ id_of schema }
+    requires finds { Finds (schema_around schema) name.now found }
+    ensures { IsOkAnd result
+        (λ found. IsFieldAt schema.entry (index_named schema.entry name.now) found) }
+{
+    match found.place {
+        Some(place) => Ok(Some(schema.get_fields()?.get(place))),
+        None => Ok(None),
+    }
+}
+
+/// The field of a name, of which a way says what it finds. Where the way was found under this very
+/// struct, no name is compared.
+#[inline]
+pub fn find_field<'a>(
+    schema: StructSchema<'a>,
+    name: &str,
+    way: &[FoundField],
+) -> Result<Option<Field<'a>>>
+    requires way { FindsFirst (schema_around schema) name.now way.now }
+    ensures { IsOkAnd result
+        (λ found. IsFieldAt schema.entry (index_named schema.entry name.now) found) }
+{
+    if let Some(found) = first_found(way) {
+        if found.node == schema.raw().id {
+            return known_field(schema, name, found);
+        }
+    }
+    schema.find_field_by_name(name)
+}
+
+/// The field of a name, as `find_field`. A name that the struct lacks is refused by
+/// `FieldNotFound`.
+#[inline]
+pub fn get_field<'a>(schema: StructSchema<'a>, name: &str, way: &[FoundField]) -> Result<Field<'a>>
+    requires way { FindsFirst (schema_around schema) name.now way.now }
+    ensures found { IfOk result (λ field.
+        IsFieldAt schema.entry (index_named schema.entry name.now) (Some field)) }
+    ensures missing { IfErr result (λ e.
+        (e.kind ≡ FieldNotFound) × (index_named schema.entry name.now ≡ None)) }
+{
+    match find_field(schema, name, way) {
+        Ok(Some(field)) => Ok(field),
+        Ok(None) => Err(Error::from(ErrorKind::FieldNotFound)),
+        Err(error) => Err(error),
+    }
+}
+
+/// What is known behind the first name of a path.
+#[inline]
+pub fn rest_of_way(way: &[FoundField]) -> &[FoundField]
+    ensures { result.now ≡ fields_behind_first way.now }
+{
+    match way {
+        [_, rest @ ..] => rest,
+        [] => &[],
+    }
+}

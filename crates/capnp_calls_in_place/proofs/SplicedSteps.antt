@@ -1,0 +1,188 @@
+-- The record machine does the calls along paths, where what they put is put by way of hops.
+use Rattle.std.proofs.Common.{◌≡◌, ℕ, zero, suc, ◌*◌, ◌≤◌, Bool, true, ◌&&◌, nat_le, Option, None, List, [], ◌∷◌, refl, ap, sym, subst, ◌∙◌, arith}
+use Rattle.capnp_model.specs.Sections.{needed_words}
+use Rattle.capnp_model.specs.Trees.{Tree, null, capability, structure, plain_list, pointer_list, struct_list, Trees, Elements, no_elements, element, child, tree_count, resized}
+use Rattle.capnp_model.specs.Fits.{Fits, FitElements}
+use Rattle.capnp_model.specs.Trimming.{stripped, trim, trim_each, trim_elements, common_words, common_pointers, with_pointers}
+use Rattle.capnp_model.specs.Schemas.{plain, struct, list, Shape, shape, Body, void_slot, plain_slot, pointer_slot, group_slot, Schema, default_or_null}
+use Rattle.capnp_model.specs.Readings.{Reading, inactive, null_pointer, fault, number, text_of, blob_of, opaque, list_of, record_as, Readings, ◌▹◌, Record, whole_words, read, read_child, struct_elements, element_as, list_reading, is_list_of, discriminant, shape_record, body_of}
+use Rattle.capnp_model.specs.Printing.{fields_in}
+use Rattle.capnp_model.specs.Calls.{Step, name, index, Verb, set_to, CallValue, Content}
+use Rattle.capnp_model.specs.Steps.{Outcome, refused, shown, done, outcome_map, target, target_of, replaced, at_target, on_name, on_index, reading_after, opened, through_value, step_path, step_field, step_element}
+use Rattle.capnp_model.specs.Edits.{Cell, put_child}
+use Rattle.capnp_model.proofs.lemmas.Paths.{entry_of-fields_of, read_child-is}
+use Rattle.capnp_model.proofs.lemmas.Stripping.{stripped-stripped, stripped-resized}
+use Rattle.capnp_calls.specs.Sizes.{IsDone}
+use Rattle.capnp_calls_splice.specs.Splices.{InStruct, InElements, InList, PutsBehind}
+use Rattle.capnp_calls_splice.specs.declared.splice.Hop.{Hop}
+use Rattle.capnp_calls_splice.specs.declared.splice.Hop.TheVariants as hops
+use Rattle.capnp_calls_splice.specs.declared.splice.Put.{Put}
+use Rattle.capnp_calls_splice.specs.declared.splice.Put.TheVariants as puts
+use Rattle.capnp_calls_in_place.specs.Ways.{IsPutOf, FindsPlainField, PathLeadsTo}
+use Rattle.capnp_calls_in_place.proofs.SplicedKids.{child_same, child_fits}
+use Rattle.capnp_calls_in_place.proofs.SplicedCells.{IsCut}
+use Rattle.capnp_calls_in_place.proofs.SplicedPaths.{begins}
+
+-- What is done stays done with another value.
+mapped : {A B : Type 0} (f : A → B) (o : Outcome A) → IsDone o → IsDone (outcome_map f o)
+mapped f (refused k) h = absurd h
+mapped f (shown how r) h = absurd h
+mapped f (done x) h = tt
+
+module _ (s : Schema) (v : CallValue) (put : Put) where
+  abbrev verb : Verb
+  verb = set_to v
+
+  -- The rest of a path at a struct.
+  abbrev record_at : Shape → ℕ → Trees → Record
+  record_at g section kids = shape_record g whole_words section (read_child s kids)
+
+  -- It is done where it is done at the field that the name finds.
+  named_done : (g : Shape) (n : List ℕ) (rest : List Step) (body : Body) (section : ℕ) (kids : Trees) → FindsPlainField (fields_in g) n body
+      → IsDone (step_field s rest verb body (body_of body whole_words section (read_child s kids))) → IsDone (step_path s (fields_in g) (name n ∷ rest) verb (record_at g section kids))
+  unfolding shape_record
+  named_done (shape nid w p u fs) n rest body section kids found h =
+      let r : Record = record_at (shape nid w p u fs) section kids in
+      let f : Body → Reading → Outcome Reading = step_field s rest verb in
+      let with_reading : Reading → Record = λ y. replaced n None y fs r in
+      let outcome : at_target f n fs r (target_of n fs) ≡ outcome_map with_reading (f body (body_of body whole_words section (read_child s kids))) =
+      ap (at_target f n fs r) found ∙ ap (λ y. outcome_map with_reading (f body y)) (entry_of-fields_of n fs None body (discriminant u whole_words section) whole_words section (read_child s kids) found) in
+      subst IsDone (sym outcome) (mapped with_reading (f body (body_of body whole_words section (read_child s kids))) h)
+
+  -- At the end.
+  end_done : (put : Put) (body : Body) (r : Reading) → IsPutOf put body v → IsDone (step_field s [] verb body r)
+  unfolding step_field
+  end_done (puts.Number p) (void_slot j) r h = absurd h
+  end_done (puts.Number p) (plain_slot q at d) r h = subst (λ (k : Content). IsDone (reading_after s (plain q) k)) (sym h.value) tt
+  end_done (puts.Number p) (pointer_slot i ty d) r h = absurd h
+  end_done (puts.Number p) (group_slot g) r h = absurd h
+  end_done (puts.Blob j b) (void_slot k) r h = absurd h
+  end_done (puts.Blob j b) (plain_slot q at d) r h = absurd h
+  end_done (puts.Blob j b) (pointer_slot i ty d) r h = subst (λ (k : Content). IsDone (reading_after s ty k)) (sym h.1) tt
+  end_done (puts.Blob j b) (group_slot g) r h = absurd h
+
+  -- What is done at a struct, whenever something is put into the trimmed one.
+  abbrev DoneWhere : (ℕ → Cell → Cell → Type 0) → Shape → List Step → Type 0
+  DoneWhere puts g path = (words : ℕ) (cut new old : Cell) → IsCut words cut old → puts words cut new → IsDone (step_path s (fields_in g) path verb (record_at g old.section old.kids))
+
+  -- Through the value of a pointer to a struct.
+  struct_done : (puts : ℕ → Cell → Cell → Type 0) (id : ℕ) (d : Tree) (n : List ℕ) (rest : List Step) → DoneWhere puts (s.shape_of id) (name n ∷ rest) → (old new : Tree) → Fits (trim old) → InStruct puts (trim old) new
+      → IsDone (through_value s (name n) (step_field s rest verb) (step_element s rest verb) (struct id) (opened s (struct id) d (read s old (struct id))))
+  unfolding read trim
+  struct_done puts id d n rest h null new fit p = absurd p
+  struct_done puts id d n rest h (capability i) new fit p = absurd p
+  struct_done puts id d n rest h (structure words section kids) new fit p =
+      let cut : Cell = record { section = section; kids = stripped (trim_each kids) } in
+      let cuts : IsCut (needed_words words section) cut (record { section = section; kids = kids }) = record { section = refl; kids = sym (stripped-stripped (trim_each kids)); inside = fit.2; fit = fit.3 } in
+      mapped record_as (on_name (step_field s rest verb) n (fields_in (s.shape_of id)) (record_at (s.shape_of id) section kids)) (h (needed_words words section) cut p.0 (record { section = section; kids = kids }) cuts p.1)
+  struct_done puts id d n rest h (plain_list z m section) new fit p = absurd p
+  struct_done puts id d n rest h (pointer_list ts) new fit p = absurd p
+  struct_done puts id d n rest h (struct_list w k es) new fit p = absurd p
+
+  -- Through an element of a list of structs.
+  element_done : (puts : ℕ → Cell → Cell → Type 0) (id : ℕ) (n : List ℕ) (rest : List Step) → DoneWhere puts (s.shape_of id) (name n ∷ rest) → (words pointers k : ℕ) (es new : Elements)
+      → FitElements words pointers (with_pointers pointers (trim_elements es)) → common_pointers (trim_elements es) ≤ pointers → InElements (puts words) k (with_pointers pointers (trim_elements es)) new
+      → IsDone (on_index (step_element s (name n ∷ rest) verb (struct id)) k (struct_elements s es (struct id)))
+  unfolding step_element read trim
+  element_done puts id n rest h words pointers zero no_elements new fit few p = absurd p
+  element_done puts id n rest h words pointers (suc k) no_elements new fit few p = absurd p
+  element_done puts id n rest h words pointers zero (element section kids es) new fit few p =
+      let most : tree_count (stripped (trim_each kids)) ≤ pointers = omega (arith, few) in
+      let cut : Cell = record { section = section; kids = resized pointers (trim_each kids) } in
+      let old : Cell = record { section = section; kids = kids } in
+      let cuts : IsCut words cut old = record { section = refl; kids = sym (stripped-resized pointers (trim_each kids) most); inside = fit.0; fit = fit.2 } in
+      let g = s.shape_of id in
+      let behind : Outcome Record = on_name (step_field s rest verb) n (fields_in g) (record_at g section kids) in
+      mapped (λ (x : Reading). x ▹ struct_elements s es (struct id)) (outcome_map record_as behind) (mapped record_as behind (h words cut p.0 old cuts p.1))
+  element_done puts id n rest h words pointers (suc k) (element section kids es) new fit few p =
+      let first : Reading = element_as s (struct id) whole_words section (read_child s kids) in
+      mapped (λ (xs : Readings). first ▹ xs) (on_index (step_element s (name n ∷ rest) verb (struct id)) k (struct_elements s es (struct id)))
+      (element_done puts id n rest h words pointers k es p.0 fit.3 (omega (arith, few)) p.1)
+
+  -- Any list of structs is one of a struct's type.
+  accepted : (id w p : ℕ) (es : Elements) → is_list_of (struct_list w p es) (struct id) ≡ true
+  accepted id w p es =
+      let words : nat_le 0 (64 * w) ≡ true = grind arith in
+      let pointers : nat_le 0 p ≡ true = grind arith in
+      ap (λ (b : Bool). b && nat_le 0 p) words ∙ pointers
+
+  -- Through the value of a pointer to a list.
+  list_done : (puts : ℕ → Cell → Cell → Type 0) (id : ℕ) (d : Tree) (k : ℕ) (n : List ℕ) (rest : List Step) → DoneWhere puts (s.shape_of id) (name n ∷ rest) → (old new : Tree) → Fits (trim old) → InList puts k (trim old) new
+      → IsDone (through_value s (index k) (step_field s (name n ∷ rest) verb) (step_element s (name n ∷ rest) verb) (list (struct id)) (opened s (list (struct id)) d (read s old (list (struct id)))))
+  unfolding read trim
+  list_done puts id d k n rest h null new fit p = absurd p
+  list_done puts id d k n rest h (capability i) new fit p = absurd p
+  list_done puts id d k n rest h (structure w section kids) new fit p = absurd p
+  list_done puts id d k n rest h (plain_list z m section) new fit p = absurd p
+  list_done puts id d k n rest h (pointer_list ts) new fit p = absurd p
+  list_done puts id d k n rest h (struct_list w q es) new fit p =
+      let rs : Readings = struct_elements s es (struct id) in
+      let e = step_element s (name n ∷ rest) verb (struct id) in
+      let there : IsDone (outcome_map list_of (on_index e k rs)) = mapped list_of (on_index e k rs) (element_done puts id n rest h (common_words w (trim_elements es)) (common_pointers (trim_elements es)) k es p.0 fit.4 (omega arith) p.1) in
+      let through : Bool → Type 0 = λ b. IsDone (through_value s (index k) (step_field s (name n ∷ rest) verb) (step_element s (name n ∷ rest) verb) (list (struct id)) (opened s (list (struct id)) d (list_reading b rs))) in
+      subst through (sym (accepted id w q es)) there
+
+  -- A field's step through a pointer is one through its value.
+  named_through : (n : List ℕ) (rest : List Step) (i id : ℕ) (d : Option Tree) (r : Reading) → IsDone (through_value s (name n) (step_field s rest verb) (step_element s rest verb) (struct id) (opened s (struct id) (default_or_null d) r))
+      → IsDone (step_field s (name n ∷ rest) verb (pointer_slot i (struct id) d) r)
+  unfolding step_field
+  named_through n rest i id d inactive h = absurd h
+  named_through n rest i id d null_pointer h = h
+  named_through n rest i id d (fault k) h = h
+  named_through n rest i id d (number k) h = h
+  named_through n rest i id d (text_of k) h = h
+  named_through n rest i id d (blob_of k) h = h
+  named_through n rest i id d (list_of k) h = h
+  named_through n rest i id d (record_as k) h = h
+  named_through n rest i id d (opaque k) h = h
+
+  indexed_through : (j : ℕ) (rest : List Step) (i id : ℕ) (d : Option Tree) (r : Reading) → IsDone (through_value s (index j) (step_field s rest verb) (step_element s rest verb) (list (struct id)) (opened s (list (struct id)) (default_or_null d) r))
+      → IsDone (step_field s (index j ∷ rest) verb (pointer_slot i (list (struct id)) d) r)
+  unfolding step_field
+  indexed_through j rest i id d inactive h = absurd h
+  indexed_through j rest i id d null_pointer h = h
+  indexed_through j rest i id d (fault k) h = h
+  indexed_through j rest i id d (number k) h = h
+  indexed_through j rest i id d (text_of k) h = h
+  indexed_through j rest i id d (blob_of k) h = h
+  indexed_through j rest i id d (list_of k) h = h
+  indexed_through j rest i id d (record_as k) h = h
+  indexed_through j rest i id d (opaque k) h = h
+
+  -- What is done behind a child, where something is put into the trimmed one.
+  child_done : (P : Tree → Tree → Type 0) (D : Tree → Type 0) (i words : ℕ) (cut new old : Cell) → ((t u : Tree) → Fits (trim t) → P (trim t) u → D t) → IsCut words cut old → (t : Tree) × P (child cut.kids i) t × (new ≡ put_child i t cut) → D (child old.kids i)
+  child_done P D i words cut new old h is p =
+      let same : child cut.kids i ≡ trim (child old.kids i) = child_same old.kids cut.kids i is.kids in
+      h (child old.kids i) p.0 (subst Fits same (child_fits cut.kids i is.fit)) (subst (λ (u : Tree). P u p.0) same p.1)
+
+  -- The record machine does the rest of a path.
+  pub path_done : (way : List Hop) (g : Shape) (path : List Step) → PathLeadsTo s v put way (fields_in g) path → DoneWhere (PutsBehind put way) g path
+  unfolding body_of
+  path_done [] g path h words cut new old is p =
+      subst (λ (way : List Step). IsDone (step_path s (fields_in g) way verb (record_at g old.section old.kids))) (sym h.2)
+      (named_done g h.0 [] h.1 old.section old.kids h.3 (end_done put h.1 (body_of h.1 whole_words old.section (read_child s old.kids)) h.4))
+  path_done (hops.Pointer i ∷ way) g path h words cut new old is p =
+      let id = h.3 in
+      let inner = s.shape_of id in
+      let b = begins s v put way (fields_in inner) h.4 h.8 in
+      let behind : DoneWhere (PutsBehind put way) inner (name b.0 ∷ b.1) = subst (DoneWhere (PutsBehind put way) inner) b.2 (path_done way inner h.4 h.8) in
+      let through : Tree → Type 0 = λ t. IsDone (through_value s (name b.0) (step_field s b.1 verb) (step_element s b.1 verb) (struct id) (opened s (struct id) (default_or_null h.7.0) (read s t (struct id)))) in
+      let there : through (child old.kids i) = child_done (InStruct (PutsBehind put way)) through i words cut new old (struct_done (PutsBehind put way) id (default_or_null h.7.0) b.0 b.1 behind) is p in
+      let slot : Body = pointer_slot i (struct id) h.7.0 in
+      let at : IsDone (step_field s (name b.0 ∷ b.1) verb slot (body_of slot whole_words old.section (read_child s old.kids))) =
+      named_through b.0 b.1 i id h.7.0 (read_child s old.kids i (struct id)) (subst (λ (r : Reading). IsDone (through_value s (name b.0) (step_field s b.1 verb) (step_element s b.1 verb) (struct id) (opened s (struct id) (default_or_null h.7.0) r))) (sym (read_child-is s old.kids i (struct id))) there) in
+      subst (λ (way : List Step). IsDone (step_path s (fields_in g) way verb (record_at g old.section old.kids))) (sym (h.5 ∙ ap (λ (rest : List Step). name h.0 ∷ rest) (h.7.2 ∙ b.2)))
+      (named_done g h.0 (name b.0 ∷ b.1) slot old.section old.kids (h.6 ∙ ap (target None) h.7.1) at)
+  path_done (hops.Element i k ∷ way) g path h words cut new old is p =
+      let id = h.3 in
+      let inner = s.shape_of id in
+      let b = begins s v put way (fields_in inner) h.4 h.8 in
+      let rest : List Step = name b.0 ∷ b.1 in
+      let behind : DoneWhere (PutsBehind put way) inner rest = subst (DoneWhere (PutsBehind put way) inner) b.2 (path_done way inner h.4 h.8) in
+      let after : Reading → Type 0 = λ r. IsDone (through_value s (index k) (step_field s rest verb) (step_element s rest verb) (list (struct id)) (opened s (list (struct id)) (default_or_null h.7.0) r)) in
+      let there : after (read s (child old.kids i) (list (struct id))) = child_done (InList (PutsBehind put way) k) (λ t. after (read s t (list (struct id)))) i words cut new old (list_done (PutsBehind put way) id (default_or_null h.7.0) k b.0 b.1 behind) is p in
+      let slot : Body = pointer_slot i (list (struct id)) h.7.0 in
+      let at : IsDone (step_field s (index k ∷ rest) verb slot (body_of slot whole_words old.section (read_child s old.kids))) =
+      indexed_through k rest i id h.7.0 (read_child s old.kids i (list (struct id))) (subst after (sym (read_child-is s old.kids i (list (struct id)))) there) in
+      subst (λ (way : List Step). IsDone (step_path s (fields_in g) way verb (record_at g old.section old.kids))) (sym (h.5 ∙ ap (λ (rest : List Step). name h.0 ∷ rest) (h.7.2 ∙ ap (λ (rest : List Step). index k ∷ rest) b.2)))
+      (named_done g h.0 (index k ∷ rest) slot old.section old.kids (h.6 ∙ ap (target None) h.7.1) at)

@@ -1,0 +1,69 @@
+//! Calls that set plain fields of a root.
+ghost use Rattle.std.specs.Prelude.{◌≡◌, List, true, map, length, IfOk, IfErr, IfSome};
+ghost use Rattle.capnp_units.specs.declared.kinds.ErrorKind.{ErrorKind};
+ghost use Rattle.capnp_model.specs.Trees.{Tree};
+ghost use Rattle.capnp_model.specs.Trimming.{trim};
+ghost use Rattle.capnp_model.specs.Fits.{Fits};
+ghost use Rattle.capnp_model.specs.Encoding.{canonical_words};
+ghost use Rattle.capnp_model.specs.Calls.{Call as ModelCall};
+ghost use Rattle.capnp_values_queries.specs.declared.structs.StructSchema.{StructSchema as AnySchema};
+ghost use Rattle.capnp_calls.specs.CallViews.{call_view};
+ghost use Rattle.capnp_wire_canonical.specs.Writes.{words_view};
+ghost use Rattle.capnp_calls_in_place.specs.PlainSets.{IsPlain, ArePlain, SetsWords};
+
+use crate::fields::{field_set, only_name, value_set};
+use capnp_calls::Call;
+use capnp_calls_splice::plain::PlainSet;
+use capnp_calls_splice::words::put_in_root;
+use capnp_units::errors::Result;
+use capnp_units::sizes::Word;
+use capnp_values_queries::structs::StructSchema;
+use std::alloc::Global;
+
+/// What a call puts into the data of a root. `None` where it isn't the `set` of a plain field of
+/// the root that is no member of a union, to a value of its type.
+pub fn plain_set(schema: StructSchema<'_>, call: &Call) -> Option<PlainSet>
+    ensures { IfSome result (IsPlain schema.entry (call_view call.now)) }
+{
+    let value = value_set(call.action())?;
+    let name = only_name(call.path())?;
+    match schema.get_field_by_name(name) {
+        Ok(field) => field_set(field, value),
+        Err(_) => None,
+    }
+}
+
+/// What each call puts into the data of a root; `None` where one puts none. `OutOfMemory`: the list
+/// can't grow.
+pub fn plain_sets(
+    alloc: Global,
+    schema: StructSchema<'_>,
+    calls: &[Call],
+) -> Result<Option<Vec<PlainSet>>>
+    ensures plain { IfOk result (λ found. IfSome found
+        (λ sets. ArePlain schema.entry (map call_view calls.now) sets.items)) }
+    ensures kind { IfErr result (λ e. e.kind ≡ ErrorKind.OutOfMemory) }
+{
+    let mut sets = Vec::new(alloc);
+    for call in calls {
+        match plain_set(schema, call) {
+            Some(set) => sets.push(set)?,
+            None => return Ok(None),
+        }
+    }
+    Ok(Some(sets))
+}
+
+/// Puts numbers into the data of a root whose message is these canonical words. It returns whether
+/// they are the canonical words of what that makes, trimmed. Where the root is no struct with a
+/// word for each number, or its last data word becomes zero, they aren't, and some of the numbers
+/// may be put. Nothing but the root's data changes.
+pub fn write_sets(words: &mut [Word], sets: &[PlainSet]) -> bool
+    ensures sets { (schema : AnySchema) (calls : List ModelCall) (t : Tree) → result ≡ true
+        → ArePlain schema calls sets.now → Fits t → trim t ≡ t
+        → words_view words.old ≡ canonical_words t
+        → SetsWords schema calls t (words_view words.new) }
+    ensures len { length words.new ≡ length words.old }
+{
+    put_in_root(words, sets)
+}

@@ -1,0 +1,46 @@
+//! Calls in turn at the struct of a builder.
+ghost use Rattle.std.specs.Prelude.{◌≡◌, map, Err, IfOk, IfErr};
+ghost use Rattle.capnp_copy_arenas.specs.Deep.{IsDeep};
+ghost use Rattle.capnp_copy_arenas.specs.Refusals.{IsSizeOrRefusal};
+ghost use Rattle.capnp_schema_structs.specs.Builders.{IsReady, words_around_struct};
+ghost use Rattle.capnp_calls.specs.CallViews.{call_view};
+ghost use Rattle.capnp_calls.specs.Replies.{reply_view};
+ghost use Rattle.capnp_calls.specs.Roots.{IsRoot};
+ghost use Rattle.capnp_calls_run.specs.declared.fault.RunFault.{RunFault};
+ghost use Rattle.capnp_calls_run.specs.Handles.{IsSameHandle};
+ghost use Rattle.capnp_calls_run.specs.Runs.{RunsAt, EndsLongAt, StopsAt};
+
+use crate::fault::RunFault;
+use crate::run::run_at;
+use capnp_calls::Call;
+use capnp_calls::reply::Reply;
+use capnp_calls::ways::Ways;
+use capnp_copy_arenas::arena::BuilderArena;
+use capnp_schema_structs::dynamic_struct;
+use std::alloc::Global;
+
+/// Answers calls in turn at the struct of a builder, as `run_at` does, whose refusals it has, with
+/// ways that are found first. Memory for these that is refused is `Refused` too, before any call.
+/// The handle stays where it was.
+pub fn run<A: BuilderArena>(
+    alloc: Global,
+    root: &mut dynamic_struct::Builder<'_, A>,
+    calls: &[Call],
+) -> Result<Vec<Reply>, RunFault>
+    requires arena { IsDeep A.segments A.nesting }
+    requires ready { IsReady A.segments root.old }
+    requires root { IsRoot root.old.schema }
+    ensures all { let words = words_around_struct A.segments in IfOk result (λ told.
+        RunsAt (words root.old) (words root.new) root.old.place root.old.schema
+        (map call_view calls.now) (map reply_view told.items)) }
+    ensures stops { let words = words_around_struct A.segments in IfErr result (StopsAt (IsSizeOrRefusal A.refuses) (words root.old)
+        (words root.new) root.old.place root.old.schema (map call_view calls.now)) }
+    ensures size { result ≡ Err RunFault.Size → EndsLongAt (words_around_struct A.segments root.old)
+        root.old.place root.old.schema (map call_view calls.now) }
+    ensures handle { IsSameHandle root.old root.new }
+    ensures books { A.books root.new.memory.now.arena ≡ A.books root.old.memory.now.arena }
+{
+    let (place, schema) = (root.place, root.schema);
+    let ways = Ways::new(alloc, schema, calls)?;
+    run_at(alloc, &mut root.memory.arena, place, schema, calls, &ways)
+}

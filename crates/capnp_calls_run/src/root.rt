@@ -1,0 +1,62 @@
+//! Calls in turn at the root of a message.
+ghost use Rattle.std.specs.Prelude.{◌≡◌, map, true, Err, IfOk, IfErr};
+ghost use Rattle.std.specs.Option.{is_some};
+ghost use Rattle.capnp_model.specs.Segments.{root, words_at};
+ghost use Rattle.capnp_units.specs.Segments.{words_in};
+ghost use Rattle.capnp_copy_arenas.specs.Deep.{IsDeep};
+ghost use Rattle.capnp_copy_arenas.specs.Refusals.{IsSizeOrRefusal};
+ghost use Rattle.capnp_values_queries.specs.Structs.{schema_around};
+ghost use Rattle.capnp_calls.specs.CallViews.{call_view};
+ghost use Rattle.capnp_calls.specs.Replies.{reply_view};
+ghost use Rattle.capnp_calls.specs.Roots.{IsRoot};
+ghost use Rattle.capnp_calls.specs.Ways.{AreWays};
+ghost use Rattle.capnp_calls_run.specs.declared.fault.RunFault.{RunFault};
+ghost use Rattle.capnp_calls_run.specs.Runs.{RunsRoot, EndsLongRoot, StopsRoot};
+
+use crate::fault::RunFault;
+use crate::run::run_at;
+use capnp_calls::Call;
+use capnp_calls::reply::Reply;
+use capnp_calls::ways::Ways;
+use capnp_copy_arenas::arena::BuilderArena;
+use capnp_copy_widening::structs::get_struct;
+use capnp_model_writes::laws::{changes_of_values, objects_of_pointers};
+use capnp_model_writes::laws_of_depths::{changes_with_fewer_levels, depths_of_owned_values};
+use capnp_schema_structs::init::struct_size;
+use capnp_values_queries::structs::StructSchema;
+use capnp_wire_objects::place::ROOT;
+use std::alloc::Global;
+
+/// Answers calls in turn at the root of a message, as `run_at` does. The root is got as a struct of
+/// at least its schema's two sizes, a null one as the empty struct.
+///
+/// `Refused`: as that struct is, with `WrongPointerKind` where the root is a list or a capability,
+/// and then as `run_at`. `Size`: as `run_at`.
+pub fn run_root<A: BuilderArena>(
+    alloc: Global,
+    arena: &mut A,
+    schema: StructSchema<'_>,
+    calls: &[Call],
+    ways: &Ways,
+) -> Result<Vec<Reply>, RunFault>
+    requires arena { IsDeep A.segments A.nesting }
+    requires there { is_some (words_at (words_in (A.segments arena.old)) root 1) ≡ true }
+    requires root { IsRoot schema }
+    requires ways { AreWays (schema_around schema) (map call_view calls.now) ways.now }
+    ensures all { IfOk result (λ told. RunsRoot (words_in (A.segments arena.old))
+        (words_in (A.segments arena.new)) schema.entry (map call_view calls.now)
+        (map reply_view told.items)) }
+    ensures size { result ≡ Err RunFault.Size → EndsLongRoot (words_in (A.segments arena.old))
+        schema.entry (map call_view calls.now) }
+    ensures stops { IfErr result (StopsRoot (IsSizeOrRefusal A.refuses)
+        (words_in (A.segments arena.old)) (words_in (A.segments arena.new)) schema.entry
+        (map call_view calls.now)) }
+    ensures books { A.books arena.new ≡ A.books arena.old }
+{
+    changes_of_values();
+    changes_with_fewer_levels();
+    depths_of_owned_values();
+    objects_of_pointers();
+    let object = get_struct(arena, ROOT, struct_size(schema))?;
+    run_at(alloc, arena, object, schema, calls, ways)
+}

@@ -1,0 +1,179 @@
+//! Calls in turn, each tested where the struct is read, and then written.
+ghost use Rattle.std.specs.Prelude.{◌≡◌, ◌+◌, ◌^◌, ◌<◌, ◌≤◌, map, Err, IfOk, IfErr};
+ghost use Rattle.capnp_model.specs.Answers.{reply_of};
+ghost use Rattle.capnp_model.specs.Trees.{Trees, structure};
+ghost use Rattle.capnp_model.specs.Steps.{step};
+ghost use Rattle.capnp_units.specs.Segments.{words_in};
+ghost use Rattle.capnp_model_writes.specs.Footprints.{OwnsObject};
+ghost use Rattle.capnp_copy_arenas.specs.Deep.{IsDeep};
+ghost use Rattle.capnp_copy_arenas.specs.Refusals.{IsSizeOrRefusal};
+ghost use Rattle.capnp_copy_arenas.specs.Structs.{object_of_struct};
+ghost use Rattle.capnp_wire_objects.specs.Places.{place_view};
+ghost use Rattle.capnp_wire.specs.Views as views;
+ghost use Rattle.capnp_values.specs.Sources.{struct_seen};
+ghost use Rattle.capnp_values_queries.specs.Structs.{schema_around, shape_of_struct, id_of};
+ghost use Rattle.capnp_schema_structs.specs.Edits.{IsThere, HoldsShape};
+ghost use Rattle.capnp_calls.specs.CallViews.{call_view};
+ghost use Rattle.capnp_calls.specs.Replies.{reply_view};
+ghost use Rattle.capnp_calls.specs.Roots.{IsRoot};
+ghost use Rattle.capnp_model.specs.Printing.{as_it_is};
+ghost use Rattle.capnp_calls.specs.Ways.{IsWay, AreWays};
+ghost use Rattle.capnp_units.specs.declared.kinds.ErrorKind.{ErrorKind};
+ghost use Rattle.capnp_calls_run.specs.declared.fault.RunFault.{RunFault};
+ghost use Rattle.capnp_calls_run.specs.Runs.{TestsAt, AnswersAt, PutsLongAt, TellsWhy, FailsAt, RunsAt, EndsLongAt, StopsAt};
+
+use crate::fault::RunFault;
+use crate::long::puts_long;
+use capnp_calls::Call;
+use capnp_calls::laws::{calls_are_given, roots_are_no_groups};
+use capnp_calls::reply::Reply;
+use capnp_calls::ways::{FoundField, Ways};
+use capnp_calls_edits::path::write_path;
+use capnp_calls_replies::root::reply_to;
+use capnp_copy_arenas::arena::BuilderArena;
+use capnp_copy_arenas::fields::StructPlace;
+use capnp_model::laws_of_edits::records_after_calls;
+use capnp_model_writes::laws::changes_of_objects;
+use capnp_model_writes::laws_of_depths::{changes_with_fewer_levels, depths_of_owned_values};
+use capnp_units::errors::{self, Error};
+use capnp_units::kinds::ErrorKind;
+use capnp_values::dynamic_struct;
+use capnp_values_queries::structs::StructSchema;
+use capnp_wire::structs::StructReader;
+use capnp_wire_objects::arena::ReaderArena;
+use capnp_wire_objects::place::has_words;
+use std::alloc::Global;
+
+/// The struct, to read.
+fn struct_of<'a, A: ReaderArena>(
+    arena: &'a A,
+    object: StructPlace,
+    schema: StructSchema<'a>,
+) -> dynamic_struct::Reader<'a, A>
+    requires there { IsThere (words_in (A.segments arena.now)) object }
+    ensures source { struct_seen A.segments result.source ≡ views.struct_at (A.segments arena.now)
+        (A.nesting arena.now) (place_view object.start) object.data_words object.pointers }
+    ensures schema { result.schema ≡ schema.entry }
+{
+    let reader = StructReader::at(arena, object.start, object.data_words, object.pointers);
+    dynamic_struct::Reader::new(reader, schema)
+}
+
+/// What a call replies at the struct, or that it is to be written.
+fn test<A: ReaderArena>(
+    alloc: Global,
+    arena: &A,
+    object: StructPlace,
+    schema: StructSchema<'_>,
+    call: &Call,
+    way: &[FoundField],
+) -> errors::Result<Reply>
+    requires arena { IsDeep A.segments A.nesting }
+    requires there { IsThere (words_in (A.segments arena.now)) object }
+    requires way { IsWay (schema_around schema) (call_view call.now).path way.now }
+    ensures replied { IfOk result (λ r.
+        TestsAt (words_in (A.segments arena.now)) object schema.entry (call_view call.now)
+        (reply_view r)) }
+    ensures memory { IfErr result (λ e. e.kind ≡ ErrorKind.OutOfMemory) }
+{
+    changes_with_fewer_levels();
+    depths_of_owned_values();
+    reply_to(alloc, struct_of(arena, object, schema), call, way)
+}
+
+/// Why a call that is done at the struct wasn't written there.
+fn fault_of(schema: StructSchema<'_>, call: &Call, error: Error) -> RunFault
+    ensures { TellsWhy schema.entry (call_view call.now) error result }
+{
+    match error.kind {
+        ErrorKind::SizeOverflow if puts_long(schema, call) => RunFault::Size,
+        _ => RunFault::Refused(error),
+    }
+}
+
+/// Returns a call at the struct, which is there, else it is refused with `OutOfBounds`. After an
+/// error nothing is promised of the struct's value.
+fn answer<A: BuilderArena>(
+    alloc: Global,
+    arena: &mut A,
+    object: StructPlace,
+    schema: StructSchema<'_>,
+    call: &Call,
+    way: &[FoundField],
+) -> Result<Reply, RunFault>
+    requires arena { IsDeep A.segments A.nesting }
+    requires near { object.start.position + (object.data_words + object.pointers) < 2 ^ 61 }
+    requires wide { HoldsShape object (shape_of_struct schema) }
+    requires way { IsWay (schema_around schema) (call_view call.now).path way.now }
+    ensures answer { IfOk result (λ r. AnswersAt (words_in (A.segments arena.old))
+        (words_in (A.segments arena.new)) object schema.entry (call_view call.now)
+        (reply_view r)) }
+    ensures stops { IfErr result (FailsAt (IsSizeOrRefusal A.refuses) (words_in (A.segments arena.old))
+        (words_in (A.segments arena.new)) object schema.entry (call_view call.now)) }
+    ensures size { result ≡ Err RunFault.Size
+        → PutsLongAt (words_in (A.segments arena.old)) object schema.entry (call_view call.now) }
+    ensures books { A.books arena.new ≡ A.books arena.old }
+{
+    changes_of_objects();
+    changes_with_fewer_levels();
+    depths_of_owned_values();
+    let words = object.data_words as usize + object.pointers as usize;
+    if !has_words(arena, object.start, words) {
+        return Err(RunFault::Refused(Error::from(ErrorKind::OutOfBounds)));
+    }
+    let reply = test(alloc, arena, object, schema, call, way)?;
+    match reply {
+        Reply::Done => match write_path(arena, object, schema, call.path(), way, call.action()) {
+            Ok(()) => Ok(Reply::Done),
+            Err(error) => Err(fault_of(schema, call, error)),
+        },
+        other => Ok(other),
+    }
+}
+
+/// Answers calls in turn at a struct of a message, each at what the calls before it left. Its reply
+/// is that of the record machine, and the struct becomes what the edits make of it. A refused call
+/// and a `get` change nothing, and don't stop the next.
+///
+/// The struct has at least its schema's two sizes. The ways say what the names of the calls' paths
+/// find under the schema, so that none is looked for here. `Size`: a call that is done puts a text
+/// or data of 2^29 bytes or more with its last zero, or a list of structs of 2^29 words or more.
+/// `Refused` is
+/// - `OutOfBounds`: the struct isn't there;
+/// - `SizeOverflow`, of the arena: the words of the message would pass 2^29 - 1;
+/// - else want of memory, or what the arena refuses.
+///
+/// After both the calls before have their effect, and the next perhaps a part of it.
+pub fn run_at<A: BuilderArena>(
+    alloc: Global,
+    arena: &mut A,
+    object: StructPlace,
+    schema: StructSchema<'_>,
+    calls: &[Call],
+    ways: &Ways,
+) -> Result<Vec<Reply>, RunFault>
+    requires arena { IsDeep A.segments A.nesting }
+    requires near { object.start.position + (object.data_words + object.pointers) < 2 ^ 61 }
+    requires wide { HoldsShape object (shape_of_struct schema) }
+    requires root { IsRoot schema }
+    requires ways { AreWays (schema_around schema) (map call_view calls.now) ways.now }
+    ensures all { IfOk result (λ told. RunsAt (words_in (A.segments arena.old))
+        (words_in (A.segments arena.new)) object schema.entry (map call_view calls.now)
+        (map reply_view told.items)) }
+    ensures stops { IfErr result (StopsAt (IsSizeOrRefusal A.refuses) (words_in (A.segments arena.old))
+        (words_in (A.segments arena.new)) object schema.entry (map call_view calls.now)) }
+    ensures size { result ≡ Err RunFault.Size → EndsLongAt (words_in (A.segments arena.old))
+        object schema.entry (map call_view calls.now) }
+    ensures books { A.books arena.new ≡ A.books arena.old }
+{
+    records_after_calls();
+    calls_are_given();
+    roots_are_no_groups();
+    changes_of_objects();
+    let mut replies = Vec::new(alloc);
+    for call in calls {
+        let way = ways.of(replies.len());
+        replies.push(answer(alloc, arena, object, schema, call, way)?)?;
+    }
+    Ok(replies)
+}

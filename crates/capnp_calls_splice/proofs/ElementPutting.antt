@@ -1,0 +1,194 @@
+-- What is put into an element of a list behind a pointer of a struct stands there.
+use Rattle.std.proofs.Common.{◌≡◌, ℕ, suc, ◌+◌, ◌-◌, ◌*◌, ◌^◌, ◌<◌, ◌≤◌, List, [], ◌∷◌, ◌++◌, length, take, drop, get_or, refl, ap, sym, subst, ◌∙◌, append_assoc, length-append, arith}
+use Rattle.std.specs.Int.{from_le_bytes, w64}
+use Rattle.capnp_model.specs.Sections.{words_of}
+use Rattle.capnp_model.specs.Trees.{Tree, null, capability, structure, plain_list, pointer_list, struct_list, Elements, tree_count, element_count, child}
+use Rattle.capnp_model.specs.Fits.{Fits, FitElements}
+use Rattle.capnp_model.specs.Encoding.{pointer, struct_pointer, list_pointer, body, links, bodies, cells, element_bodies}
+use Rattle.capnp_model.specs.Edits.{Cell, put_child}
+use Rattle.capnp_model.proofs.lemmas.Numbers.{length-numbers_in}
+use Rattle.capnp_model.proofs.lemmas.RoundTrip.{links_length}
+use Rattle.capnp_wire_canonical.specs.Writes.{filled}
+use Rattle.capnp_calls_splice.specs.Splices.{PutsBehind, InList}
+use Rattle.capnp_calls_splice.specs.Cells.{Frame, framed, StandsIn, HasPut, IsStructs, MovesElements}
+use Rattle.capnp_calls_splice.specs.declared.area.Area.{Area}
+use Rattle.capnp_calls_splice.specs.declared.area.Structs.{Structs}
+use Rattle.capnp_calls_splice.specs.declared.splice.Hop.{Hop}
+use Rattle.capnp_calls_splice.specs.declared.splice.Hop.TheVariants as hops
+use Rattle.capnp_calls_splice.specs.declared.splice.Put.{Put}
+use Rattle.capnp_calls_splice.proofs.Children as slots
+use Rattle.capnp_calls_splice.proofs.ElementParts.{fronts, backs, cell_at, with_cell, cell-parts, in_elements, fronts_count, backs_count, with_cell-count, FitsCell, cell-fits, fronts-fit, backs-fit, with_cell-fits, cells_before, cells_before-length, cells_length, around}
+use Rattle.capnp_calls_splice.proofs.Segmenting.{filled_length}
+use Rattle.capnp_calls_splice.proofs.Placing.{slot_front, slot_gap, slot_later, slot_between, slot_back, slotted, own_slot, slot_place, slot_near, moved}
+use Rattle.capnp_calls_splice.proofs.Putting.{Moves, pointer_there, regrouped as split}
+
+pub framed_length : (d : ℕ) (f : Frame) (c : Cell) → length (framed d f c) ≡ length f.front + (d + (tree_count c.kids + (length f.middle + (length (bodies c.kids) + length f.back))))
+framed_length d f c =
+    let a = length-append f.front (words_of d c.section ++ (links f.behind f.before c.kids ++ (f.middle ++ (bodies c.kids ++ f.back)))) in
+    let b = length-append (words_of d c.section) (links f.behind f.before c.kids ++ (f.middle ++ (bodies c.kids ++ f.back))) in
+    let e = length-append (links f.behind f.before c.kids) (f.middle ++ (bodies c.kids ++ f.back)) in
+    let g = length-append f.middle (bodies c.kids ++ f.back) in
+    let h = length-append (bodies c.kids) f.back in
+    let i = length-numbers_in 64 d c.section in
+    let j = links_length c.kids f.behind f.before in
+    omega arith
+
+regrouped : (x w l ce ef r : List ℕ) → x ++ (w ++ (l ++ ((ce ++ ef) ++ r))) ≡ (x ++ (w ++ l)) ++ (ce ++ (ef ++ r))
+regrouped x w l ce ef r = simp append_assoc
+
+-- ---- the frame of an element
+
+abbrev pub list_front : ℕ → Frame → Cell → ℕ → ℕ → ℕ → ℕ → ℕ → ℕ → Elements → List ℕ
+list_front d f c i p n w k j es = slot_front d f c i ++ p ∷ (slot_later f c i n ++ (slot_between f c i ++ struct_pointer (element_count es) w k ∷ cells_before (suc (element_count (backs j es))) 0 w k (fronts j es)))
+
+abbrev pub element_frame : ℕ → Frame → Cell → ℕ → ℕ → ℕ → ℕ → ℕ → ℕ → ℕ → Elements → Frame
+element_frame d f c i p n z w k j es =
+    record {
+      front = list_front d f c i p n w k j es;
+      middle = cells (length (element_bodies (fronts j es)) + z) w k (backs j es) ++ element_bodies (fronts j es);
+      back = element_bodies (backs j es) ++ slot_back f c i;
+      behind = element_count (backs j es) * (w + k);
+      before = length (element_bodies (fronts j es));
+    }
+
+-- the words of the list with a cell in it
+with_element : (d : ℕ) (f : Frame) (c : Cell) (i p n w k j : ℕ) (es : Elements) (cell : Cell) → j < element_count es
+    → slotted d f c i p n (body (struct_list w k (with_cell j cell es))) ≡ framed w (element_frame d f c i p n (length (bodies cell.kids)) w k j es) cell
+with_element d f c i p n w k j es cell l = around (slot_front d f c i) (slot_later f c i n) (slot_between f c i) (slot_back f c i) p w k j cell es l
+
+-- where its data begin
+front_length : (area : Area) (f : Frame) (c : Cell) (ws : List ℕ) (i p n w k j : ℕ) (es : Elements) → StandsIn area f c ws → i < area.pointers → j < element_count es → FitElements w k es
+    → length (list_front area.data_words f c i p n w k j es) ≡ area.at + area.data_words + i + 1 + slot_gap f c i + 1 + j * (w + k)
+front_length area f c ws i p n w k j es st l less fit =
+    let d : ℕ = area.data_words in
+    let co : List ℕ = cells_before (suc (element_count (backs j es))) 0 w k (fronts j es) in
+    let a = length-append (slot_front d f c i) (p ∷ (slot_later f c i n ++ (slot_between f c i ++ struct_pointer (element_count es) w k ∷ co))) in
+    let b = length-append (slot_later f c i n) (slot_between f c i ++ struct_pointer (element_count es) w k ∷ co) in
+    let e = length-append (slot_between f c i) (struct_pointer (element_count es) w k ∷ co) in
+    let g = length-append f.middle (bodies (slots.fronts i c.kids)) in
+    let h = links_length (slots.backs i c.kids) f.behind (f.before + length (bodies (slots.fronts i c.kids)) + n) in
+    let own : length co ≡ j * (w + k) = cells_before-length (suc (element_count (backs j es))) 0 w k (fronts j es) (fronts-fit w k es j fit) ∙ ap (λ (z : ℕ). z * (w + k)) (fronts_count es j less) in
+    let place = slot_place area f c ws i st l in
+    let between = st.between in
+    omega arith
+
+module _ (put : Put) (way : List Hop) (area inner : Area) (list : Structs) (f : Frame) (c : Cell) (i j count now : ℕ) (xs mid after ys : List (List ℕ)) (a m : ℕ)
+    (st : StandsIn area f c (filled count xs)) (l : i < area.pointers) (room : count ≤ length xs) (few : count < 2 ^ 29) (short : now < 2 ^ 29) (more : now ≤ length mid) (stays : now ≤ length after)
+    (at : a ≡ area.at + area.data_words + i + 1) (size : m ≡ area.at + area.data_words + area.pointers - a)
+    (less : j < list.count) (place : inner.at ≡ list.first + j * (list.data_words + list.pointers)) (words : inner.data_words ≡ list.data_words) (slots_are : inner.pointers ≡ list.pointers)
+    (first : list.first ≡ area.at + area.data_words + i + 1 + slot_gap f c i + 1)
+    (rec : (g : Frame) (k : Cell) → StandsIn inner g k (filled count xs) → HasPut put way inner g k (filled now mid))
+    (shift : MovesElements list j count now mid after)
+    (move : Moves count now (take m (drop a after)) ys) where
+  in_structs : (es : Elements) → child c.kids i ≡ struct_list list.data_words list.pointers es → list.count ≡ element_count es → HasPut put (hops.Element i j ∷ way) area f c (filled now (take a after ++ (ys ++ drop m (drop a after))))
+  in_structs es e many =
+      let d : ℕ = area.data_words in
+      let w : ℕ = list.data_words in
+      let k : ℕ = list.pointers in
+      let n : ℕ = length (body (child c.kids i)) in
+      let p : ℕ = pointer (slot_gap f c i) (struct_list w k es) in
+      let own : Cell = cell_at j es in
+      let z : ℕ = length (bodies own.kids) in
+      let ef : ℕ = length (element_bodies (fronts j es)) in
+      let g : Frame = element_frame d f c i p n z w k j es in
+      let within : i < tree_count c.kids = (let h = st.pointers in omega arith) in
+      let inside : j < element_count es = omega arith in
+      let fits : Fits (struct_list w k es) = subst Fits e (slots.child-fits c.kids i st.each) in
+      let fit = fits.4 in
+      let cell_fit = cell-fits w k es j inside fit in
+      let begins = front_length area f c (filled count xs) i p n w k j es st l inside fit in
+      let spelled : filled count xs ≡ framed w g own =
+      st.spelled ∙ own_slot d f c i within ∙ ap (λ (u : Tree). slotted d f c i (pointer (slot_gap f c i) u) n (body u)) e
+      ∙ ap (λ (ds : Elements). slotted d f c i p n (body (struct_list w k ds))) (cell-parts es j inside) ∙ with_element d f c i p n w k j es own inside in
+      let middle : length g.middle ≡ g.behind + g.before = length-append (cells (ef + z) w k (backs j es)) (element_bodies (fronts j es)) ∙ ap (λ (y : ℕ). y + ef) (cells_length (ef + z) w k (backs j es) (backs-fit w k es j fit)) in
+      let stands : StandsIn inner g own (filled count xs) =
+      record {
+        place = omega arith;
+        between = middle;
+        spelled = spelled ∙ ap (λ (y : ℕ). framed y g own) (sym words);
+        section = subst (λ (y : ℕ). own.section < 2 ^ (64 * y)) (sym words) cell_fit.section;
+        pointers = cell_fit.pointers ∙ sym slots_are;
+        each = cell_fit.each;
+      } in
+      let h = rec g own stands in
+      let new : Cell = h.cell in
+      let to : ℕ = length (bodies new.kids) in
+      let ds : Elements = with_cell j new es in
+      let t : Tree = struct_list w k ds in
+      let spelled_then : filled now mid ≡ framed w g new = h.stands.spelled ∙ ap (λ (y : ℕ). framed y g new) words in
+      let x : List ℕ = g.front ++ (words_of w new.section ++ links g.behind g.before new.kids) in
+      let r : List ℕ = element_bodies (fronts j es) ++ (bodies new.kids ++ g.back) in
+      let parts : filled now mid ≡ x ++ (cells (ef + z) w k (backs j es) ++ r) =
+      spelled_then ∙ regrouped g.front (words_of w new.section) (links g.behind g.before new.kids) (cells (ef + z) w k (backs j es)) (element_bodies (fronts j es)) (bodies new.kids ++ g.back) in
+      let was = ap length spelled in
+      let becomes = ap length spelled_then in
+      let whole = framed_length w g own in
+      let then = framed_length w g new in
+      let used = filled_length xs count room in
+      let used_then = filled_length mid now more in
+      let kids_were = cell_fit.pointers in
+      let kids_are = h.stands.pointers in
+      let back_is = length-append (element_bodies (backs j es)) (slot_back f c i) in
+      let difference : ef + z + now ≡ ef + to + count = omega arith in
+      let x_is : length x ≡ list.first + (j + 1) * (w + k) = (
+      let b = length-append g.front (words_of w new.section ++ links g.behind g.before new.kids) in
+      let o = length-append (words_of w new.section) (links g.behind g.before new.kids) in
+      let q = length-numbers_in 64 w new.section in
+      let u = links_length new.kids g.behind g.before in
+      omega arith) in
+      let behind : element_count (backs j es) + (j + 1) ≡ list.count = (let b = backs_count es j inside in omega arith) in
+      let shifted : filled now after ≡ x ++ (cells (ef + to) w k (backs j es) ++ r) =
+      shift now (ef + z) (ef + to) (backs j es) x r more behind (backs-fit w k es j fit) difference (omega arith) (omega arith) x_is parts in
+      let same : element_count ds ≡ element_count es = with_cell-count es j new inside in
+      let told : p ≡ pointer (slot_gap f c i) t = ap (λ (y : ℕ). list_pointer (slot_gap f c i) 7 (y * (w + k))) (sym same) in
+      let is : filled now after ≡ slotted d f c i (pointer (slot_gap f c i) t) n (body t) =
+      shifted ∙ sym (regrouped g.front (words_of w new.section) (links g.behind g.before new.kids) (cells (ef + to) w k (backs j es)) (element_bodies (fronts j es)) (bodies new.kids ++ g.back))
+      ∙ sym (with_element d f c i p n w k j es new inside) ∙ ap (λ (y : ℕ). slotted d f c i y n (body t)) told in
+      let new_fits : FitsCell w k new =
+      record { section = subst (λ (y : ℕ). new.section < 2 ^ (64 * y)) words h.stands.section; pointers = h.stands.pointers ∙ slots_are; each = h.stands.each } in
+      let fits_then : Fits t = (fits.0, fits.1, subst (λ (y : ℕ). y < 2 ^ 30) (sym same) fits.2, subst (λ (y : ℕ). y * (w + k) < 2 ^ 29) (sym same) fits.3, with_cell-fits w k es j new inside fit new_fits) in
+      let puts : PutsBehind put way w own new = subst (λ (y : ℕ). PutsBehind put way y own new) words h.puts in
+      record {
+        cell = put_child i t c;
+        puts = (t, subst (λ (u : Tree). InList (PutsBehind put way) j u t) (sym e) (ds, in_elements (PutsBehind put way w) es j new inside puts, refl), refl);
+        stands = moved area f c i t (filled count xs) count now after ys a m st l (filled_length xs count room) few short stays fits_then is at size move;
+      }
+
+  in_list : (t : Tree) → child c.kids i ≡ t → IsStructs list t → HasPut put (hops.Element i j ∷ way) area f c (filled now (take a after ++ (ys ++ drop m (drop a after))))
+  in_list null e h = absurd h
+  in_list (capability k) e h = absurd h
+  in_list (structure w s ts) e h = absurd h
+  in_list (plain_list y n s) e h = absurd h
+  in_list (pointer_list ts) e h = absurd h
+  in_list (struct_list w k es) e h = in_structs es (e ∙ ap (λ (y : ℕ). struct_list y k es) (sym h.1) ∙ ap (λ (y : ℕ). struct_list list.data_words y es) (sym h.2)) h.0
+
+pub element_put : (put : Put) (way : List Hop) (area inner : Area) (list : Structs) (f : Frame) (c : Cell) (i j p count now : ℕ) (xs mid after ys : List (List ℕ)) (a m : ℕ)
+    → StandsIn area f c (filled count xs) → i < area.pointers → area.at + area.data_words + area.pointers ≤ count → count ≤ length xs → count < 2 ^ 29 → now < 2 ^ 29 → now ≤ length mid → length after ≡ length mid
+    → a ≡ area.at + area.data_words + i + 1 → m ≡ area.at + area.data_words + area.pointers - a
+    → p ≡ from_le_bytes w64 (get_or xs (area.at + area.data_words + i) [])
+    → ((gap : ℕ) (t : Tree) (x r : List ℕ) → Fits t → gap < 2 ^ 30 → p ≡ pointer gap t → filled count xs ≡ x ++ (body t ++ r) → length x ≡ area.at + area.data_words + i + 1 + gap
+    → IsStructs list t × (list.first ≡ area.at + area.data_words + i + 1 + gap + 1))
+    → (j < list.count) × (inner.at ≡ list.first + j * (list.data_words + list.pointers)) × (inner.data_words ≡ list.data_words) × (inner.pointers ≡ list.pointers)
+    → ((g : Frame) (k : Cell) → StandsIn inner g k (filled count xs) → HasPut put way inner g k (filled now mid))
+    → MovesElements list j count now mid after
+    → Moves count now (take m (drop a after)) ys
+    → HasPut put (hops.Element i j ∷ way) area f c (filled now (take a after ++ (ys ++ drop m (drop a after))))
+element_put put way area inner list f c i j p count now xs mid after ys a m st l own room few short more same at size is leads element rec shift move =
+    let d : ℕ = area.data_words in
+    let n : ℕ = length (body (child c.kids i)) in
+    let q : ℕ = pointer (slot_gap f c i) (child c.kids i) in
+    let within : i < tree_count c.kids = (let e = st.pointers in omega arith) in
+    let word = pointer_there area f c i p count xs st l (omega arith) is in
+    let near = slot_near area f c (filled count xs) i st l (let e = filled_length xs count room in omega arith) in
+    let place = slot_place area f c (filled count xs) i st l in
+    let spelled : filled count xs ≡ (slot_front d f c i ++ q ∷ (slot_later f c i n ++ slot_between f c i)) ++ (body (child c.kids i) ++ slot_back f c i) =
+    st.spelled ∙ own_slot d f c i within ∙ split (slot_front d f c i) (slot_later f c i n) (slot_between f c i) (body (child c.kids i)) (slot_back f c i) q in
+    let long : length (slot_front d f c i ++ q ∷ (slot_later f c i n ++ slot_between f c i)) ≡ area.at + area.data_words + i + 1 + slot_gap f c i = (
+    let g = length-append (slot_front d f c i) (q ∷ (slot_later f c i n ++ slot_between f c i)) in
+    let h = length-append (slot_later f c i n) (slot_between f c i) in
+    let k = links_length (slots.backs i c.kids) f.behind (f.before + length (bodies (slots.fronts i c.kids)) + n) in
+    let o = length-append f.middle (bodies (slots.fronts i c.kids)) in
+    let b = st.between in
+    omega arith) in
+    let found = leads (slot_gap f c i) (child c.kids i) (slot_front d f c i ++ q ∷ (slot_later f c i n ++ slot_between f c i)) (slot_back f c i) (slots.child-fits c.kids i st.each) near word spelled long in
+    in_list put way area inner list f c i j count now xs mid after ys a m st l room few short more (omega arith) at size element.0 element.1 element.2 element.3 found.1 rec shift move (child c.kids i) refl found.0

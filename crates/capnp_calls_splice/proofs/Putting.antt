@@ -1,0 +1,221 @@
+-- What is put behind a pointer of a struct stands there.
+use Rattle.std.proofs.Common.{◌≡◌, ℕ, ◌+◌, ◌-◌, ◌^◌, ◌<◌, ◌≤◌, Option, Some, None, IfSome, List, [], ◌∷◌, ◌++◌, length, take, drop, get_or, set, refl, ap, sym, subst, ◌∙◌, append_assoc, length-append, arith}
+use Rattle.std.specs.Int.{from_le_bytes, w64}
+use Rattle.std.proofs.lemmas.List.{length-set, append-nil}
+use Rattle.capnp_model.specs.Sections.{words_of}
+use Rattle.capnp_model.specs.Trees.{Tree, null, capability, structure, plain_list, pointer_list, struct_list, Trees, tree_count, child}
+use Rattle.capnp_model.specs.Fits.{Fits, FitEach}
+use Rattle.capnp_model.specs.Encoding.{pointer, list_pointer, body, links, bodies, canonical_words}
+use Rattle.capnp_model.specs.Edits.{Cell, put_child}
+use Rattle.capnp_wire_canonical.specs.Writes.{words_view, filled}
+use Rattle.capnp_wire_canonical.proofs.lemmas.NearStructs.{same_pointer}
+use Rattle.capnp_model.proofs.lemmas.RoundTrip.{links_length}
+use Rattle.capnp_calls_splice.specs.Blobs.{tree_of_blob}
+use Rattle.capnp_calls_splice.specs.Splices.{IsPlainList, PutsBehind, InStruct, HasSpliced}
+use Rattle.capnp_calls_splice.specs.Cells.{Frame, StandsIn, HasPut, IsSizedStruct, FitsInOffsets}
+use Rattle.capnp_calls_splice.specs.declared.area.Area.{Area}
+use Rattle.capnp_calls_splice.specs.declared.area.Run.{Run}
+use Rattle.capnp_calls_splice.specs.declared.blob.Blob.{Blob}
+use Rattle.capnp_calls_splice.specs.declared.splice.Hop.{Hop}
+use Rattle.capnp_calls_splice.specs.declared.splice.Hop.TheVariants as hops
+use Rattle.capnp_calls_splice.specs.declared.splice.Put.{Put}
+use Rattle.capnp_calls_splice.specs.declared.splice.Put.TheVariants as puts
+use Rattle.capnp_calls_splice.specs.declared.splice.Splice.{Splice}
+use Rattle.capnp_calls_splice.proofs.Children.{fronts, backs, child-fits}
+use Rattle.capnp_calls_splice.proofs.Segmenting.{filled_length, word_is, word_put}
+use Rattle.capnp_calls_splice.proofs.Placing.{slot_front, slot_gap, slot_later, slot_between, slot_back, slotted, own_slot, slot_place, slot_near, moved, struct_frame, in_struct_frame, enters}
+
+-- The pointer at a place of the words.
+pub pointer_there : (area : Area) (f : Frame) (c : Cell) (i p count : ℕ) (xs : List (List ℕ)) → StandsIn area f c (filled count xs) → i < area.pointers → area.at + area.data_words + i < length xs
+    → p ≡ from_le_bytes w64 (get_or xs (area.at + area.data_words + i) []) → p ≡ pointer (slot_gap f c i) (child c.kids i)
+pointer_there area f c i p count xs st l inside is =
+    let d : ℕ = area.data_words in
+    let n : ℕ = length (body (child c.kids i)) in
+    let within : i < tree_count c.kids = (let e = st.pointers in omega arith) in
+    word_is xs count (area.at + d + i) p (pointer (slot_gap f c i) (child c.kids i)) (slot_front d f c i) (slot_later f c i n ++ (slot_between f c i ++ (body (child c.kids i) ++ slot_back f c i)))
+    (st.spelled ∙ own_slot d f c i within) (slot_place area f c (filled count xs) i st l) inside is
+
+-- Later pointers are moved with what they lead to.
+abbrev pub Moves : ℕ → ℕ → List (List ℕ) → List (List ℕ) → Type 0
+Moves count now old new = (behind before after : ℕ) (ts : Trees) → before + now ≡ after + count → FitsInOffsets behind before ts → FitsInOffsets behind after ts → FitEach ts → words_view old ≡ links behind before ts → words_view new ≡ links behind after ts
+
+-- ---- in the struct behind the pointer
+
+module _ (put : Put) (way : List Hop) (area inner : Area) (f : Frame) (c : Cell) (i count now : ℕ) (xs mid ys : List (List ℕ)) (a m : ℕ)
+    (st : StandsIn area f c (filled count xs)) (l : i < area.pointers) (room : count ≤ length xs) (few : count < 2 ^ 29) (short : now < 2 ^ 29) (more : now ≤ length mid)
+    (at : a ≡ area.at + area.data_words + i + 1) (size : m ≡ area.at + area.data_words + area.pointers - a)
+    (place : inner.at ≡ area.at + area.data_words + i + 1 + slot_gap f c i)
+    (rec : (g : Frame) (k : Cell) → StandsIn inner g k (filled count xs) → HasPut put way inner g k (filled now mid))
+    (move : Moves count now (take m (drop a mid)) ys) where
+  in_structure : (s : ℕ) (ts : Trees) → child c.kids i ≡ structure inner.data_words s ts → inner.pointers ≡ tree_count ts → HasPut put (hops.Pointer i ∷ way) area f c (filled now (take a mid ++ (ys ++ drop m (drop a mid))))
+  in_structure s ts e pointers =
+      let d : ℕ = area.data_words in
+      let w : ℕ = inner.data_words in
+      let n : ℕ = length (body (child c.kids i)) in
+      let p : ℕ = pointer (slot_gap f c i) (structure w s ts) in
+      let h = rec (struct_frame d f c i p n) (record { section = s; kids = ts }) (enters area inner f c i s ts (filled count xs) st l e pointers place) in
+      let new : Cell = h.cell in
+      let t : Tree = structure w new.section new.kids in
+      let same : tree_count ts ≡ tree_count new.kids = sym pointers ∙ sym h.stands.pointers in
+      let told : p ≡ pointer (slot_gap f c i) t = same_pointer (slot_gap f c i) w s new.section ts new.kids same in
+      let fits : Fits (structure w s ts) = subst Fits e (child-fits c.kids i st.each) in
+      let fit : Fits t = (fits.0, subst (λ (k : ℕ). k < 2 ^ 16) same fits.1, h.stands.section, h.stands.each) in
+      let is : filled now mid ≡ slotted d f c i (pointer (slot_gap f c i) t) n (body t) =
+      h.stands.spelled ∙ sym (in_struct_frame d w new.section new.kids f c i p n) ∙ ap (λ (q : ℕ). slotted d f c i q n (body t)) told in
+      record {
+        cell = put_child i t c;
+        puts = (t, subst (λ (u : Tree). InStruct (PutsBehind put way) u t) (sym e) (new, h.puts, refl), refl);
+        stands = moved area f c i t (filled count xs) count now mid ys a m st l (filled_length xs count room) few short more fit is at size move;
+      }
+
+  behind : (t : Tree) → child c.kids i ≡ t → IsSizedStruct inner t → HasPut put (hops.Pointer i ∷ way) area f c (filled now (take a mid ++ (ys ++ drop m (drop a mid))))
+  behind null e h = absurd h
+  behind (capability k) e h = absurd h
+  behind (structure w s ts) e h = in_structure s ts (e ∙ ap (λ (k : ℕ). structure k s ts) (sym h.0)) h.1
+  behind (plain_list z n s) e h = absurd h
+  behind (pointer_list ts) e h = absurd h
+  behind (struct_list d k es) e h = absurd h
+
+pub pointer_put : (put : Put) (way : List Hop) (area inner : Area) (f : Frame) (c : Cell) (i p count now : ℕ) (xs mid ys : List (List ℕ)) (a m : ℕ)
+    → StandsIn area f c (filled count xs) → i < area.pointers → area.at + area.data_words + area.pointers ≤ count → count ≤ length xs → count < 2 ^ 29 → now < 2 ^ 29 → now ≤ length mid
+    → a ≡ area.at + area.data_words + i + 1 → m ≡ area.at + area.data_words + area.pointers - a
+    → p ≡ from_le_bytes w64 (get_or xs (area.at + area.data_words + i) [])
+    → ((gap : ℕ) (t : Tree) → Fits t → gap < 2 ^ 30 → p ≡ pointer gap t → IsSizedStruct inner t × (inner.at ≡ area.at + area.data_words + i + 1 + gap))
+    → ((g : Frame) (k : Cell) → StandsIn inner g k (filled count xs) → HasPut put way inner g k (filled now mid))
+    → Moves count now (take m (drop a mid)) ys
+    → HasPut put (hops.Pointer i ∷ way) area f c (filled now (take a mid ++ (ys ++ drop m (drop a mid))))
+pointer_put put way area inner f c i p count now xs mid ys a m st l own room few short more at size is leads rec move =
+    let word = pointer_there area f c i p count xs st l (omega arith) is in
+    let near = slot_near area f c (filled count xs) i st l (let e = filled_length xs count room in omega arith) in
+    let found = leads (slot_gap f c i) (child c.kids i) (child-fits c.kids i st.each) near word in
+    behind put way area inner f c i count now xs mid ys a m st l room few short more at size found.1 rec move (child c.kids i) refl found.0
+
+-- ---- bytes in place of the list behind the pointer
+
+pub regrouped : (x l m t q : List ℕ) (p : ℕ) → x ++ p ∷ (l ++ (m ++ (t ++ q))) ≡ (x ++ p ∷ (l ++ m)) ++ (t ++ q)
+regrouped x l m t q p = simp append_assoc
+
+module _ (b : Blob) (area : Area) (f : Frame) (c : Cell) (i p v count now : ℕ) (bytes : List ℕ) (run : Run) (xs mid ys : List (List ℕ)) (a m : ℕ)
+    (st : StandsIn area f c (filled count xs)) (l : i < area.pointers) (room : count ≤ length xs) (few : count < 2 ^ 29) (short : now < 2 ^ 29) (more : now ≤ length mid)
+    (at : a ≡ area.at + area.data_words + i + 1) (size : m ≡ area.at + area.data_words + area.pointers - a)
+    (word : p ≡ pointer (slot_gap f c i) (child c.kids i)) (near : slot_gap f c i < 2 ^ 30)
+    (start : run.start ≡ area.at + area.data_words + i + 1 + slot_gap f c i) (len : run.len ≡ length (body (child c.kids i)))
+    (replaces : (x l r : List ℕ) → filled count xs ≡ x ++ (l ++ r) → length x ≡ run.start → length l ≡ run.len → filled now mid ≡ x ++ (words_view b.words.items ++ r))
+    (points : (gap size n : ℕ) → gap < 2 ^ 30 → p ≡ list_pointer gap size n → v ≡ list_pointer gap 2 b.len)
+    (spells : from_le_bytes w64 bytes ≡ v)
+    (move : Moves count now (take m (drop a (set mid (area.at + area.data_words + i) bytes))) ys) where
+  in_bytes : (z n s : ℕ) → child c.kids i ≡ plain_list z n s
+      → HasPut (puts.Blob i b) [] area f c (filled now (take a (set mid (area.at + area.data_words + i) bytes) ++ (ys ++ drop m (drop a (set mid (area.at + area.data_words + i) bytes)))))
+  in_bytes z n s e =
+      let d : ℕ = area.data_words in
+      let slot : ℕ = area.at + area.data_words + i in
+      let old : ℕ = length (body (child c.kids i)) in
+      let t : Tree = tree_of_blob b in
+      let within : i < tree_count c.kids = (let g = st.pointers in omega arith) in
+      let x : List ℕ = slot_front d f c i in
+      let later : List ℕ = slot_later f c i old in
+      let mids : List ℕ = slot_between f c i in
+      let place = slot_place area f c (filled count xs) i st l in
+      let front : length (slot_front d f c i ++ p ∷ (slot_later f c i old ++ slot_between f c i)) ≡ run.start = (
+      let g = length-append (slot_front d f c i) (p ∷ (slot_later f c i old ++ slot_between f c i)) in
+      let h = length-append (slot_later f c i old) (slot_between f c i) in
+      let k = links_length (backs i c.kids) f.behind (f.before + length (bodies (fronts i c.kids)) + old) in
+      let j = length-append f.middle (bodies (fronts i c.kids)) in
+      let o = st.between in
+      omega arith) in
+      let spelled : filled count xs ≡ (slot_front d f c i ++ p ∷ (slot_later f c i old ++ slot_between f c i)) ++ (body (child c.kids i) ++ slot_back f c i) =
+      st.spelled ∙ own_slot d f c i within ∙ ap (λ (q : ℕ). slotted d f c i q old (body (child c.kids i))) (sym word) ∙ regrouped (slot_front d f c i) (slot_later f c i old) (slot_between f c i) (body (child c.kids i)) (slot_back f c i) p in
+      let put : filled now mid ≡ slot_front d f c i ++ p ∷ (slot_later f c i old ++ (slot_between f c i ++ (words_view b.words.items ++ slot_back f c i))) =
+      replaces (slot_front d f c i ++ p ∷ (slot_later f c i old ++ slot_between f c i)) (body (child c.kids i)) (slot_back f c i) spelled front (sym len)
+      ∙ sym (regrouped (slot_front d f c i) (slot_later f c i old) (slot_between f c i) (words_view b.words.items) (slot_back f c i) p) in
+      let told : v ≡ pointer (slot_gap f c i) t = points (slot_gap f c i) z n near (word ∙ ap (pointer (slot_gap f c i)) e) in
+      let pointed : filled now (set mid slot bytes) ≡ slot_front d f c i ++ v ∷ (slot_later f c i old ++ (slot_between f c i ++ (words_view b.words.items ++ slot_back f c i))) =
+      word_put mid now slot p v bytes (slot_front d f c i) (slot_later f c i old ++ (slot_between f c i ++ (words_view b.words.items ++ slot_back f c i))) more put place spells in
+      let is : filled now (set mid slot bytes) ≡ slotted d f c i (pointer (slot_gap f c i) t) old (body t) =
+      pointed ∙ ap (λ (q : ℕ). slotted d f c i q old (words_view b.words.items)) told ∙ ap (slotted d f c i (pointer (slot_gap f c i) t) old) (sym b.spelled) in
+      let fit : Fits t = (omega arith, b.few, b.fits) in
+      record {
+        cell = put_child i t c;
+        puts = (subst IsPlainList (sym e) tt, refl);
+        stands = moved area f c i t (filled count xs) count now (set mid slot bytes) ys a m st l (filled_length xs count room) few short (let g = length-set mid slot bytes in omega arith) fit is at size move;
+      }
+
+  in_list : (t : Tree) → child c.kids i ≡ t → IsPlainList t
+      → HasPut (puts.Blob i b) [] area f c (filled now (take a (set mid (area.at + area.data_words + i) bytes) ++ (ys ++ drop m (drop a (set mid (area.at + area.data_words + i) bytes)))))
+  in_list null e h = absurd h
+  in_list (capability k) e h = absurd h
+  in_list (structure w s ts) e h = absurd h
+  in_list (plain_list z n s) e h = in_bytes z n s e
+  in_list (pointer_list ts) e h = absurd h
+  in_list (struct_list d k es) e h = absurd h
+
+pub blob_put : (b : Blob) (area : Area) (f : Frame) (c : Cell) (i p v count now : ℕ) (bytes : List ℕ) (run : Run) (xs mid ys : List (List ℕ)) (a m : ℕ)
+    → StandsIn area f c (filled count xs) → i < area.pointers → area.at + area.data_words + area.pointers ≤ count → count ≤ length xs → count < 2 ^ 29 → now < 2 ^ 29 → now ≤ length mid
+    → a ≡ area.at + area.data_words + i + 1 → m ≡ area.at + area.data_words + area.pointers - a
+    → p ≡ from_le_bytes w64 (get_or xs (area.at + area.data_words + i) [])
+    → ((gap : ℕ) (t : Tree) → Fits t → gap < 2 ^ 30 → p ≡ pointer gap t → IsPlainList t × (run.start ≡ area.at + area.data_words + i + 1 + gap) × (run.len ≡ length (body t)))
+    → ((x l r : List ℕ) → filled count xs ≡ x ++ (l ++ r) → length x ≡ run.start → length l ≡ run.len → filled now mid ≡ x ++ (words_view b.words.items ++ r))
+    → ((gap size n : ℕ) → gap < 2 ^ 30 → p ≡ list_pointer gap size n → v ≡ list_pointer gap 2 b.len)
+    → from_le_bytes w64 bytes ≡ v
+    → Moves count now (take m (drop a (set mid (area.at + area.data_words + i) bytes))) ys
+    → HasPut (puts.Blob i b) [] area f c (filled now (take a (set mid (area.at + area.data_words + i) bytes) ++ (ys ++ drop m (drop a (set mid (area.at + area.data_words + i) bytes)))))
+blob_put b area f c i p v count now bytes run xs mid ys a m st l own room few short more at size is leads replaces points spells move =
+    let word = pointer_there area f c i p count xs st l (omega arith) is in
+    let near = slot_near area f c (filled count xs) i st l (let e = filled_length xs count room in omega arith) in
+    let found = leads (slot_gap f c i) (child c.kids i) (child-fits c.kids i st.each) near word in
+    in_list b area f c i p v count now bytes run xs mid ys a m st l room few short more at size word near found.1 found.2 replaces points spells move (child c.kids i) refl found.0
+
+-- ---- at the root
+
+nothing_behind : (p : ℕ) (w k b : List ℕ) → p ∷ (w ++ (k ++ b)) ≡ (p ∷ []) ++ (w ++ (k ++ ([] ++ (b ++ []))))
+nothing_behind p w k b = simp append-nil
+
+module _ (p : Splice) (inner : Area) (count now : ℕ) (xs new : List (List ℕ)) (at : inner.at ≡ 1)
+    (rec : (g : Frame) (k : Cell) → StandsIn inner g k (filled count xs) → HasPut p.put p.hops.items inner g k (filled now new)) where
+  abbrev root_frame : ℕ → Frame
+  root_frame w = record { front = w ∷ []; middle = []; back = []; behind = 0; before = 0 }
+
+  at_structure : (s : ℕ) (ts : Trees) → Fits (structure inner.data_words s ts) → inner.pointers ≡ tree_count ts → filled count xs ≡ canonical_words (structure inner.data_words s ts) → HasSpliced p (structure inner.data_words s ts) (filled now new)
+  unfolding canonical_words
+  at_structure s ts fits pointers e =
+      let w : ℕ = inner.data_words in
+      let word : ℕ = pointer 0 (structure w s ts) in
+      let h = rec (root_frame word) (record { section = s; kids = ts })
+      (record { place = sym at; between = refl; spelled = e ∙ nothing_behind word (words_of w s) (links 0 0 ts) (bodies ts); section = fits.2; pointers = sym pointers; each = fits.3 }) in
+      let cell : Cell = h.cell in
+      let same : tree_count ts ≡ tree_count cell.kids = sym pointers ∙ sym h.stands.pointers in
+      let told : word ≡ pointer 0 (structure w cell.section cell.kids) = same_pointer 0 w s cell.section ts cell.kids same in
+      record {
+        value = structure w cell.section cell.kids;
+        spliced = (cell, h.puts, refl);
+        fits = (fits.0, subst (λ (k : ℕ). k < 2 ^ 16) same fits.1, h.stands.section, h.stands.each);
+        spelled = h.stands.spelled ∙ sym (nothing_behind word (words_of w cell.section) (links 0 0 cell.kids) (bodies cell.kids)) ∙ ap (λ (q : ℕ). q ∷ body (structure w cell.section cell.kids)) told;
+      }
+
+  at_root : (t : Tree) → Fits t → IsSizedStruct inner t → filled count xs ≡ canonical_words t → HasSpliced p t (filled now new)
+  at_root null f h e = absurd h
+  at_root (capability k) f h e = absurd h
+  at_root (structure w s ts) f h e =
+      subst (λ (k : ℕ). HasSpliced p (structure k s ts) (filled now new)) h.0
+      (at_structure s ts (subst (λ (k : ℕ). Fits (structure k s ts)) (sym h.0) f) h.1 (e ∙ ap (λ (k : ℕ). canonical_words (structure k s ts)) (sym h.0)))
+  at_root (plain_list z n s) f h e = absurd h
+  at_root (pointer_list ts) f h e = absurd h
+  at_root (struct_list d k es) f h e = absurd h
+
+pub root_put : (p : Splice) (t : Tree) (inner : Area) (w count now : ℕ) (xs new : List (List ℕ)) → Fits t → filled count xs ≡ canonical_words t → 0 < length xs → w ≡ from_le_bytes w64 (get_or xs 0 [])
+    → ((gap : ℕ) (t : Tree) → Fits t → gap < 2 ^ 30 → w ≡ pointer gap t → IsSizedStruct inner t × (inner.at ≡ 1 + gap))
+    → ((g : Frame) (k : Cell) → StandsIn inner g k (filled count xs) → HasPut p.put p.hops.items inner g k (filled now new))
+    → HasSpliced p t (filled now new)
+unfolding canonical_words
+root_put p t inner w count now xs new f e some is leads rec =
+    let word : w ≡ pointer 0 t = word_is xs count 0 w (pointer 0 t) [] (body t) e refl some is in
+    let found = leads 0 t f (omega arith) word in
+    at_root p inner count now xs new (found.1 ∙ omega arith) rec t f found.0 e
+
+pub root_found : (p : Splice) (t : Tree) (inner : Area) (w count : ℕ) (xs new : List (List ℕ)) (way : List Hop) (found : Option ℕ) → Fits t → filled count xs ≡ canonical_words t → 0 < length xs → w ≡ from_le_bytes w64 (get_or xs 0 [])
+    → ((gap : ℕ) (t : Tree) → Fits t → gap < 2 ^ 30 → w ≡ pointer gap t → IsSizedStruct inner t × (inner.at ≡ 1 + gap)) → way ≡ p.hops.items
+    → ((g : Frame) (k : Cell) → StandsIn inner g k (filled count xs) → IfSome found (λ n. HasPut p.put way inner g k (filled n new)))
+    → IfSome found (λ n. HasSpliced p t (filled n new))
+root_found p t inner w count xs new way None f e some is leads same rec = tt
+root_found p t inner w count xs new way (Some n) f e some is leads same rec =
+    root_put p t inner w count n xs new f e some is leads (λ g k st. subst (λ (hs : List Hop). HasPut p.put hs inner g k (filled n new)) same (rec g k st))

@@ -1,0 +1,81 @@
+-- Where structs and elements stand among canonical words. (Encoding, "Structs" and "Lists")
+use Rattle.std.specs.Prelude.{◌≡◌, ℕ, ◌+◌, ◌*◌, ◌%◌, ◌^◌, ◌<◌, ◌≤◌, Bool, ◌||◌, nat_eq, if◌then◌else◌, List, ◌++◌, length}
+use Rattle.capnp_model.specs.Sections.{words_of}
+use Rattle.capnp_model.specs.Trees.{Tree, Trees, Elements, structure, struct_list, element_count, tree_count}
+use Rattle.capnp_model.specs.Fits.{FitEach, FitElements}
+use Rattle.capnp_model.specs.Encoding.{links, bodies, cells, element_bodies}
+use Rattle.capnp_model.specs.Edits.{Cell}
+use Rattle.capnp_wire_canonical.specs.Writes.{filled}
+use Rattle.capnp_calls_splice.specs.Splices.{PutsBehind}
+use Rattle.capnp_calls_splice.specs.declared.area.Area.{Area}
+use Rattle.capnp_calls_splice.specs.declared.area.Structs.{Structs}
+use Rattle.capnp_calls_splice.specs.declared.splice.Hop.{Hop}
+use Rattle.capnp_calls_splice.specs.declared.splice.Put.{Put}
+
+-- The words around a cell: those before its data, those between its pointers and what they lead to,
+-- and those behind that. Of those between, n belong to the cell's object, and m to targets before
+-- the cell's.
+pub record Frame : Type 0 where
+  pub front : List ℕ
+  pub middle : List ℕ
+  pub back : List ℕ
+  pub behind : ℕ
+  pub before : ℕ
+
+-- The words with a cell of n data words in the frame.
+abbrev pub framed : ℕ → Frame → Cell → List ℕ
+framed d f c = f.front ++ (words_of d c.section ++ (links f.behind f.before c.kids ++ (f.middle ++ (bodies c.kids ++ f.back))))
+
+-- A cell stands in a frame.
+pub record StandsIn (area : Area) (f : Frame) (c : Cell) (words : List ℕ) : Type 0 where
+  pub place : length f.front ≡ area.at
+  pub between : length f.middle ≡ f.behind + f.before
+  pub spelled : words ≡ framed area.data_words f c
+  pub section : c.section < 2 ^ (64 * area.data_words)
+  pub pointers : tree_count c.kids ≡ area.pointers
+  pub each : FitEach c.kids
+
+-- It stands there after something was put behind hops.
+pub record HasPut (put : Put) (way : List Hop) (area : Area) (f : Frame) (old : Cell) (words : List ℕ) : Type 0 where
+  pub cell : Cell
+  pub puts : PutsBehind put way area.data_words old cell
+  pub stands : StandsIn area f cell words
+
+-- An area's own words are among n, which are those of a message.
+pub record IsAreaInside (area : Area) (count : ℕ) (words : List (List ℕ)) : Type 0 where
+  pub own : area.at + area.data_words + area.pointers ≤ count
+  pub few : count < 2 ^ 29
+  pub inside : count ≤ length words
+
+-- The value is a struct of these sizes.
+abbrev pub IsSizedStruct : Area → Tree → Type 0
+IsSizedStruct a (structure words section kids) = (a.data_words ≡ words) × (a.pointers ≡ tree_count kids)
+IsSizedStruct a _ = ⊥
+
+-- What such a word tells doesn't lie behind it, or doesn't lie at all: null, the empty struct's pointer and a capability.
+abbrev pub is_fixed : ℕ → Bool
+is_fixed w = nat_eq w 0 || (nat_eq (w % 4) 3 || nat_eq w 0xffff_fffc)
+
+-- A pointer's word, with so much more.
+abbrev pub shifted : ℕ → ℕ → ℕ
+shifted by w = if is_fixed w then w else (w + by) % 2 ^ 64
+
+-- What pointers in a row lead to lies in a message.
+abbrev pub FitsInOffsets : ℕ → ℕ → Trees → Type 0
+FitsInOffsets behind before ts = tree_count ts + behind + before + length (bodies ts) < 2 ^ 30
+
+-- What the pointers of elements lead to lies in a message.
+abbrev pub AreNear : ℕ → ℕ → ℕ → Elements → Type 0
+AreNear before d k es = element_count es * (d + k) + before + length (element_bodies es) < 2 ^ 30
+
+-- The value is a list of n structs of these sizes.
+abbrev pub IsStructs : Structs → Tree → Type 0
+IsStructs l (struct_list words pointers es) = (l.count ≡ element_count es) × (l.data_words ≡ words) × (l.pointers ≡ pointers)
+IsStructs l _ = ⊥
+
+-- What the pointers of the elements behind one lead to is moved, as a message of n words gets m.
+abbrev pub MovesElements : Structs → ℕ → ℕ → ℕ → List (List ℕ) → List (List ℕ) → Type 0
+MovesElements list index old new from to = (n before after : ℕ) (es : Elements) (x r : List ℕ) → n ≤ length from → element_count es + (index + 1) ≡ list.count → FitElements list.data_words list.pointers es
+    → before + new ≡ after + old → AreNear before list.data_words list.pointers es → AreNear after list.data_words list.pointers es
+    → length x ≡ list.first + (index + 1) * (list.data_words + list.pointers)
+    → filled n from ≡ x ++ (cells before list.data_words list.pointers es ++ r) → filled n to ≡ x ++ (cells after list.data_words list.pointers es ++ r)

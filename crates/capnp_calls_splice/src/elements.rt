@@ -1,0 +1,100 @@
+//! Elements of lists of structs among canonical words.
+ghost use Rattle.std.specs.Prelude.{◌≡◌, ℕ, ◌+◌, ◌*◌, ◌/◌, ◌%◌, ◌^◌, ◌<◌, ◌≤◌, List, ◌++◌, length, IfSome};
+ghost use Rattle.capnp_model.specs.Trees.{Tree, Elements, element_count};
+ghost use Rattle.capnp_model.specs.Fits.{Fits, FitElements};
+ghost use Rattle.capnp_model.specs.Encoding.{pointer, body, cells};
+ghost use Rattle.capnp_wire_canonical.specs.Writes.{words_view, filled};
+ghost use Rattle.capnp_calls_splice.specs.Cells.{IsStructs, AreNear, MovesElements};
+
+use crate::area::{Area, Structs};
+use crate::pointers::{gap_of, shift_all};
+use capnp_units::sizes::Word;
+
+/// The elements of the list of structs that a pointer leads to, whose words end there; `None` where
+/// it leads to none, or past n words.
+pub(crate) fn structs_behind(words: &[Word], count: usize, word: u64, end: usize) -> Option<Structs>
+    requires { (end ≤ count) × (count ≤ length words.now) × (count < 2 ^ 29) }
+    ensures behind { (gap : ℕ) (t : Tree) (x r : List ℕ) → Fits t → gap < 2 ^ 30
+        → word ≡ pointer gap t → filled count words.now ≡ x ++ (body t ++ r)
+        → length x ≡ end + gap → IfSome result (λ l. IsStructs l t × (l.first ≡ end + gap + 1)) }
+    ensures within { IfSome result (λ l. (end < l.first)
+        × (l.first + l.count * (l.data_words + l.pointers) ≤ count)
+        × (l.data_words + l.pointers < 2 ^ 17)) }
+{
+    let start = end + gap_of(word);
+    if word % 4 != 1 || (word >> 32) % 8 != 7 || start >= count {
+        return None;
+    }
+    let tag = u64::from_le_bytes(words[start]);
+    let list = Structs {
+        first: start + 1,
+        count: gap_of(tag),
+        data_words: ((tag >> 32) % 0x1_0000) as usize,
+        pointers: (tag >> 48) as usize,
+    };
+    if list.first + list.count * (list.data_words + list.pointers) > count {
+        return None;
+    }
+    Some(list)
+}
+
+/// An element of a list of structs; `None` where the list has no such index.
+#[inline]
+pub(crate) fn element_at(list: Structs, index: u32) -> Option<Area>
+    requires { list.first + list.count * (list.data_words + list.pointers) < 2 ^ 29 }
+    ensures place { IfSome result (λ a. (index < list.count)
+        × (a.at ≡ list.first + index * (list.data_words + list.pointers))
+        × (a.data_words ≡ list.data_words) × (a.pointers ≡ list.pointers)) }
+    ensures within { IfSome result (λ a. a.at + a.data_words + a.pointers
+        ≤ list.first + list.count * (list.data_words + list.pointers)) }
+{
+    if index as usize >= list.count {
+        return None;
+    }
+    Some(Area {
+        at: list.first + index as usize * (list.data_words + list.pointers),
+        data_words: list.data_words,
+        pointers: list.pointers,
+    })
+}
+
+/// Moves what the pointers of n elements in a row lead to, as `move_pointers` does.
+fn move_cells(slice: &mut [Word], list: Structs, count: usize, old: usize, new: usize)
+    requires len { length slice.old ≡ count * (list.data_words + list.pointers) }
+    requires width { list.data_words + list.pointers < 2 ^ 17 }
+    requires few { (old < 2 ^ 29) × (new < 2 ^ 29) }
+    ensures moved { (before after : ℕ) (es : Elements) → element_count es ≡ count
+        → before + new ≡ after + old → AreNear before list.data_words list.pointers es
+        → AreNear after list.data_words list.pointers es
+        → FitElements list.data_words list.pointers es
+        → words_view slice.old ≡ cells before list.data_words list.pointers es
+        → words_view slice.new ≡ cells after list.data_words list.pointers es }
+    ensures len { length slice.new ≡ length slice.old }
+{
+    if old == new {
+        return;
+    }
+    let by = (4 * new as u64).wrapping_sub(4 * old as u64);
+    let width = list.data_words + list.pointers;
+    for i in 0..count {
+        let at = i * width + list.data_words;
+        shift_all(&mut slice[at..at + list.pointers], by);
+    }
+}
+
+/// Moves what the pointers of the elements behind one of a list lead to, where they stand among
+/// words.
+pub(crate) fn move_elements(words: &mut [Word], list: Structs, index: u32, old: usize, new: usize)
+    requires index { index < list.count }
+    requires inside { list.first + list.count * (list.data_words + list.pointers)
+        ≤ length words.old }
+    requires width { list.data_words + list.pointers < 2 ^ 17 }
+    requires few { (old < 2 ^ 29) × (new < 2 ^ 29) }
+    ensures moved { MovesElements list index old new words.old words.new }
+    ensures len { length words.new ≡ length words.old }
+{
+    let width = list.data_words + list.pointers;
+    let behind = index as usize + 1;
+    let later = &mut words[list.first + behind * width..list.first + list.count * width];
+    move_cells(later, list, list.count - behind, old, new);
+}

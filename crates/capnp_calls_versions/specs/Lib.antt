@@ -1,0 +1,14 @@
+pub mod Pairs
+pub mod Types
+pub mod Defaults
+pub mod Holders
+pub mod Renamings
+pub mod Renamed
+pub mod Walks
+pub mod Faults
+pub mod Ways
+pub mod Roots
+pub mod DueFields
+pub mod SlotParts
+pub mod Breaks
+pub mod AllBreaks

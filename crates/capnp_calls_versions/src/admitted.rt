@@ -1,0 +1,304 @@
+//! Admitted calls.
+
+ghost use Rattle.std.specs.Prelude.{◌≡◌, List, map, option_map, IfOk, IfErr};
+ghost use Rattle.capnp_model.specs.Schemas.{struct, id_of_shape, type_of};
+ghost use Rattle.capnp_model.specs.Printing.{fields_in};
+ghost use Rattle.capnp_model.specs.Calls.{Step as ModelStep, Verb as ModelVerb};
+ghost use Rattle.capnp_model.specs.Admitted.{at_body, is_admitted_end, into_fields, into_type, into_at, is_admitted_with};
+ghost use Rattle.capnp_units.specs.declared.kinds.ErrorKind.TheVariants.{OutOfMemory};
+ghost use Rattle.capnp_records.specs.NodeViews.{type_record_of};
+ghost use Rattle.capnp_calls.specs.CallViews.{step_view, call_view};
+ghost use Rattle.capnp_calls_versions.specs.Holders.{held_schema};
+ghost use Rattle.capnp_calls_versions.specs.Walks.{older_body, newer_body};
+ghost use Rattle.capnp_calls_versions.specs.Roots.{is_admitted_at, is_admitted_with_at};
+ghost use Rattle.capnp_calls_versions.specs.Renamed.{names_in, renamings_of};
+ghost use Rattle.capnp_calls_versions.specs.declared.keeps.Versions.{Versions};
+ghost use Rattle.capnp_calls_versions.specs.Ways.{struct_id_in, element_in, older_shape, newer_shape, at_seen, goes_on, next_seen, writes_group, sets, IsAdmissionOf};
+
+use crate::compatible::versions;
+use crate::extended::is_extended;
+use crate::keeps::{Levels, Versions};
+use crate::renamings::Renamings;
+use crate::root::Root;
+use capnp_calls::{Call, Step, Verb};
+use capnp_records::node::{BaseType, FieldBody, TypeRecord};
+use capnp_units::errors::Result;
+use std::alloc::Global;
+
+/// Whether calls are admitted.
+#[derive(Clone, Copy, PartialEq, Eq, Debug)]
+pub enum Admission {
+    Admitted,
+    /// The first call that is not, counted from 1.
+    Refused(usize),
+}
+
+/// Where the walk along a path stands.
+#[derive(Clone, Copy)]
+enum At {
+    /// at a group of both versions, n levels above the last
+    Group {
+        levels: Levels,
+        older: u64,
+        newer: u64,
+    },
+    /// at a slot of both versions
+    Slot {
+        older: TypeRecord,
+        newer: TypeRecord,
+    },
+    /// at an element of a list of both versions
+    Element {
+        older: TypeRecord,
+        newer: TypeRecord,
+    },
+    /// at nothing that a step fits
+    Nowhere,
+}
+
+/// What a step leads to.
+#[derive(Clone, Copy)]
+enum Next {
+    /// The older version has no field of the name.
+    Unknown,
+    /// The step does not fit: nothing behind it is looked at.
+    Unfit,
+    To(At),
+}
+
+/// At a field of both versions.
+fn at_fields(levels: Levels, older: &FieldBody, newer: &FieldBody) -> At
+    ensures { (v : Versions) (path : List ModelStep) (verb : ModelVerb)
+        → goes_on v path verb
+        (at_body (older_body v levels older.now) (newer_body v levels newer.now))
+        ≡ goes_on v path verb (at_seen v result) }
+{
+    match older {
+        FieldBody::Slot { ty, .. } => match newer {
+            FieldBody::Slot { ty: other, .. } => At::Slot {
+                older: *ty,
+                newer: *other,
+            },
+            FieldBody::Group { .. } => At::Nowhere,
+        },
+        FieldBody::Group { node } => match newer {
+            FieldBody::Slot { .. } => At::Nowhere,
+            FieldBody::Group { node: other } => At::Group {
+                levels,
+                older: *node,
+                newer: *other,
+            },
+        },
+    }
+}
+
+/// Where a name leads from a struct or a group.
+fn into_fields(versions: &Versions<'_>, levels: Levels, older: u64, newer: u64, name: &str) -> Next
+    ensures { (path : List ModelStep) (verb : ModelVerb) → into_fields (names_in versions.now.names)
+        (id_of_shape (older_shape versions.now levels older)) name.now
+        (fields_in (older_shape versions.now levels older))
+        (fields_in (newer_shape versions.now levels newer)) (goes_on versions.now path verb)
+        ≡ next_seen versions.now result path verb }
+{
+    let a = versions.older.holder(levels.older, older);
+    let b = versions.newer.holder(levels.newer, newer);
+    let below = Levels {
+        older: levels.older.saturating_sub(1),
+        newer: levels.newer.saturating_sub(1),
+    };
+    let Some(field) = a.field(name) else {
+        return Next::Unknown;
+    };
+    match b.field(versions.names.partner(a.id, name)) {
+        None => Next::To(At::Nowhere),
+        Some(other) => Next::To(at_fields(below, &field.body, &other.body)),
+    }
+}
+
+/// The struct that a type names.
+fn struct_id(ty: TypeRecord) -> Option<u64>
+    ensures { result ≡ struct_id_in (type_of (type_record_of ty)) }
+{
+    if ty.list_count > 0 {
+        return None;
+    }
+    match ty.base {
+        BaseType::Struct(id) => Some(id),
+        _ => None,
+    }
+}
+
+/// The type of a list's elements.
+fn element_of(ty: TypeRecord) -> Option<TypeRecord>
+    ensures { option_map (λ t. type_of (type_record_of t)) result
+        ≡ element_in (type_of (type_record_of ty)) }
+{
+    if ty.list_count == 0 {
+        return None;
+    }
+    Some(TypeRecord {
+        list_count: ty.list_count - 1,
+        base: ty.base,
+    })
+}
+
+/// Where a step leads behind a pointer of a type.
+fn into_type(versions: &Versions<'_>, step: &Step, older: TypeRecord, newer: TypeRecord) -> Next
+    ensures { (path : List ModelStep) (verb : ModelVerb)
+        → into_type (names_in versions.now.names) (held_schema versions.now.older)
+        (held_schema versions.now.newer) (step_view step.now) (type_of (type_record_of older)) (type_of (type_record_of newer))
+        (goes_on versions.now path verb) ≡ next_seen versions.now result path verb }
+{
+    match step {
+        Step::Name(name) => {
+            let Some(id) = struct_id(older) else {
+                return Next::Unfit;
+            };
+            let Some(other) = struct_id(newer) else {
+                return Next::Unfit;
+            };
+            into_fields(versions, versions.levels(), id, other, name.as_str())
+        }
+        Step::Index(_) => {
+            let Some(element) = element_of(older) else {
+                return Next::Unfit;
+            };
+            let Some(other) = element_of(newer) else {
+                return Next::Unfit;
+            };
+            Next::To(At::Element {
+                older: element,
+                newer: other,
+            })
+        }
+    }
+}
+
+/// Where a step leads.
+fn into_at(versions: &Versions<'_>, step: &Step, at: At) -> Next
+    ensures { (path : List ModelStep) (verb : ModelVerb)
+        → into_at (names_in versions.now.names) (held_schema versions.now.older)
+        (held_schema versions.now.newer) (step_view step.now) (at_seen versions.now at) (goes_on versions.now path verb)
+        ≡ next_seen versions.now result path verb }
+{
+    match at {
+        At::Group {
+            levels,
+            older,
+            newer,
+        } => match step {
+            Step::Name(name) => into_fields(versions, levels, older, newer, name.as_str()),
+            Step::Index(_) => Next::Unfit,
+        },
+        At::Slot { older, newer } => into_type(versions, step, older, newer),
+        At::Element { older, newer } => into_type(versions, step, older, newer),
+        At::Nowhere => Next::Unfit,
+    }
+}
+
+/// Whether the verb writes a group as a whole.
+fn is_group_write(verb: Verb) -> bool
+    ensures { result ≡ writes_group verb }
+{
+    matches!(verb, Verb::Set | Verb::Init | Verb::Clear)
+}
+
+fn is_set(verb: Verb) -> bool
+    ensures { result ≡ sets verb }
+{
+    matches!(verb, Verb::Set)
+}
+
+/// Whether a call that ends here is admitted.
+fn is_admitted_end(versions: &Versions<'_>, call: &Call, at: At) -> bool
+    ensures { result ≡ is_admitted_end (names_in versions.now.names) (call_view call.now).verb
+        (at_seen versions.now at) }
+{
+    match at {
+        At::Group {
+            levels,
+            older,
+            newer,
+        } => {
+            if !is_group_write(call.verb()) {
+                return true;
+            }
+            !is_extended(versions, levels, older, newer)
+        }
+        At::Element { older, .. } => !is_set(call.verb()) || struct_id(older).is_none(),
+        At::Slot { .. } | At::Nowhere => true,
+    }
+}
+
+/// Whether a call is admitted from the two roots.
+fn is_admitted(versions: &Versions<'_>, older: u64, newer: u64, call: &Call) -> bool
+    ensures { result ≡ is_admitted_with (names_in versions.now.names) (held_schema versions.now.older)
+        (held_schema versions.now.newer) older newer (call_view call.now) }
+{
+    let mut at = At::Element {
+        older: struct_type(older),
+        newer: struct_type(newer),
+    };
+    let mut rest = call.path();
+    while let [step, more @ ..] = rest {
+        match into_at(versions, step, at) {
+            Next::Unknown => return false,
+            Next::Unfit => return true,
+            Next::To(next) => at = next,
+        }
+        rest = more;
+    }
+    is_admitted_end(versions, call, at)
+}
+
+fn struct_type(id: u64) -> TypeRecord
+    ensures { type_of (type_record_of result) ≡ struct id }
+{
+    TypeRecord {
+        list_count: 0,
+        base: BaseType::Struct(id),
+    }
+}
+
+/// Whether each call under the older schema is admitted beside the newer, where fields are renamed.
+/// An admitted call goes by fields that the older has, writes no group as a whole that the newer
+/// extends, and sets no list element of struct type. It takes two binary searches by name for each
+/// step of a call, and one or two for each field of a group that is written as a whole. Memory is
+/// taken for the renamings alone. `OutOfMemory` is the one error.
+pub fn admitted_with(
+    alloc: Global,
+    calls: &[Call],
+    older: Root<'_>,
+    newer: Root<'_>,
+    renamings: &Renamings,
+) -> Result<Admission>
+    ensures answer { IfOk result (IsAdmissionOf
+        (is_admitted_with_at (renamings_of renamings.now) older.entry newer.entry)
+        (map call_view calls.now)) }
+    ensures refusal { IfErr result (λ e. e.kind ≡ OutOfMemory) }
+{
+    let versions = versions(alloc, older, newer, renamings)?;
+    for i in 0..calls.len() {
+        if !is_admitted(&versions, older.id, newer.id, &calls[i]) {
+            return Ok(Admission::Refused(i + 1));
+        }
+    }
+    Ok(Admission::Admitted)
+}
+
+/// Whether each call under the older schema is admitted beside the newer. An admitted call goes by
+/// fields that the older has, writes no group as a whole that the newer extends, and sets no list
+/// element of struct type. Takes two binary searches by name for each step of a call, and one for
+/// each field of a group that is written as a whole. `OutOfMemory` is the one error.
+pub fn admitted(
+    alloc: Global,
+    calls: &[Call],
+    older: Root<'_>,
+    newer: Root<'_>,
+) -> Result<Admission>
+    ensures answer { IfOk result
+        (IsAdmissionOf (is_admitted_at older.entry newer.entry) (map call_view calls.now)) }
+    ensures refusal { IfErr result (λ e. e.kind ≡ OutOfMemory) }
+{
+    admitted_with(alloc, calls, older, newer, &Renamings::none(alloc))
+}

@@ -1,6 +1,0 @@
--- A copy visits what a walk visits.
-use Rattle.capnp_canonical.proofs.SameVisits.{visits_alike}
-use Rattle.capnp_canonical.proofs.laws.copies_as_walks.Goals as goal
-
-pub returns : goal.returns
-returns c = visits_alike

@@ -1,5 +1,0 @@
-use Rattle.capnp_compatible.proofs.AllBroken.{Adding}
-use Rattle.capnp_compatible.proofs.reached.Reached.reach_all.Given as goal
-
-abbrev pub invariant-loop-k : goal.invariant-loop-k
-invariant-loop-k l = Adding l.fn.self l.fn.others l.self l.k

@@ -1,7 +1,0 @@
-use Rattle.std.proofs.Common.{◌≡◌, ◌∙◌, ℕ, List, replicate, refl, rules}
-use Rattle.capnp_copy.specs.Memory.{overwritten}
-use Rattle.capnp_copy.proofs.lemmas.BlobNumbers.{last_number}
-use Rattle.capnp_copy.proofs.blobs.last_word.Goals as goal
-
-pub returns : goal.returns
-returns c = c.get.ensures.value ∙ last_number c.args.rest.now (replicate 8 0) _ c.requires refl (search rules)

@@ -1,5 +1,0 @@
-use Rattle.capnp_copy.proofs.lemmas.RoomLaws.{words_stay}
-use Rattle.capnp_copy.proofs.laws.words_that_stay.Goals as goal
-
-pub returns : goal.returns
-returns c = words_stay

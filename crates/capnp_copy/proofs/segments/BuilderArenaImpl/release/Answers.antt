@@ -1,6 +1,0 @@
-use Rattle.std.proofs.Common.{arith}
-use Rattle.capnp_copy.proofs.HeldWords.{total_popped}
-use Rattle.capnp_copy.proofs.segments.BuilderArenaImpl.release.Goals as goal
-
-pub overflow_sub-self : goal.overflow_sub-self
-overflow_sub-self g c = omega (arith, c.loop-held.self.sum, total_popped (λ h. h.used) c.loop-held.self.segments.items c.pop.new.self.items c.in-Some.held c.in-Some.ensures.items)

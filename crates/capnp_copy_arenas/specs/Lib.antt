@@ -1,0 +1,16 @@
+pub mod Memory
+pub mod Allocations
+pub mod Holding
+pub mod Refusals
+pub mod States
+pub mod Structs
+pub mod Values
+pub mod Rooms
+pub mod Clearing
+pub mod Lists
+pub mod Inits
+pub mod Blobs
+pub mod Elements
+pub mod Bytes
+pub mod Deep
+pub mod Arenas

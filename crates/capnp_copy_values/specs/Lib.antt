@@ -1,0 +1,10 @@
+pub mod Copies
+pub mod Objects
+pub mod Defaults
+pub mod Contents
+pub mod Lists
+pub mod Fits
+pub mod Canonical
+pub mod Sources
+pub mod ListSources
+pub mod CopyRooms

@@ -1,0 +1,77 @@
+//! The canonical copy of a value into an arena, in place of another.
+ghost use Rattle.std.specs.Prelude.{◌≡◌, ◌^◌, ◌<◌};
+ghost use Rattle.capnp_units.specs.Segments.{words_in};
+ghost use Rattle.capnp_wire_objects.specs.Places.{place_view};
+ghost use Rattle.capnp_copy_values.specs.Copies.{FollowsFew};
+ghost use Rattle.capnp_copy_arenas.specs.Refusals.{IsSizeOrRefusal};
+ghost use Rattle.capnp_copy_arenas.specs.States.{HasWords, state_in};
+ghost use Rattle.capnp_copy_values.specs.Canonical.{CopiesCanonical, CanonicalTold, WritesFew};
+
+use crate::copy::copy_from;
+use capnp_copy_arenas::arena::BuilderArena;
+use capnp_model::laws::{
+    trimmed_values, values_on_walks, values_that_are_read, words_mean_their_value,
+};
+use capnp_units::errors::Result;
+use capnp_units::limiter::ReadLimiter;
+use capnp_units::sizes::Word;
+use capnp_wire::backing::{Backing, default_backing};
+use capnp_wire_canonical::copy::write_canonical;
+use capnp_wire_canonical::laws::{copies_follow_few, segments_of_words};
+use capnp_wire_objects::arena::{NullArena, ReaderArena};
+use capnp_wire_objects::place::{Place, ROOT};
+
+/// Puts a copy of the value of a pointer in a source in place of the value of the pointer at a
+/// place, which is cleared. The copy is the trimmed tree, as a canonical message has it. A value
+/// with a capability is refused.
+///
+/// It goes by way of lent words, over which the value's canonical words are written first, and
+/// takes no other memory. A word more than the limiter has left, up to 2^29 - 1, always suffices.
+/// The source's pointers are followed once, nulls too, and its objects paid for, as by
+/// `write_canonical`. It is refused
+/// - at the first fault within n levels, by its kind;
+/// - with `CapabilityInCanonical` at a capability;
+/// - with `ReadLimitExceeded` at the first object that costs more words than are left;
+/// - with `BufferNotLargeEnough` only where its canonical words, and those that were granted, and
+///   one, are more than were lent;
+/// - else as `copy_from` is of the canonical words, for want of room in the arena.
+///
+/// After a refusal all the arena's words stand as they were, and those that were allocated are
+/// zero.
+///
+/// It takes the steps of `write_canonical`, and those of `copy_from` over what that wrote. No more
+/// of the lent words are written than were granted, and one.
+pub fn copy_canonical_from<A: BuilderArena, B: ReaderArena>(
+    arena: &mut A,
+    slot: Place,
+    limiter: &mut ReadLimiter,
+    source: &B,
+    place: Place,
+    levels: u32,
+    lent: &mut [Word],
+) -> Result<()>
+    requires there { HasWords (A.segments arena.old) slot 1 }
+    requires near { slot.position < 2 ^ 61 }
+    ensures copy { CopiesCanonical levels (words_in (B.segments source.now)) (place_view place)
+        lent.old (words_in (A.segments arena.old)) (words_in (A.segments arena.new))
+        (place_view slot) limiter.old result limiter.new }
+    ensures few { FollowsFew limiter.old limiter.new }
+    ensures lent { WritesFew limiter.old limiter.new lent.old lent.new }
+    ensures told { let at = state_in A.segments A.room A.books in
+        CanonicalTold levels (words_in (B.segments source.now)) (place_view place) lent.old
+        (at arena.old) (at arena.new) slot.segment (IsSizeOrRefusal A.refuses) limiter.old result
+        limiter.new }
+    ensures books { A.books arena.new ≡ A.books arena.old }
+{
+    values_that_are_read();
+    values_on_walks();
+    trimmed_values();
+    words_mean_their_value();
+    copies_follow_few();
+    let count = write_canonical(source, limiter, place, levels, lent)?;
+    let words = &lent[..count];
+    segments_of_words(words);
+    let copy: Backing<NullArena> = default_backing(words);
+    let mut unlimited = ReadLimiter::new(None);
+    copy_from(arena, slot, &mut unlimited, &copy, ROOT, levels)
+}

@@ -1,0 +1,130 @@
+//! Structs that take over the content of others.
+ghost use Rattle.std.specs.Prelude.{min, ◌≡◌, ◌+◌, ◌*◌, ◌^◌, ◌<◌, ◌≤◌, true, length, map};
+ghost use Rattle.std.specs.Option.{is_some};
+ghost use Rattle.capnp_model.specs.Sections.{number_of};
+ghost use Rattle.capnp_model.specs.Segments.{words_at};
+ghost use Rattle.capnp_model.specs.Sizes.{each_object_words};
+ghost use Rattle.capnp_model.specs.Traversal.{tree_at, each};
+ghost use Rattle.capnp_model.specs.Coverage.{from_each};
+ghost use Rattle.capnp_model.specs.Visits.{visits};
+ghost use Rattle.capnp_units.specs.Segments.{words_in};
+ghost use Rattle.capnp_wire_objects.specs.Places.{place_view};
+ghost use Rattle.capnp_copy_arenas.specs.Refusals.{IsSizeOrRefusal};
+ghost use Rattle.capnp_copy_arenas.specs.States.{state_in};
+ghost use Rattle.capnp_copy_values.specs.Fits.{FitsWhereRoom, HasLongList};
+ghost use Rattle.capnp_copy_values.specs.Copies.{IsStoppedOr, struct_source};
+ghost use Rattle.capnp_copy_values.specs.Contents.{CopiesContent, ClearsRest, SetsSection};
+
+use crate::copy::fill_row;
+use capnp_copy_arenas::arena::BuilderArena;
+use capnp_copy_arenas::blobs::write_bytes;
+use capnp_copy_arenas::clear::clear;
+use capnp_copy_arenas::fields::StructPlace;
+use capnp_units::errors::Result;
+use capnp_units::limiter::ReadLimiter;
+use capnp_wire_objects::arena::ReaderArena;
+use capnp_wire_objects::place::Place;
+
+/// Writes bytes over a struct's data, and zeros behind them.
+fn write_data<A: BuilderArena>(arena: &mut A, object: StructPlace, bytes: &[u8])
+    requires there { is_some (words_at (words_in (A.segments arena.old)) (place_view object.start)
+        object.data_words) ≡ true }
+    requires near { object.start.position + object.data_words < 2 ^ 61 }
+    requires fit { length bytes.now ≤ 8 * object.data_words }
+    ensures section { SetsSection (words_in (A.segments arena.old))
+        (words_in (A.segments arena.new)) object (number_of 8 bytes.now) }
+    ensures sizes { map length (words_in (A.segments arena.new))
+        ≡ map length (words_in (A.segments arena.old)) }
+    ensures room { A.room arena.new ≡ A.room arena.old }
+    ensures books { A.books arena.new ≡ A.books arena.old }
+{
+    let words = (bytes.len() + 7) / 8;
+    write_bytes(arena, object.start, words, bytes);
+    let behind = Place {
+        segment: object.start.segment,
+        position: object.start.position + words,
+    };
+    arena.zero_words(behind, object.data_words as usize - words);
+}
+
+/// Clears n pointers of a struct, those behind the first ones.
+fn clear_rest<A: BuilderArena>(arena: &mut A, object: StructPlace, kept: u16)
+    requires near { object.start.position + (object.data_words + object.pointers) < 2 ^ 61 }
+    requires few { kept ≤ object.pointers }
+    ensures rest { ClearsRest (words_in (A.segments arena.old)) (words_in (A.segments arena.new))
+        object kept }
+    ensures sizes { map length (words_in (A.segments arena.new))
+        ≡ map length (words_in (A.segments arena.old)) }
+    ensures room { A.room arena.new ≡ A.room arena.old }
+    ensures books { A.books arena.new ≡ A.books arena.old }
+{
+    for i in kept..object.pointers {
+        let slot = Place {
+            segment: object.start.segment,
+            position: object.start.position + object.data_words as usize + i as usize,
+        };
+        clear(arena, slot);
+    }
+}
+
+/// Puts the content of a struct of a source into a struct that lies in an arena:
+/// - of its data section as many bytes as fit, with zeros behind them;
+/// - copies of the values of as many pointers as it has a place for, in place of the old values,
+///   which are cleared.
+///
+/// The struct's further pointers become null. The source's pointers stand in a row, and n levels
+/// may be followed from each. Those that the struct has no place for aren't followed.
+///
+/// The source's own words were paid for already: its pointers are followed, nulls too, and refused
+/// as by `copy_from`. After a refusal the data are the source's. Of the pointers the first ones
+/// have the copies, and the others their old values. All else stands. The words that old values
+/// left are zero, as are new ones that have no use. Refused or not, it allocates no more words than
+/// twice those that it grants. Where the struct's segment has room for all words of the copies, it
+/// takes exactly these, and there is no want of room.
+pub fn copy_content_from<A: BuilderArena, B: ReaderArena>(
+    arena: &mut A,
+    object: StructPlace,
+    limiter: &mut ReadLimiter,
+    source: &B,
+    section: &[u8],
+    first: Place,
+    pointers: u16,
+    levels: u32,
+) -> Result<()>
+    requires there { is_some (words_at (words_in (A.segments arena.old)) (place_view object.start)
+        (object.data_words + object.pointers)) ≡ true }
+    requires near { object.start.position + (object.data_words + object.pointers) < 2 ^ 61 }
+    requires source_near { first.position + pointers < 2 ^ 62 }
+    ensures content { CopiesContent levels (words_in (B.segments source.now))
+        (struct_source section.now first pointers)
+        (words_in (A.segments arena.old)) (words_in (A.segments arena.new)) object limiter.old
+        result limiter.new }
+    ensures cause { IsStoppedOr (from_each (visits levels (words_in (B.segments source.now)))
+        (place_view first) (min pointers object.pointers)) limiter.old limiter.new
+        (IsSizeOrRefusal A.refuses) result }
+    ensures fits { let at = state_in A.segments A.room A.books in
+        let from = words_in (B.segments source.now) in let p = place_view first in
+        let k = min pointers object.pointers in
+        FitsWhereRoom each_object_words (each (tree_at levels from) p k)
+        (from_each (visits levels from) p k) (HasLongList from) object.start.segment (at arena.old)
+        (at arena.new) limiter.old result limiter.new }
+    ensures books { A.books arena.new ≡ A.books arena.old }
+{
+    let bytes = section.len().min(8 * object.data_words as usize);
+    write_data(arena, object, &section[..bytes]);
+    let shared = pointers.min(object.pointers);
+    let start = object.start;
+    let count = shared as u32;
+    fill_row(
+        arena,
+        start,
+        object.data_words,
+        count,
+        limiter,
+        source,
+        first,
+        levels,
+    )?;
+    clear_rest(arena, object, shared);
+    Ok(())
+}

@@ -1,0 +1,280 @@
+//! Lists that are copied by their parts.
+ghost use Rattle.std.specs.Prelude.{◌≡◌, ℕ, ◌+◌, ◌*◌, ◌%◌, ◌^◌, ◌<◌, ◌≤◌, length};
+ghost use Rattle.capnp_model.specs.Sections.{number_of, words_for};
+ghost use Rattle.capnp_model.specs.Pointers.{a_list};
+ghost use Rattle.capnp_model.specs.Trees.{plain_list};
+ghost use Rattle.capnp_units.specs.Segments.{words_in};
+ghost use Rattle.capnp_units.specs.Sizes.{size_number, data_bits};
+ghost use Rattle.capnp_wire_objects.specs.Places.{place_view};
+ghost use Rattle.capnp_copy_arenas.specs.Refusals.{IsSizeOrRefusal};
+ghost use Rattle.capnp_copy_arenas.specs.States.{HasWords, KeepsSizes, state_in};
+ghost use Rattle.capnp_copy_values.specs.Copies.{IsStoppedOr, Fills, HasZeros};
+ghost use Rattle.capnp_copy_values.specs.Objects.{copied_words, most_counted};
+ghost use Rattle.capnp_copy_values.specs.Lists.{listed_object, listed_bits, listed_words};
+ghost use Rattle.capnp_copy_values.specs.Sources.{HasStructWords, visits_in_object, visits_in_row, visits_in_structs, FitsRow};
+ghost use Rattle.capnp_copy_values.specs.ListSources.{structs_words, HaveBits, HoldListed, FillsListed, CopiesListed, CopiesListedStructs, CopiesSection, FitsListed, FitsBehindListed, FitsListedStructs};
+
+use crate::copy::fill_row;
+use crate::objects::{copy_at, pointer_word, room_for, tag_word};
+use capnp_copy_arenas::arena::BuilderArena;
+use capnp_copy_arenas::blobs::write_bytes;
+use capnp_copy_arenas::clear::{clear, clear_object};
+use capnp_copy_arenas::fields::StructPlace;
+use capnp_copy_arenas::room::{begin_of, link};
+use capnp_units::errors::Result;
+use capnp_units::limiter::ReadLimiter;
+use capnp_units::sizes::{ElementSize, data_bits_per_element};
+use capnp_wire_objects::arena::ReaderArena;
+use capnp_wire_objects::object::{Object, words_of_elements};
+use capnp_wire_objects::place::Place;
+
+/// Where the elements of a list lie that is read, and what they are: for structs, each has n data
+/// words and pointers.
+#[derive(Clone, Copy, Debug, PartialEq, Eq)]
+pub struct ListSource {
+    pub start: Place,
+    pub size: ElementSize,
+    pub count: u32,
+    pub data_words: u16,
+    pub pointers: u16,
+}
+
+/// The object that such a list is.
+fn object_of(list: ListSource) -> Object
+    ensures { result ≡ listed_object list }
+{
+    let start = list.start;
+    let count = list.count;
+    match list.size {
+        ElementSize::Pointer => Object::PointerList { start, count },
+        ElementSize::InlineComposite => Object::StructList {
+            start,
+            words: 0,
+            count,
+            data_words: list.data_words,
+            pointers: list.pointers,
+        },
+        size => Object::List { start, size, count },
+    }
+}
+
+/// Writes plain elements over as many zeros.
+fn write_elements<A: BuilderArena>(
+    arena: &mut A,
+    start: Place,
+    bytes: &[u8],
+    size: ElementSize,
+    count: u32,
+)
+    requires plain { size_number size < 6 }
+    requires zeros { HasZeros (A.segments arena.old) start
+        (words_for (data_bits (size_number size) * count)) }
+    requires near { start.position + words_for (data_bits (size_number size) * count) < 2 ^ 61 }
+    requires all { HaveBits bytes.now (data_bits (size_number size) * count) }
+    ensures fills { let bits = data_bits (size_number size) * count in
+        (n : ℕ) → Fills n (words_in (A.segments arena.old)) (words_in (A.segments arena.new))
+        (place_view start) (words_for bits) (a_list (place_view start) (size_number size) count)
+        (plain_list (size_number size) count (number_of 8 bytes.now % 2 ^ bits)) }
+    ensures sizes { KeepsSizes (A.segments arena.old) (A.segments arena.new) }
+    ensures room { A.room arena.new ≡ A.room arena.old }
+    ensures books { A.books arena.new ≡ A.books arena.old }
+{
+    let words = words_of_elements(size, count) as usize;
+    write_bytes(arena, start, words, bytes);
+}
+
+/// Writes a struct over one of the same size: its data, and copies of the values of its pointers,
+/// which stand in a row of a source.
+fn fill_element<A: BuilderArena, B: ReaderArena>(
+    arena: &mut A,
+    object: StructPlace,
+    limiter: &mut ReadLimiter,
+    source: &B,
+    section: &[u8],
+    first: Place,
+    levels: u32,
+) -> Result<()>
+    requires there { HasStructWords (A.segments arena.old) object }
+    requires near { (object.start.position + (object.data_words + object.pointers) < 2 ^ 61)
+        × (first.position + object.pointers < 2 ^ 62) }
+    requires all { length section.now ≡ 8 * object.data_words }
+    ensures copy { CopiesSection levels (B.segments source.now) first section.now
+        (A.segments arena.old) (A.segments arena.new) object limiter.old result limiter.new }
+    ensures cause { IsStoppedOr (visits_in_row levels (B.segments source.now) (place_view first)
+        object.pointers) limiter.old limiter.new (IsSizeOrRefusal A.refuses) result }
+    ensures fits { let at = state_in A.segments A.room A.books in
+        FitsRow levels (B.segments source.now) (place_view first) object.pointers object.start
+        (at arena.old) (at arena.new) limiter.old result limiter.new }
+    ensures books { A.books arena.new ≡ A.books arena.old }
+{
+    arena.write_words(object.start, section);
+    let count = object.pointers as u32;
+    fill_row(
+        arena,
+        object.start,
+        object.data_words,
+        count,
+        limiter,
+        source,
+        first,
+        levels,
+    )
+}
+
+/// Writes the structs of a list over those of a list of as many of the same size, whose tag is at a
+/// place. Structs without pointers are written as one slice.
+fn fill_structs<A: BuilderArena, B: ReaderArena>(
+    arena: &mut A,
+    start: Place,
+    limiter: &mut ReadLimiter,
+    source: &B,
+    bytes: &[u8],
+    list: ListSource,
+    levels: u32,
+) -> Result<()>
+    requires there { HasWords (A.segments arena.old) start (1 + structs_words list) }
+    requires near { start.position + (1 + structs_words list) < 2 ^ 61 }
+    requires source_near { list.start.position + structs_words list < 2 ^ 61 }
+    requires all { length bytes.now ≡ 8 * structs_words list }
+    ensures copy { CopiesListedStructs levels (B.segments source.now) list bytes.now
+        (A.segments arena.old) (A.segments arena.new) start limiter.old result limiter.new }
+    ensures cause { IsStoppedOr (visits_in_structs levels (B.segments source.now) list) limiter.old
+        limiter.new (IsSizeOrRefusal A.refuses) result }
+    ensures fits { let at = state_in A.segments A.room A.books in
+        FitsListedStructs levels (B.segments source.now) list bytes.now start (at arena.old)
+        (at arena.new) limiter.old result limiter.new }
+    ensures books { A.books arena.new ≡ A.books arena.old }
+{
+    if list.pointers == 0 {
+        let first = Place {
+            segment: start.segment,
+            position: start.position + 1,
+        };
+        arena.write_words(first, bytes);
+        return Ok(());
+    }
+    let data = list.data_words as usize;
+    let width = data + list.pointers as usize;
+    for i in 0..list.count {
+        let at = i as usize * width;
+        let element = StructPlace {
+            start: Place {
+                segment: start.segment,
+                position: start.position + 1 + at,
+            },
+            data_words: list.data_words,
+            pointers: list.pointers,
+        };
+        let first = Place {
+            segment: list.start.segment,
+            position: list.start.position + at + data,
+        };
+        fill_element(
+            arena,
+            element,
+            limiter,
+            source,
+            &bytes[8 * at..8 * at + 8 * data],
+            first,
+            levels,
+        )?;
+    }
+    Ok(())
+}
+
+/// Makes the list of zero words, from a place on.
+fn fill_list<A: BuilderArena, B: ReaderArena>(
+    arena: &mut A,
+    start: Place,
+    limiter: &mut ReadLimiter,
+    source: &B,
+    bytes: &[u8],
+    list: ListSource,
+    levels: u32,
+) -> Result<()>
+    requires zeros { HasZeros (A.segments arena.old) start (copied_words (listed_object list)) }
+    requires near { start.position + copied_words (listed_object list) < 2 ^ 61 }
+    requires few { most_counted (listed_object list) < 2 ^ 29 }
+    requires held { HoldListed list bytes.now }
+    ensures copy { FillsListed levels (B.segments source.now) list bytes.now (A.segments arena.old)
+        (A.segments arena.new) start limiter.old result limiter.new }
+    ensures cause { IsStoppedOr (visits_in_object levels (B.segments source.now)
+        (listed_object list)) limiter.old limiter.new (IsSizeOrRefusal A.refuses) result }
+    ensures fits { let at = state_in A.segments A.room A.books in
+        FitsBehindListed levels (B.segments source.now) list bytes.now start (at arena.old)
+        (at arena.new) limiter.old result limiter.new }
+    ensures books { A.books arena.new ≡ A.books arena.old }
+{
+    match list.size {
+        ElementSize::Pointer => fill_row(
+            arena, start, 0, list.count, limiter, source, list.start, levels,
+        ),
+        ElementSize::InlineComposite => {
+            let width = list.data_words as usize + list.pointers as usize;
+            let all = 8 * (list.count as usize * width);
+            arena.write_word(start, tag_word(list.count, list.data_words, list.pointers));
+            fill_structs(arena, start, limiter, source, &bytes[..all], list, levels)
+        }
+        size => {
+            let all = (data_bits_per_element(size) as usize * list.count as usize + 7) / 8;
+            write_elements(arena, start, &bytes[..all], size, list.count);
+            Ok(())
+        }
+    }
+}
+
+/// Puts a copy of a list of a source in place of the value of the pointer at a place, which is
+/// cleared. The bytes are its plain elements or the words of its structs. The values of its
+/// pointers are copied by where they stand. A list of structs is copied whole, however it was read.
+/// n levels may be followed from each pointer.
+///
+/// The list's own words were paid for already, and its pointers are followed, nulls too. It is
+/// refused
+/// - as by `copy_from`, of its pointers;
+/// - with `SizeOverflow` exactly where the count, the words of structs, or the message's words with
+///   it and a pad would pass 2^29 - 1;
+/// - else as the allocator refuses.
+///
+/// After a refusal all words stand as they were, and those that were allocated are zero. Refused or
+/// not, it allocates no more words than twice the list's and those that it grants. Where the
+/// pointer's segment has room for all words of the copy, it takes exactly these, and there is no
+/// want of room.
+///
+/// Lists of plain elements and of structs without pointers take one step, whatever they count.
+pub fn set_list<A: BuilderArena, B: ReaderArena>(
+    arena: &mut A,
+    slot: Place,
+    limiter: &mut ReadLimiter,
+    source: &B,
+    bytes: &[u8],
+    list: ListSource,
+    levels: u32,
+) -> Result<()>
+    requires there { HasWords (A.segments arena.old) slot 1 }
+    requires near { slot.position < 2 ^ 61 }
+    requires inside { listed_bits list ≤ 8 * length bytes.now }
+    requires source_near { list.start.position + listed_words list < 2 ^ 61 }
+    ensures copy { CopiesListed levels (B.segments source.now) list bytes.now (A.segments arena.old)
+        (A.segments arena.new) slot limiter.old result limiter.new }
+    ensures cause { IsStoppedOr (visits_in_object levels (B.segments source.now)
+        (listed_object list)) limiter.old limiter.new (IsSizeOrRefusal A.refuses) result }
+    ensures fits { let at = state_in A.segments A.room A.books in
+        FitsListed levels (B.segments source.now) list bytes.now slot (at arena.old) (at arena.new)
+        limiter.old result limiter.new }
+    ensures books { A.books arena.new ≡ A.books arena.old }
+{
+    let object = object_of(list);
+    let room = room_for(arena, slot, object)?;
+    let start = begin_of(slot, room);
+    match fill_list(arena, start, limiter, source, bytes, list, levels) {
+        Ok(()) => {
+            clear(arena, slot);
+            link(arena, slot, room, pointer_word(object));
+            Ok(())
+        }
+        Err(error) => {
+            clear_object(arena, copy_at(start, object));
+            Err(error)
+        }
+    }
+}

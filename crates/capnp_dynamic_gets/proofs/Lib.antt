@@ -1,7 +1,0 @@
-mod AcceptedLists
-mod FoundLists
-mod BegunBytes
-mod PlainValues
-mod GotParts
-mod GotLists
-mod GotElements

@@ -1,5 +1,0 @@
-use Rattle.capnp_footprints.proofs.lemmas.Levels.{owned_more, replaced_more}
-use Rattle.capnp_footprints.proofs.laws.changes_with_more_levels.Goals as goal
-
-pub returns : goal.returns
-returns c = record { owned = owned_more; replaced = replaced_more }

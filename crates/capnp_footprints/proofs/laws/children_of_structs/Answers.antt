@@ -1,5 +1,0 @@
-use Rattle.capnp_footprints.proofs.lemmas.Lift.{child_of_struct, struct_of_child}
-use Rattle.capnp_footprints.proofs.laws.children_of_structs.Goals as goal
-
-pub returns : goal.returns
-returns c = record { down = child_of_struct; up = struct_of_child }

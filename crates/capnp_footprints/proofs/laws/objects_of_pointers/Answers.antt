@@ -1,5 +1,0 @@
-use Rattle.capnp_footprints.proofs.lemmas.Lift.{object_of_pointer, pointer_of_object}
-use Rattle.capnp_footprints.proofs.laws.objects_of_pointers.Goals as goal
-
-pub returns : goal.returns
-returns c = record { down = object_of_pointer; up = pointer_of_object }

@@ -1,5 +1,0 @@
-use Rattle.capnp_footprints.proofs.Depths.{owned_depth, owned_object_depth}
-use Rattle.capnp_footprints.proofs.laws_of_depths.depths_of_owned_values.Goals as goal
-
-pub returns : goal.returns
-returns c = record { values = owned_depth; objects = owned_object_depth }

@@ -1,7 +1,0 @@
-//! What writing into the segments of a message changes: the words that belong to a value, and the laws by which a change of a part is a change of the whole.
-#![tactic(auto)]
-
-pub mod laws;
-pub mod laws_of_canonical_words;
-pub mod laws_of_clearing;
-pub mod laws_of_depths;

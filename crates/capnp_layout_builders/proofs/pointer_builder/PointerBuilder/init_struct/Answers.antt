@@ -1,0 +1,9 @@
+use Rattle.std.proofs.Common.{refl}
+use Rattle.std.proofs.lemmas.Result.{err_from_is_err_and}
+use Rattle.capnp_layout_builders.proofs.pointer_builder.PointerBuilder.init_struct.Goals as goal
+
+pub returns-in_err-place : goal.returns-in_err-place
+returns-in_err-place g c =
+    let p = err_from_is_err_and c.from_residual.result c.from_residual.ensures.1 in
+    let e = c.in_err-place.ensures in
+    rw (p.1, p.2) ((refl, (λ w. tt), (e.refused, e.books)), record { same = tt; made = tt; kind = (e.kind, e.full); cause = e.cause; refused = tt })

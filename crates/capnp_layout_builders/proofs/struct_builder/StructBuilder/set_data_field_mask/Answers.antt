@@ -1,0 +1,5 @@
+use Rattle.capnp_copy_arenas.proofs.lemmas.FieldLaws.{sets_alike}
+use Rattle.capnp_layout_builders.proofs.struct_builder.StructBuilder.set_data_field_mask.Goals as goal
+
+pub returns-clause-sets : goal.returns-clause-sets
+returns-clause-sets g c = sets_alike _ _ c.args.self.now.place _ _ _ _ c.mask.ensures.bits c.set_data_field.ensures.sets

@@ -1,0 +1,108 @@
+-- Copies of what readers stand at.
+use Rattle.std.specs.Prelude.{◌≡◌, ⊤, ℕ, Bool, true, false, min, List, Option, None, MatchOption, map, length, Result, Ok, Err}
+use Rattle.capnp_model.specs.Sections.{words_for}
+use Rattle.capnp_model.specs.Segments.{Segments, Place}
+use Rattle.capnp_units.specs.declared.errors.Error.{Error}
+use Rattle.capnp_units.specs.declared.kinds.ErrorKind.TheVariants.{NestingLimitExceeded}
+use Rattle.capnp_units.specs.declared.limiter.ReadLimiter.{ReadLimiter}
+use Rattle.capnp_units.specs.Limits.{limit_of}
+use Rattle.capnp_wire_objects.specs.Places.{place_view}
+use Rattle.capnp_wire.specs.Views.{PointerView, StructView, ListView}
+use Rattle.capnp_copy_arenas.specs.Clearing.{ClearsValue}
+use Rattle.capnp_copy_arenas.specs.declared.fields.StructPlace.{StructPlace}
+use Rattle.capnp_copy_values.specs.declared.lists.ListSource.{ListSource}
+use Rattle.capnp_model.specs.Coverage.{from_each}
+use Rattle.capnp_model.specs.Sizes.{object_words, each_object_words}
+use Rattle.capnp_model.specs.Traversal.{tree_at, each}
+use Rattle.capnp_model.specs.Visits.{Visit, visits}
+use Rattle.capnp_wire_objects.specs.Inside.{met_in}
+use Rattle.capnp_copy_arenas.specs.States.{ArenaState}
+use Rattle.capnp_copy_values.specs.Fits.{FitsWhereRoom, HasLongList, IsLong, struct_tree}
+use Rattle.capnp_copy_values.specs.Copies.{CopiesValue, CopiesStruct, StructSource, IsStoppedOr}
+use Rattle.capnp_copy_values.specs.Contents.{CopiesContent}
+use Rattle.capnp_copy_values.specs.Lists.{CopiesList, listed_section, listed_object, listed_tree}
+
+-- What is done under a limit of words, by what it returns and what it took.
+abbrev pub Walk : Type 1
+Walk = ReadLimiter → Result ⊤ Error → ReadLimiter → Type 0
+
+-- A walk over what is paid for is under this limit; one over a default is under none, and takes nothing.
+abbrev pub Charged : Bool → Walk → Walk
+Charged true W old result new = W old result new
+Charged false W old result new = (l m : ReadLimiter) × (limit_of l ≡ None) × W l result m × (new ≡ old)
+
+-- Nothing has levels: every copy is refused, and all stands.
+abbrev pub WithoutLevels : Segments → Segments → Walk
+WithoutLevels s u old result new = (result ≡ Err (record { kind = NestingLimitExceeded })) × (u ≡ s) × (new ≡ old)
+
+-- The value becomes null; nothing is read.
+abbrev pub BecomesNull : Segments → Segments → Place → Walk
+BecomesNull s u p old result new = (result ≡ Ok tt) × (new ≡ old) × (map length u ≡ map length s) × ClearsValue s u p
+
+-- A copy of a pointer's value that is read is put in place of the value at p; a pointer that stands nowhere is null.
+abbrev pub CopiesPointer : PointerView → Segments → Segments → Place → Walk
+CopiesPointer v s u p old result new =
+    MatchOption v.levels (WithoutLevels s u old result new) (λ n.
+    MatchOption v.place (BecomesNull s u p old result new) (λ q.
+    Charged v.basis.paid (CopiesValue n v.basis.segments q s u p) old result new))
+
+-- The parts of a struct that is read.
+pub record IsSourceOf (v : StructView) (x : StructSource) : Type 0 where
+  pub section : x.section ≡ v.section
+  pub data_words : x.data_words ≡ words_for v.bits
+  pub first : place_view x.first ≡ v.first
+  pub pointers : x.pointers ≡ v.pointers
+
+-- A copy of a struct that is read is put in place of the value at p.
+abbrev pub SetsStruct : StructView → Segments → Segments → Place → Walk
+SetsStruct v s u p old result new =
+    MatchOption v.levels (WithoutLevels s u old result new) (λ n.
+    Charged v.basis.paid (λ l r m. (x : StructSource) × IsSourceOf v x × CopiesStruct n v.basis.segments x s u p l r m) old result new)
+
+-- A struct takes over the content of one that is read.
+abbrev pub TakesOver : StructView → Segments → Segments → StructPlace → Walk
+TakesOver v s u o old result new =
+    MatchOption v.levels (WithoutLevels s u old result new) (λ n.
+    Charged v.basis.paid (λ l r m. (x : StructSource) × IsSourceOf v x × CopiesContent n v.basis.segments x s u o l r m) old result new)
+
+-- The parts of a list that is read.
+pub record IsListSourceOf (v : ListView) (x : ListSource) (bytes : List ℕ) : Type 0 where
+  pub size : x.size ≡ v.size
+  pub count : x.count ≡ v.count
+  pub data_words : x.data_words ≡ v.data_words
+  pub pointers : x.pointers ≡ v.pointers
+  pub start : place_view x.start ≡ v.start
+  pub section : listed_section x bytes ≡ v.section
+
+-- A copy of a list that is read is put in place of the value at p.
+abbrev pub SetsList : ListView → Segments → Segments → Place → Walk
+SetsList v s u p old result new =
+    MatchOption v.levels (WithoutLevels s u old result new) (λ n.
+    Charged v.basis.paid (λ l r m. (x : ListSource) × (bytes : List ℕ) × IsListSourceOf v x bytes × CopiesList n v.basis.segments x bytes s u p l r m) old result new)
+
+-- What a copy takes in the ith segment where that has room, and why it is refused, of which `told` tells what doesn't come of what is read.
+abbrev pub IsTold : {X : Type 0} → (X → ℕ) → Option X → List Visit → Type 0 → ℕ → ArenaState → ArenaState → (Error → Type 0) → Walk
+IsTold words there path Long i s u told old result new = FitsWhereRoom words there path Long i s u old result new × IsStoppedOr path old new told result
+
+-- What the copy of a pointer's value, a struct, the content of one, or a list takes, and why it is
+-- refused.
+abbrev pub PointerTold : PointerView → ArenaState → ArenaState → ℕ → (Error → Type 0) → Walk
+PointerTold v s u i told old result new =
+    MatchOption v.levels (Unit {0}) (λ n.
+    MatchOption v.place (Unit {0}) (λ q.
+    Charged v.basis.paid (IsTold object_words (tree_at n v.basis.segments q) (visits n v.basis.segments q) (HasLongList v.basis.segments) i s u told) old result new))
+
+abbrev pub StructTold : StructView → ArenaState → ArenaState → ℕ → (Error → Type 0) → Walk
+StructTold v s u i told old result new =
+    MatchOption v.levels (Unit {0}) (λ n.
+    Charged v.basis.paid (λ l r m. (x : StructSource) × IsSourceOf v x × IsTold object_words (struct_tree (tree_at n v.basis.segments) x) (from_each (visits n v.basis.segments) (place_view x.first) x.pointers) (HasLongList v.basis.segments) i s u told l r m) old result new)
+
+abbrev pub ContentTold : StructView → ArenaState → ArenaState → StructPlace → (Error → Type 0) → Walk
+ContentTold v s u o told old result new =
+    MatchOption v.levels (Unit {0}) (λ n.
+    Charged v.basis.paid (λ l r m. (x : StructSource) × IsSourceOf v x × IsTold each_object_words (each (tree_at n v.basis.segments) (place_view x.first) (min x.pointers o.pointers)) (from_each (visits n v.basis.segments) (place_view x.first) (min x.pointers o.pointers)) (HasLongList v.basis.segments) o.start.segment s u told l r m) old result new)
+
+abbrev pub ListTold : ListView → ArenaState → ArenaState → ℕ → (Error → Type 0) → Walk
+ListTold v s u i told old result new =
+    MatchOption v.levels (Unit {0}) (λ n.
+    Charged v.basis.paid (λ l r m. (x : ListSource) × (bytes : List ℕ) × IsListSourceOf v x bytes × IsTold object_words (listed_tree (tree_at n v.basis.segments) x bytes) (met_in (visits n v.basis.segments) (listed_object x)) (IsLong v.basis.segments (listed_object x)) i s u told l r m) old result new)

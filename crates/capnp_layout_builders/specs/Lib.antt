@@ -1,0 +1,11 @@
+pub use Rattle.capnp_copy_arenas.specs.Structs
+pub use Rattle.capnp_copy_arenas.specs.Values
+pub mod Elements
+pub mod Gets
+pub mod Lending
+pub mod Inputs
+pub mod Blobs
+pub mod Lent
+pub mod Copied
+pub mod Making
+pub mod Leaving

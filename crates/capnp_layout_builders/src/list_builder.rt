@@ -1,0 +1,193 @@
+//! Lists that are built.
+ghost use Rattle.std.specs.Prelude.{◌≡◌, ◌+◌, ◌*◌, ◌<◌, ◌≤◌, ◌^◌, ◌==◌, length, map};
+ghost use Rattle.capnp_model.specs.Segments.{after};
+ghost use Rattle.capnp_units.specs.Sizes.{size_number};
+ghost use Rattle.std.specs.Borrow.{sem};
+ghost use Rattle.capnp_units.specs.Segments.{words_in};
+ghost use Rattle.capnp_wire_objects.specs.Places.{place_view};
+ghost use Rattle.capnp_wire.specs.Views.{seen_list, list_at};
+ghost use Rattle.capnp_copy_arenas.specs.Elements.{first_element, HasElements, IsWhole, IsInElement, HasElement, SetsElement};
+ghost use Rattle.capnp_copy_arenas.specs.States.{HasWords};
+ghost use Rattle.capnp_layout_builders.specs.Elements.{IsStructElement};
+
+use crate::element::BuilderElement;
+use crate::pointer_builder::PointerBuilder;
+use crate::struct_builder::StructBuilder;
+use capnp_copy_arenas::arena::{BuilderArena, Memory};
+use capnp_copy_arenas::elements::{first_element, get_element, set_element};
+use capnp_copy_arenas::fields::StructPlace;
+use capnp_copy_arenas::init::ListPlace;
+use capnp_units::sizes::{ElementSize, data_bits_per_element};
+use capnp_units::units::ElementCount32;
+use capnp_wire::list::ListReader;
+use capnp_wire_objects::place::Place;
+
+/// The list at a place, to read.
+fn read_at<'a, A: BuilderArena>(arena: &'a A, place: ListPlace) -> ListReader<'a, A>
+    requires { HasElements (words_in (A.segments arena.now)) place }
+    ensures { seen_list A.segments result
+        ≡ list_at (A.segments arena.now) (A.nesting arena.now) (first_element place) place.size
+        place.count place.data_words place.pointers }
+{
+    ListReader::at(
+        arena,
+        first_element(place),
+        place.count,
+        place.size,
+        place.data_words,
+        place.pointers,
+    )
+}
+
+/// A list that is built, where it lies in an arena. Its words are there.
+#[derive(Drop)]
+pub struct ListBuilder<'a, A> {
+    pub memory: &'a mut Memory<A>,
+    pub place: ListPlace,
+}
+
+impl<'a, A: BuilderArena> ListBuilder<'a, A> {
+    ghost use Rattle.capnp_layout_builders.specs.Lending.{LendsList};
+
+    /// This list, lent.
+    pub fn reborrow(&mut self) -> ListBuilder<'_, A>
+        ensures* lends { sem 𝓛 (LendsList A.row self.entry result) }
+        ensures now { result.memory.now ≡ self.old.memory.now }
+        ensures place { result.place ≡ self.old.place }
+    {
+        let place = self.place;
+        let memory = &mut *self.memory;
+        ListBuilder { memory, place }
+    }
+
+    /// The list to read. Its pointers are followed under the arena's nesting limit.
+    pub fn as_reader(&self) -> ListReader<'_, A>
+        requires { HasElements (words_in (A.segments self.now.memory.now.arena)) self.now.place }
+        ensures { let o = self.now.place in
+            seen_list A.segments result
+            ≡ list_at (A.segments self.now.memory.now.arena) (A.nesting self.now.memory.now.arena)
+            (first_element o) o.size o.count o.data_words o.pointers }
+    {
+        read_at(&self.memory.arena, self.place)
+    }
+
+    /// The list to read, of which no handle to write is left.
+    pub fn into_reader(self) -> ListReader<'a, A>
+        requires { HasElements (words_in (A.segments self.memory.now.arena)) self.place }
+        ensures { seen_list A.segments result
+            ≡ list_at (A.segments self.entry.memory.now.arena)
+            (A.nesting self.entry.memory.now.arena) (first_element self.entry.place)
+            self.entry.place.size self.entry.place.count self.entry.place.data_words
+            self.entry.place.pointers }
+    {
+        let ListBuilder { memory, place } = self;
+        read_at(&memory.arena, place)
+    }
+
+    /// How many elements there are.
+    pub fn len(&self) -> ElementCount32
+        ensures { result ≡ self.now.place.count }
+    {
+        self.place.count
+    }
+
+    /// Whether there is no element.
+    pub fn is_empty(&self) -> bool
+        ensures { result ≡ (self.now.place.count == 0) }
+    {
+        self.place.count == 0
+    }
+
+    /// The size of the elements: `InlineComposite` for a list of structs.
+    pub fn element_size(&self) -> ElementSize
+        ensures { result ≡ self.now.place.size }
+    {
+        self.place.size
+    }
+
+    /// An element of a list of plain elements, by its index: the value in its lowest bits. It is
+    /// one of the list's, and has as many.
+    pub fn get<T: BuilderElement>(&self, index: ElementCount32) -> T
+        requires near { self.now.place.start.position < 2 ^ 61 }
+        requires inside { IsInElement self.now.place index T.width }
+        ensures { HasElement (words_in (A.segments self.now.memory.now.arena)) self.now.place
+            index T.width (λ bits. result ≡ T.of_bits bits) }
+    {
+        let place = self.place;
+        let width = data_bits_per_element(T::element_size());
+        let bits = get_element(&self.memory.arena, place, index, width);
+        T::element_of_bits(bits)
+    }
+
+    /// Writes an element of a list of plain elements, by its index, into its lowest bits. It is one
+    /// of the list's, and has as many; its neighbours keep theirs.
+    pub fn set<T: BuilderElement>(&mut self, index: ElementCount32, value: T)
+        requires near { self.old.place.start.position < 2 ^ 61 }
+        requires inside { IsInElement self.old.place index T.width }
+        ensures same { self.new.memory.ghost_name ≡ self.old.memory.ghost_name }
+        ensures place { self.new.place ≡ self.old.place }
+        ensures books { A.books self.new.memory.now.arena ≡ A.books self.old.memory.now.arena }
+        ensures sizes { map length (words_in (A.segments self.new.memory.now.arena))
+            ≡ map length (words_in (A.segments self.old.memory.now.arena)) }
+        ensures sets { SetsElement (words_in (A.segments self.old.memory.now.arena))
+            (words_in (A.segments self.new.memory.now.arena)) self.old.place index T.width
+            (T.bits value) }
+    {
+        let place = self.place;
+        let width = data_bits_per_element(T::element_size());
+        let bits = T::bits_of_element(value);
+        set_element(&mut self.memory.arena, place, index, width, bits);
+    }
+
+    /// An element of a list of pointers, by its index. It is one of the list's.
+    pub fn get_pointer_element(self, index: ElementCount32) -> PointerBuilder<'a, A>
+        requires pointers { size_number self.place.size ≡ 6 }
+        requires near { self.place.start.position + self.place.count < 2 ^ 61 }
+        requires inside { index < self.place.count }
+        ensures same { result.memory.ghost_name ≡ self.entry.memory.ghost_name }
+        ensures now { result.memory.now ≡ self.entry.memory.now }
+        ensures place { place_view result.place ≡ after (place_view self.entry.place.start) index }
+        ensures there { IsWhole (words_in (A.segments self.entry.memory.now.arena)) self.entry.place
+            → HasWords (A.segments result.memory.now.arena) result.place 1 }
+        ensures near { result.place.position < 2 ^ 61 }
+    {
+        let ListBuilder { memory, place } = self;
+        let start = place.start;
+        let place = Place {
+            segment: start.segment,
+            position: start.position + index as usize,
+        };
+        PointerBuilder { memory, place }
+    }
+
+    /// An element of a list of structs, by its index. It is one of the list's.
+    pub fn get_struct_element(self, index: ElementCount32) -> StructBuilder<'a, A>
+        requires structs { size_number self.place.size ≡ 7 }
+        requires near { self.place.start.position + (1 + self.place.claimed) < 2 ^ 61 }
+        requires fits { self.place.count * (self.place.data_words + self.place.pointers)
+            ≤ self.place.claimed }
+        requires inside { index < self.place.count }
+        ensures same { result.memory.ghost_name ≡ self.entry.memory.ghost_name }
+        ensures now { result.memory.now ≡ self.entry.memory.now }
+        ensures element { IsStructElement self.entry.place index result.place }
+        ensures there { IsWhole (words_in (A.segments self.entry.memory.now.arena)) self.entry.place
+            → HasWords (A.segments result.memory.now.arena) result.place.start
+            (result.place.data_words + result.place.pointers) }
+    {
+        let ListBuilder { memory, place } = self;
+        let start = place.start;
+        let width = place.data_words as usize + place.pointers as usize;
+        let start = Place {
+            segment: start.segment,
+            position: start.position + 1 + index as usize * width,
+        };
+        StructBuilder {
+            memory,
+            place: StructPlace {
+                start,
+                data_words: place.data_words,
+                pointers: place.pointers,
+            },
+        }
+    }
+}

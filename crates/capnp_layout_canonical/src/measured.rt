@@ -1,0 +1,57 @@
+//! The canonical copy of a pointer's value by way of words of its own.
+ghost use Rattle.std.specs.Prelude.{◌≡◌, ◌+◌, ◌-◌, ◌<◌, ◌^◌, min, true};
+ghost use Rattle.std.specs.Option.{is_some};
+ghost use Rattle.capnp_model.specs.Segments.{words_at};
+ghost use Rattle.capnp_units.specs.Segments.{words_in};
+ghost use Rattle.capnp_wire_objects.specs.Places.{place_view};
+ghost use Rattle.capnp_wire.specs.Views.{seen_pointer};
+ghost use Rattle.capnp_layout_canonical.specs.Measured.{MeasuresAndCopies};
+
+use crate::copy::copy_canonical_from;
+use capnp_copy_arenas::arena::BuilderArena;
+use capnp_layout_builders::pointer_builder::PointerBuilder;
+use capnp_units::errors::Result;
+use capnp_units::limiter::ReadLimiter;
+use capnp_units::limits::MOST_WORDS;
+use capnp_units::sizes::MessageSize;
+use capnp_wire::pointer::PointerReader;
+use capnp_wire_objects::arena::ReaderArena;
+use std::alloc::Global;
+
+/// As many words as a value's objects have, and one for its pointer, and at most those of a
+/// message.
+fn room_for(size: MessageSize) -> usize
+    ensures { result ≡ min size.word_count (2 ^ 29 - 2) + 1 }
+{
+    size.word_count.min(MOST_WORDS as u64 - 1) as usize + 1
+}
+
+/// Puts a canonical copy of a pointer's value that is read in place of the value, as
+/// `copy_canonical_from`. It goes by way of words from `alloc`: as many as the value's objects
+/// have, and one, at most 2^29 - 1.
+///
+/// The value is measured first, so what is followed is paid for twice. It is refused as
+/// `PointerReader::total_size`, and then with `OutOfMemory` where there is none for the words; then
+/// nothing is allocated in the message. Else it is refused as `copy_canonical_from` over n words.
+/// After a refusal all words stand as they were.
+pub fn copy_canonical<A: BuilderArena, B: ReaderArena>(
+    alloc: Global,
+    builder: &mut PointerBuilder<'_, A>,
+    limiter: &mut ReadLimiter,
+    other: PointerReader<'_, B>,
+) -> Result<()>
+    requires there { is_some (words_at (words_in (A.segments builder.old.memory.now.arena))
+        (place_view builder.old.place) 1) ≡ true }
+    requires near { builder.old.place.position < 2 ^ 61 }
+    ensures same { builder.new.memory.ghost_name ≡ builder.old.memory.ghost_name }
+    ensures place { builder.new.place ≡ builder.old.place }
+    ensures copy { MeasuresAndCopies (seen_pointer B.segments other.entry)
+        (words_in (A.segments builder.old.memory.now.arena))
+        (words_in (A.segments builder.new.memory.now.arena))
+        (place_view builder.old.place) limiter.old result limiter.new }
+    ensures books { A.books builder.new.memory.now.arena ≡ A.books builder.old.memory.now.arena }
+{
+    let size = other.total_size(limiter)?;
+    let mut lent = vec![in alloc; [0u8; 8]; room_for(size)]?;
+    copy_canonical_from(builder, limiter, other, lent.as_mut_slice())
+}

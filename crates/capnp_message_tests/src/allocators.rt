@@ -1,3 +1,0 @@
-//! Tests of `capnp_allocators`.
-
-mod tests;

@@ -1,7 +1,0 @@
-//! Tests of `capnp_allocators`, `capnp_message`, by their public calls alone.
-#![tactic(auto)]
-
-#[cfg(test)]
-mod allocators;
-#[cfg(test)]
-mod message;

@@ -1,8 +1,0 @@
-use Rattle.capnp_packing.proofs.SizeLemmas.{packed-none, packed-most}
-use Rattle.capnp_packing.proofs.laws.sizes_of_pieces.Goals as goal
-
-pub returns-clause-none : goal.returns-clause-none
-returns-clause-none c = packed-none
-
-pub returns-clause-most : goal.returns-clause-most
-returns-clause-most c = packed-most

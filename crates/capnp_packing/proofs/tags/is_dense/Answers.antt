@@ -1,7 +1,0 @@
-use Rattle.std.proofs.Common.{leb, ap, ◌∙◌, arith}
-use Rattle.capnp_packing.specs.Tags.{marks}
-use Rattle.capnp_packing.proofs.TagLemmas.{dense-is}
-use Rattle.capnp_packing.proofs.tags.is_dense.Goals as goal
-
-pub returns : goal.returns
-returns c = ap (leb 7) (c.marked.ensures.count ∙ ap (marks 8) c.tag_of.ensures) ∙ dense-is c.args.word.now (omega arith) c.are_bytes.ensures

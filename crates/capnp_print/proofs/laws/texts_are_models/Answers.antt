@@ -1,5 +1,0 @@
-use Rattle.capnp_print.proofs.lemmas.ModelTexts.{texts}
-use Rattle.capnp_print.proofs.laws.texts_are_models.Goals as goal
-
-pub returns : goal.returns
-returns c = texts c.pointers_are_read.ensures

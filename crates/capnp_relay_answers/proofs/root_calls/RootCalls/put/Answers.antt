@@ -1,0 +1,28 @@
+use Rattle.std.proofs.Common.{sym, subst}
+use Rattle.std.proofs.Math.Logic.{∥∥₁_elim}
+use Rattle.capnp_wire_canonical.specs.Writes.{filled}
+use Rattle.capnp_calls_in_place.specs.PlainSets.{ArePlain}
+use Rattle.capnp_calls_in_place.specs.CallSplices.{AreCallSplices}
+use Rattle.capnp_relay_answers.specs.RootCalls.{root_schema, root_calls}
+use Rattle.capnp_relay_answers.proofs.Fronts.{SetsFront-prop, IfFront-prop, put_front}
+use Rattle.capnp_relay_answers.proofs.root_calls.RootCalls.put.Goals as goal
+
+pub returns-then-put_sets-clause-front : goal.returns-then-put_sets-clause-front
+returns-then-put_sets-clause-front c =
+    let schema = root_schema c.args.self.now in
+    let calls = root_calls c.args.self.now in
+    let items = c.args.words.now.items in
+    ∥∥₁_elim c.args.self.now.known (SetsFront-prop schema calls (filled c.args.count items) _ c.args.count) (λ known.
+    let here = rw c.in-Plain.is at known in
+    let plain = subst (ArePlain schema calls) (sym c.deref.ensures.value) here in
+    put_front schema calls c.args.count c.args.words.now.len items c.as_mut_slice.result.now c.put_sets.new.words c.as_mut_slice.ensures.value c.args.words.now.ok.0 c.put_sets.ensures.len c.requires
+    (λ t fits again same. c.put_sets.ensures.sets schema calls t c.if-put_sets.true plain fits again same))
+
+pub returns-in-Spliced-clause-front : goal.returns-in-Spliced-clause-front
+returns-in-Spliced-clause-front c =
+    let schema = root_schema c.args.self.now in
+    let calls = root_calls c.args.self.now in
+    let items = c.args.words.now.items in
+    ∥∥₁_elim c.args.self.now.known (IfFront-prop schema calls (filled c.args.count items) c.put_splices.new.words.items c.put_splices.result) (λ known.
+    let here = rw c.in-Spliced.is at known in
+    c.put_splices.ensures.front schema calls (subst (AreCallSplices schema calls) (sym c.deref-in-Spliced.ensures.value) here))

@@ -1,0 +1,141 @@
+//! The answer of calls to a value that is built.
+ghost use Rattle.std.specs.Prelude.{◌≡◌, ◌≤◌, ◌<◌, ◌^◌, true, map, length, Err, IfOk, ◌++◌, []};
+ghost use Rattle.std.specs.Option.{is_some};
+ghost use Rattle.std.specs.List.{flat_map};
+ghost use Rattle.capnp_model.specs.Segments.{root, words_at};
+ghost use Rattle.capnp_units.specs.Segments.{words_in};
+ghost use Rattle.capnp_calls.specs.CallViews.{call_view};
+ghost use Rattle.capnp_calls.specs.Roots.{IsRoot};
+ghost use Rattle.capnp_copy_arenas.specs.Deep.{IsDeep};
+ghost use Rattle.capnp_message.specs.Built.{loans_held};
+ghost use Rattle.capnp_values_queries.specs.Structs.{schema_around};
+ghost use Rattle.capnp_calls.specs.Ways.{AreWays};
+ghost use Rattle.capnp_calls_run.specs.Runs.{EndsLongRoot};
+ghost use Rattle.capnp_relay_loop.specs.declared.answer.Want.{Want};
+ghost use Rattle.capnp_relay_answers.specs.Answers.{AnswersRoot, AnswersWords, LongFromWords, want_of};
+ghost use Rattle.capnp_wire_canonical.specs.Writes.{filled};
+
+use crate::answer::{MessageAnswer, Reason, Want};
+use crate::reading::{STACK_LEVELS, make_room};
+use capnp_calls::Call;
+use capnp_calls::ways::Ways;
+use capnp_calls_run::fault::RunFault;
+use capnp_calls_run::root::run_root;
+use capnp_copy_arenas::allocator::Allocator;
+use capnp_copy_arenas::arena::BuilderArena;
+use capnp_copy_arenas::laws_of_arenas::arenas_are_deep;
+use capnp_message::builder::Builder;
+use capnp_model::laws::{
+    trimmed_values, values_as_a_relation, values_on_walks, values_that_are_read,
+    words_mean_their_value,
+};
+use capnp_model_writes::laws::changes_of_values;
+use capnp_model_writes::laws_of_canonical_words::canonical_words_in_place;
+use capnp_units::kinds::ErrorKind;
+use capnp_units::limiter::ReadLimiter;
+use capnp_units::sizes::Word;
+use capnp_values_queries::structs::StructSchema;
+use capnp_wire_canonical::copy::write_canonical;
+use capnp_wire_objects::arena::ReaderArena;
+use capnp_wire_objects::place::ROOT;
+use std::alloc::Global;
+
+/// What is wanted where calls in turn end early.
+pub(crate) fn want_after(fault: RunFault) -> Want
+    ensures { result ≡ want_of fault }
+{
+    match fault {
+        RunFault::Size => Want::Size,
+        RunFault::Refused(_) => Want::Memory,
+    }
+}
+
+/// Answers calls in turn at the root of a message, a struct or null that takes no word twice. The
+/// canonical words of what it becomes are written into a buffer.
+///
+/// `Memory`: a growth was refused, or what it becomes has more than `STACK_LEVELS` levels, where
+/// more are allowed. Or a `get` would print more than 1,024 structs, groups and lists in one
+/// another. The calls themselves take stack for each level of what they clear, which is no deeper
+/// than the value and the calls' own paths and values together.
+fn answer_root<A: BuilderArena>(
+    alloc: Global,
+    arena: &mut A,
+    levels: u32,
+    schema: StructSchema<'_>,
+    calls: &[Call],
+    ways: &Ways,
+    words: &mut Vec<Word>,
+) -> Result<MessageAnswer, Want>
+    requires arena { IsDeep A.segments A.nesting }
+    requires there { is_some (words_at (words_in (A.segments arena.old)) root 1) ≡ true }
+    requires root { IsRoot schema }
+    requires ways { AreWays (schema_around schema) (map call_view calls.now) ways.now }
+    ensures all { IfOk result (AnswersRoot schema.entry (map call_view calls.now) levels
+        (words_in (A.segments arena.old)) words.new.items) }
+    ensures size { result ≡ Err Want.Size → EndsLongRoot (words_in (A.segments arena.old))
+        schema.entry (map call_view calls.now) }
+    ensures books { A.books arena.new ≡ A.books arena.old }
+{
+    changes_of_values();
+    values_as_a_relation();
+    values_on_walks();
+    values_that_are_read();
+    trimmed_values();
+    words_mean_their_value();
+    let replies = match run_root(alloc, arena, schema, calls, ways) {
+        Ok(replies) => replies,
+        Err(fault) => return Err(want_after(fault)),
+    };
+    make_room(words, arena.size_in_words())?;
+    let mut unlimited = ReadLimiter::new(None);
+    let most = levels.min(STACK_LEVELS);
+    match write_canonical(arena, &mut unlimited, ROOT, most, words.as_mut_slice()) {
+        Ok(count) => Ok(MessageAnswer::Written { count, replies }),
+        Err(e) => match e.kind {
+            ErrorKind::NestingLimitExceeded if most == levels => {
+                Ok(MessageAnswer::Refused(Reason::Depth))
+            }
+            _ => Err(Want::Memory),
+        },
+    }
+}
+
+/// Answers calls in turn at the value of a message, a struct or null, whose `count` canonical words
+/// stand at the front of the buffer. They become the message that is built, and what it becomes by
+/// the calls is written into the buffer.
+pub(crate) fn answer_built<A: Allocator>(
+    alloc: Global,
+    builder: &mut Builder<A>,
+    count: usize,
+    levels: u32,
+    schema: StructSchema<'_>,
+    calls: &[Call],
+    ways: &Ways,
+    words: &mut Vec<Word>,
+) -> Result<MessageAnswer, Want>
+    requires empty { builder.old.memory.arena.segments.items ≡ [] }
+    requires count { (0 < count) × (count < 2 ^ 29) × (count ≤ length words.old.items) }
+    requires root { IsRoot schema }
+    requires ways { AreWays (schema_around schema) (map call_view calls.now) ways.now }
+    ensures all { IfOk result (AnswersWords schema.entry (map call_view calls.now) levels
+        (filled count words.old.items) words.new.items) }
+    ensures size { result ≡ Err Want.Size → LongFromWords schema.entry (map call_view calls.now)
+        levels (filled count words.old.items) }
+    ensures place { A.place builder.new.memory.arena.allocator
+        ≡ A.place builder.old.memory.arena.allocator }
+    ensures loans { loans_held builder.new.memory.arena
+        ≡ A.loans builder.old.memory.arena.allocator }
+{
+    arenas_are_deep::<A>();
+    canonical_words_in_place();
+    builder.set_words(&words[..count])?;
+    answer_root(
+        alloc,
+        &mut builder.memory.arena,
+        levels,
+        schema,
+        calls,
+        ways,
+        words,
+    )
+}

@@ -1,0 +1,13 @@
+//! Messages answered where their values lie: calls run in a lent region, and what is written of
+//! them goes to a kept buffer.
+#![tactic(auto)]
+
+pub mod answer;
+pub mod as_built;
+pub mod bounds;
+mod built;
+mod found;
+mod near;
+mod reading;
+pub mod root_calls;
+mod several;

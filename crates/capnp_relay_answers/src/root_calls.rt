@@ -1,0 +1,120 @@
+//! Calls at the roots of messages, of which what they put is found once.
+ghost use Rattle.std.specs.Prelude.{◌≡◌, ◌≤◌, List, true, map, length, IfOk, IfErr, IfSome};
+ghost use Rattle.capnp_units.specs.declared.kinds.ErrorKind.{ErrorKind};
+ghost use Rattle.capnp_model.specs.Trees.{Tree};
+ghost use Rattle.capnp_model.specs.Trimming.{trim};
+ghost use Rattle.capnp_model.specs.Fits.{Fits};
+ghost use Rattle.capnp_model.specs.Encoding.{canonical_words};
+ghost use Rattle.capnp_model.specs.Calls.{Call as ModelCall};
+ghost use Rattle.capnp_values_queries.specs.declared.structs.StructSchema.{StructSchema as AnySchema};
+ghost use Rattle.capnp_calls.specs.CallViews.{call_view};
+ghost use Rattle.capnp_calls.specs.Roots.{IsRoot};
+ghost use Rattle.capnp_wire_canonical.specs.Writes.{filled};
+ghost use Rattle.capnp_calls_in_place.specs.PlainSets.{ArePlain, SetsWords};
+ghost use Rattle.capnp_calls_in_place.specs.CallSplices.{AreCallSplices};
+ghost use Rattle.capnp_calls_splice.specs.Splices.{StandsWithin};
+ghost use Rattle.capnp_relay_answers.specs.Found.{IsFound, SetsFront, HasWays, HasWays-prop};
+
+use crate::found::{Found, find_puts};
+use capnp_calls::Call;
+use capnp_calls::ways::Ways;
+use capnp_calls_in_place::sets::write_sets;
+use capnp_calls_in_place::splices::write_splices;
+use capnp_calls_splice::plain::PlainSet;
+use capnp_calls_splice::splice::Splice;
+use capnp_units::errors::Result;
+use capnp_units::sizes::Word;
+use capnp_values_queries::structs::StructSchema;
+use std::alloc::Global;
+
+/// As `write_sets`, into the first n words of a buffer.
+#[inline(always)]
+fn put_sets(words: &mut [Word], count: usize, sets: &[PlainSet]) -> bool
+    requires { count ≤ length words.old }
+    ensures sets { (schema : AnySchema) (calls : List ModelCall) (t : Tree) → result ≡ true
+        → ArePlain schema calls sets.now → Fits t → trim t ≡ t
+        → filled count words.old ≡ canonical_words t
+        → SetsWords schema calls t (filled count words.new) }
+    ensures len { length words.new ≡ length words.old }
+{
+    write_sets(&mut words[..count], sets)
+}
+
+/// As `write_splices`, which is kept apart from the way of calls that set plain fields of the root
+/// alone.
+#[inline(never)]
+fn put_splices(words: &mut Vec<Word>, count: usize, splices: &[Splice]) -> Result<Option<usize>>
+    requires inside { count ≤ length words.old.items }
+    ensures front { (schema : AnySchema) (calls : List ModelCall)
+        → AreCallSplices schema calls splices.now → IfOk result (λ found. IfSome found
+        (SetsFront schema calls (filled count words.old.items) words.new.items)) }
+    ensures kind { IfErr result (λ e. e.kind ≡ ErrorKind.OutOfMemory) }
+{
+    write_splices(words, count, splices)
+}
+
+/// Calls at the roots of messages, under the schema of a root. Where each sets a plain field, a
+/// text or data, what they put and where is found once, and not for each message. So is, of each
+/// call, what the names of its path find.
+#[derive(Drop)]
+pub struct RootCalls<'a> {
+    pub(crate) schema: StructSchema<'a>,
+    pub(crate) calls: &'a [Call],
+    found: Found,
+    pub(crate) ways: Ways,
+    pub ghost root: { IsRoot schema },
+    ghost known: { ∥ IsFound schema (map call_view calls.now) found ∥₁ },
+    pub ghost lead: { HasWays schema calls.now ways } by { HasWays-prop schema calls.now ways },
+}
+
+impl<'a> RootCalls<'a> {
+    ghost use Rattle.capnp_relay_answers.specs.RootCalls.{root_schema, root_calls};
+
+    /// These calls, at roots of this schema. What the names of their paths find is looked for here,
+    /// once, which takes stack for each step. `OutOfMemory`: memory for that, or for what they put,
+    /// was refused.
+    pub fn new(alloc: Global, schema: StructSchema<'a>, calls: &'a [Call]) -> Result<RootCalls<'a>>
+        requires { IsRoot schema }
+        ensures schema { IfOk result (λ c. root_schema c ≡ schema.entry) }
+        ensures calls { IfOk result (λ c. root_calls c ≡ map call_view calls.now) }
+        ensures kind { IfErr result (λ e. e.kind ≡ ErrorKind.OutOfMemory) }
+    {
+        let found = find_puts(alloc, schema, calls)?;
+        let ways = Ways::new(alloc, schema, calls)?;
+        Ok(RootCalls {
+            schema,
+            calls,
+            found,
+            ways,
+        })
+    }
+
+    /// Whether what each call puts is known.
+    #[inline]
+    pub(crate) fn are_known(&self) -> bool {
+        !matches!(self.found, Found::Unknown)
+    }
+
+    /// Puts what the calls set into a message whose n canonical words stand at the front of a
+    /// buffer. It returns how many words there are then: the canonical words of what the calls make
+    /// of it, each of which is done. `None` where that isn't known, or can't be put; then some may
+    /// be put, and the words are of no use. `OutOfMemory`: the buffer is too short, and can't grow.
+    #[inline(always)]
+    pub(crate) fn put(&self, words: &mut Vec<Word>, count: usize) -> Result<Option<usize>>
+        requires { StandsWithin words.old.items count }
+        ensures front { IfOk result (λ found. IfSome found (SetsFront (root_schema self.now)
+            (root_calls self.now) (filled count words.old.items) words.new.items)) }
+        ensures kind { IfErr result (λ e. e.kind ≡ ErrorKind.OutOfMemory) }
+    {
+        match &self.found {
+            Found::Plain(sets) => {
+                if put_sets(words.as_mut_slice(), count, sets) {
+                    return Ok(Some(count));
+                }
+                Ok(None)
+            }
+            Found::Spliced(splices) => put_splices(words, count, splices),
+            Found::Unknown => Ok(None),
+        }
+    }
+}

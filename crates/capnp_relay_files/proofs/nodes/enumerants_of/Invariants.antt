@@ -1,0 +1,13 @@
+-- what was read stands in front of what the rest reads as
+use Rattle.std.proofs.Common.{◌≡◌, ◌++◌, map, length, option_map}
+use Rattle.serde_json.specs.View.{items_view}
+use Rattle.capnp_records.specs.NodeViews.{enumerant_of}
+use Rattle.capnp_relay_files.specs.Json.{each_item}
+use Rattle.capnp_relay_files.specs.SchemaFiles.{enumerant_in}
+use Rattle.capnp_relay_files.proofs.nodes.enumerants_of.Given as goal
+
+abbrev pub invariant-loop-rest : goal.invariant-loop-rest
+invariant-loop-rest l = each_item enumerant_in (items_view l.fn.items) ≡ option_map (λ xs. map enumerant_of l.enumerants.items ++ xs) (each_item enumerant_in (items_view l.rest))
+
+abbrev pub decreases-loop-rest : goal.decreases-loop-rest
+decreases-loop-rest l = length l.rest

@@ -1,0 +1,95 @@
+//! The line of the log, which is kept from message to message.
+ghost use Rattle.std.specs.Prelude.{◌≡◌, ℕ, List, true, OnOk};
+ghost use Rattle.std.specs.Bool.{OnTrue};
+ghost use Rattle.capnp_relay_loop.specs.MessageAnswers.{answer_view};
+ghost use Rattle.capnp_model.specs.Runs.{line_of};
+ghost use Rattle.capnp_relay_loop.specs.Lines.{all_done, KeepsLine};
+
+use crate::answer::MessageAnswer;
+use crate::logging::log_line;
+use std::alloc::{AllocError, Global};
+
+/// The line of a message. The next message's often differs in the last digit of its number alone,
+/// which is then put in its place.
+#[derive(Drop)]
+pub(crate) struct Line {
+    pub(crate) bytes: Vec<u8>,
+    /// Where the last digit of the number stands in the line of a message whose calls are all done;
+    /// 0 in any other.
+    digit: usize,
+    /// The number of that message.
+    number: u64,
+    /// How many calls it had.
+    calls: usize,
+}
+
+impl Line {
+    /// A line that has taken no memory yet.
+    pub(crate) fn new(alloc: Global) -> Line
+        ensures { KeepsLine result }
+    {
+        Line {
+            bytes: Vec::new(alloc),
+            digit: 0,
+            number: 0,
+            calls: 0,
+        }
+    }
+
+    /// Makes the line of the message before into that of this one, whose calls are all done, where
+    /// they differ in the last digit of the number alone. Else nothing changes.
+    #[inline(always)]
+    fn count_on(&mut self, number: u64, calls: usize) -> bool
+        requires { KeepsLine self.old }
+        ensures line { OnTrue result (self.new.bytes.items ≡ line_of number (all_done calls)) }
+        ensures kept { KeepsLine self.new }
+    {
+        if self.digit == 0 || self.calls != calls {
+            return false;
+        }
+        if self.number >= number || number - self.number != 1 {
+            return false;
+        }
+        let digit = self.bytes[self.digit];
+        if digit >= b'9' {
+            return false;
+        }
+        self.bytes[self.digit] = digit + 1;
+        self.number = number;
+        true
+    }
+
+    /// Puts the line of the answer to message `number` in place of the bytes; they grow where they
+    /// have no room for it.
+    #[inline(always)]
+    pub(crate) fn set(&mut self, number: u64, answer: &MessageAnswer) -> Result<(), AllocError>
+        requires { KeepsLine self.old }
+        ensures line { (words : List (List ℕ)) → OnOk result
+            (self.new.bytes.items ≡ line_of number (answer_view words answer.now)) }
+        ensures kept { KeepsLine self.new }
+    {
+        if let MessageAnswer::Done { count: _, calls } = answer {
+            if self.count_on(number, *calls) {
+                return Ok(());
+            }
+        }
+        self.put(number, answer)
+    }
+
+    /// Puts the line of the answer to message `number` in place of the bytes, byte by byte.
+    #[inline(never)]
+    fn put(&mut self, number: u64, answer: &MessageAnswer) -> Result<(), AllocError>
+        ensures line { (words : List (List ℕ)) → OnOk result
+            (self.new.bytes.items ≡ line_of number (answer_view words answer.now)) }
+        ensures kept { KeepsLine self.new }
+    {
+        self.digit = 0;
+        let digit = log_line(&mut self.bytes, number, answer)?;
+        if let MessageAnswer::Done { count: _, calls } = answer {
+            self.digit = digit;
+            self.number = number;
+            self.calls = *calls;
+        }
+        Ok(())
+    }
+}

@@ -1,0 +1,78 @@
+//! The loop of the relay.
+ghost use Rattle.std.specs.Prelude.{◌≡◌};
+ghost use Rattle.capnp_copy_arenas.specs.Memory.{AllZero};
+ghost use Rattle.capnp_relay_loop.specs.Streams.{streams_of};
+ghost use Rattle.capnp_relay_loop.specs.Work.{work_by};
+ghost use Rattle.capnp_relay_loop.specs.Pauses.{RelaysPausing};
+
+use crate::answers::Answers;
+use crate::ends::{Counts, RelayFault};
+use crate::pauses::Pause;
+use crate::step::{Buffers, step};
+use capnp_stream::forms::MessageForm;
+use capnp_stream_io::traits::{BufRead, Read, Write};
+use std::alloc::Global;
+
+/// Answers each message of the source in turn, in one form: a message in the other for each written
+/// answer, and a line for each. It goes to the end of input, or the first bytes that begin with no
+/// message of n words at most. Before each read there is a pause. The region is all zeros, before
+/// and after.
+///
+/// `Framing`: what is left of the source begins with no message. `Source`, `Out`, `Log`: the device
+/// failed, or a sink has no room for what it is given. `Memory`: a growth was refused. `Size`: a
+/// message is too large to be answered, or it is message number 2^64. A fault of a pause is `Out`
+/// or `Log`. What was written before stands; the counts are the frames that were written whole and
+/// the refusals that were logged whole.
+pub fn answer_all<
+    I: MessageForm,
+    O: MessageForm,
+    R: BufRead,
+    W: Write,
+    L: Write,
+    A: Answers,
+    P: Pause<R, W, L>,
+>(
+    alloc: Global,
+    source: &mut R,
+    out: &mut W,
+    log: &mut L,
+    answers: &A,
+    limit: usize,
+    region: &mut [u8],
+) -> Result<Counts, RelayFault>
+    requires zeros { AllZero region.old }
+    ensures run { let seen = streams_of ⟦<R as Read>⟧ ⟦<W as Write>⟧ ⟦<L as Write>⟧ in
+        RelaysPausing P.may_fail (work_by ⟦<A as Answers>⟧ answers.now I.reader O.writer limit
+        W.may_grow L.may_grow) (seen source.old out.old log.old)
+        (seen source.new out.new log.new) result }
+    ensures zeros { region.new ≡ region.old }
+{
+    let mut buffers = Buffers::new(alloc);
+    let mut counts = Counts {
+        written: 0,
+        refused: 0,
+    };
+    let mut answered: u64 = 0;
+    loop {
+        match P::pause(source, out, log) {
+            Ok(()) => {}
+            Err(fault) => return Err(RelayFault { fault, counts }),
+        }
+        match step::<I, O, R, W, L, A>(
+            alloc,
+            source,
+            out,
+            log,
+            answers,
+            limit,
+            region,
+            &mut buffers,
+            answered,
+            &mut counts,
+        ) {
+            Ok(true) => answered += 1,
+            Ok(false) => return Ok(counts),
+            Err(fault) => return Err(RelayFault { fault, counts }),
+        }
+    }
+}

@@ -1,0 +1,15 @@
+//! The relay's program but for its files and streams: the words and the files of a run, and the
+//! run.
+#![tactic(auto)]
+
+pub mod ahead;
+pub mod arguments;
+mod lines;
+pub mod program;
+mod run;
+pub mod settings;
+pub mod sinks;
+pub mod sources;
+pub mod stop;
+pub mod usage;
+pub mod version;

@@ -1,0 +1,135 @@
+//! The run of the program.
+ghost use Rattle.std.specs.Prelude.{◌≡◌, [], map, string_bytes, OnOk, IfOk, IfErr};
+ghost use Rattle.std.specs.Option.{option_copied};
+ghost use Rattle.capnp_relay_loop.specs.Streams.{streams_of};
+ghost use Rattle.capnp_relay_program.specs.Asked.{request, IsHeldBack};
+ghost use Rattle.capnp_relay_program.specs.Settings.{asked_of};
+ghost use Rattle.capnp_relay_program.specs.Program.{seen_of, Ran, RelaysAll};
+
+use crate::ahead::BoundedForm;
+use crate::settings::Settings;
+use crate::sinks::Flush;
+use crate::sources::{FlushBeforeWait, Windowed};
+use crate::stop::Stop;
+use capnp_relay_loop::ends::{Counts, Fault, RelayFault};
+use capnp_relay_streams::between::{BetweenFault, relay_between_pausing};
+use capnp_relay_streams::options::Form;
+use capnp_relay_streams::relay::relay_pausing;
+use capnp_stream::forms::Framed;
+use capnp_stream_io::traits::{Read, Write};
+use capnp_stream_packed::form::Packed;
+use std::alloc::Global;
+
+/// The most bytes of the region in which messages are edited. A run writes zeros to all of it
+/// before its first message, so it has room for the messages of most streams and no more. One that
+/// is longer is edited in memory from `alloc`.
+const REGION_LEN: usize = 64 * 1024;
+
+/// The end of the relay that was asked for, of input in this form; nothing is read or written where
+/// it is held back.
+fn relay_in<F: BoundedForm, R: Windowed, W: Flush, L: Flush>(
+    alloc: Global,
+    settings: &Settings,
+    source: &mut R,
+    out: &mut W,
+    log: &mut L,
+) -> Result<Result<Counts, RelayFault>, Stop>
+    ensures ran { let three = streams_of ⟦<R as Read>⟧ ⟦<W as Write>⟧ ⟦<L as Write>⟧ in
+        IfOk result (Ran (asked_of settings.now) W.may_grow L.may_grow
+        (three source.old out.old log.old) (three source.new out.new log.new)) }
+    ensures held { IfErr result (IsHeldBack (asked_of settings.now)) }
+    ensures untouched { IfErr result (λ _. (source.new ≡ source.old)
+        × (out.new ≡ out.old) × (log.new ≡ log.old)) }
+{
+    let region_len = settings.options.region_len().min(REGION_LEN);
+    let mut region = vec![in alloc; 0u8; region_len]?;
+    let root = settings.version.root();
+    let calls = settings.calls.as_slice();
+    let options = settings.options;
+    let Some(newer) = &settings.newer else {
+        return Ok(relay_pausing::<R, W, L, FlushBeforeWait<F>>(
+            alloc,
+            source,
+            out,
+            log,
+            root,
+            calls,
+            options,
+            &mut region,
+        ));
+    };
+    let newer = newer.root();
+    match relay_between_pausing::<R, W, L, FlushBeforeWait<F>>(
+        alloc,
+        source,
+        out,
+        log,
+        root,
+        newer,
+        &settings.renamings,
+        calls,
+        options,
+        &mut region,
+    ) {
+        Ok(counts) => Ok(Ok(counts)),
+        Err(BetweenFault::Relay(e)) => Ok(Err(e)),
+        Err(BetweenFault::NotCompatible) => Err(Stop::NotCompatible),
+        Err(BetweenFault::NotAdmitted(n)) => Err(Stop::NotAdmitted(n)),
+        Err(BetweenFault::Memory) => Err(Stop::Relay(Fault::Memory)),
+    }
+}
+
+/// The end of the relay that was asked for; nothing is read or written where it is held back.
+fn relay_asked<R: Windowed, W: Flush, L: Flush>(
+    alloc: Global,
+    settings: &Settings,
+    source: &mut R,
+    out: &mut W,
+    log: &mut L,
+) -> Result<Result<Counts, RelayFault>, Stop>
+    ensures ran { let three = streams_of ⟦<R as Read>⟧ ⟦<W as Write>⟧ ⟦<L as Write>⟧ in
+        IfOk result (Ran (asked_of settings.now) W.may_grow L.may_grow
+        (three source.old out.old log.old) (three source.new out.new log.new)) }
+    ensures held { IfErr result (IsHeldBack (asked_of settings.now)) }
+    ensures untouched { IfErr result (λ _. (source.new ≡ source.old)
+        × (out.new ≡ out.old) × (log.new ≡ log.old)) }
+{
+    match settings.input {
+        Form::Framed => relay_in::<Framed, R, W, L>(alloc, settings, source, out, log),
+        Form::Packed => relay_in::<Packed, R, W, L>(alloc, settings, source, out, log),
+    }
+}
+
+/// Settles what the words and the files ask for, relays the messages of the source, and flushes
+/// both sinks, the output first.
+pub(crate) fn relay_all<R: Windowed, W: Flush, L: Flush>(
+    alloc: Global,
+    words: &[String],
+    schema: Option<&[u8]>,
+    calls: Option<&[u8]>,
+    newer: Option<&[u8]>,
+    renames: Option<&[u8]>,
+    source: &mut R,
+    out: &mut W,
+    log: &mut L,
+) -> Result<(), Stop>
+    ensures run { let three = streams_of ⟦<R as Read>⟧ ⟦<W as Write>⟧ ⟦<L as Write>⟧ in
+        RelaysAll (request (map string_bytes words.now) (option_copied schema.entry)
+        (option_copied calls.entry) (option_copied newer.entry) (option_copied renames.entry))
+        W.may_grow L.may_grow
+        (seen_of (three source.old out.old log.old) (W.held out.old) (L.held log.old))
+        (seen_of (three source.new out.new log.new) (W.held out.new) (L.held log.new))
+        result }
+    ensures held { OnOk result ((W.held out.new ≡ []) × (L.held log.new ≡ [])) }
+{
+    let settings = Settings::new(alloc, words, schema, calls, newer, renames)?;
+    let end = relay_asked(alloc, &settings, source, out, log)?;
+    let flushed_out = out.flush();
+    let flushed_log = log.flush();
+    match (end, flushed_out, flushed_log) {
+        (Err(e), _, _) => Err(Stop::Relay(e.fault)),
+        (Ok(_), Err(_), _) => Err(Stop::Relay(Fault::Out)),
+        (Ok(_), Ok(()), Err(_)) => Err(Stop::Relay(Fault::Log)),
+        (Ok(_), Ok(()), Ok(())) => Ok(()),
+    }
+}

@@ -1,0 +1,62 @@
+//! The flushes before a source that may wait.
+ghost use Rattle.std.specs.Prelude.{◌≡◌, ℕ, Option, [], OnOk, IfErr, ⊤};
+ghost use Rattle.capnp_model.specs.Messages.{message_at};
+ghost use Rattle.capnp_stream.specs.Pieces.{EndsEarly};
+ghost use Rattle.capnp_relay_loop.specs.Streams.{sink_of};
+ghost use Rattle.capnp_relay_loop.specs.Pauses.{SinkRests, FailsInPause};
+
+use crate::ahead::{BoundedForm, holds_next};
+use crate::sinks::Flush;
+use capnp_relay_loop::ends::Fault;
+use capnp_relay_loop::pauses::Pause;
+pub use capnp_stream_io::traits::Windowed;
+use capnp_stream_io::traits::{Read, Write};
+use std::marker::PhantomData;
+
+/// Hands on what both sinks hold, the output's before the log's. It doesn't where the bytes that
+/// the source shows tell the next message, or what is wrong with it, so that it is read without a
+/// wait. `Out`, `Log`: the sink's device failed.
+#[inline(always)]
+pub fn flush_before_wait<F: BoundedForm, R: Windowed, W: Flush, L: Flush>(
+    source: &R,
+    out: &mut W,
+    log: &mut L,
+) -> Result<(), Fault>
+    ensures whole { OnOk result ((limit : Option ℕ)
+        → EndsEarly (message_at F.reader limit (R.window source.now))
+        → (W.held out.new ≡ []) × (L.held log.new ≡ [])) }
+    ensures empty { OnOk result
+        (R.shown source.now ≡ 0 → (W.held out.new ≡ []) × (L.held log.new ≡ [])) }
+    ensures rests { let sink = sink_of ⟦<W as Write>⟧ in let line = sink_of ⟦<L as Write>⟧ in
+        OnOk result (SinkRests (sink out.old) (sink out.new)
+        × SinkRests (line log.old) (line log.new)) }
+    ensures fault { let sink = sink_of ⟦<W as Write>⟧ in let line = sink_of ⟦<L as Write>⟧ in
+        IfErr result (λ f. FailsInPause f (sink out.old) (sink out.new)
+        (line log.old) (line log.new)) }
+{
+    if holds_next::<F>(source.window()) {
+        return Ok(());
+    }
+    if out.flush().is_err() {
+        return Err(Fault::Out);
+    }
+    if log.flush().is_err() {
+        return Err(Fault::Log);
+    }
+    Ok(())
+}
+
+/// Before a wait for input both sinks are flushed. The input has this form.
+#[derive(Clone, Copy, Debug)]
+pub struct FlushBeforeWait<F> {
+    form: PhantomData<F>,
+}
+
+impl<F: BoundedForm, R: Windowed, W: Flush, L: Flush> Pause<R, W, L> for FlushBeforeWait<F> {
+    ghost may_fail = { ⊤ };
+
+    #[inline(always)]
+    fn pause(source: &R, out: &mut W, log: &mut L) -> Result<(), Fault> {
+        flush_before_wait::<F, R, W, L>(source, out, log)
+    }
+}

@@ -1,0 +1,90 @@
+//! Why a request is refused.
+
+ghost use Rattle.std.specs.Prelude.{◌≡◌};
+ghost use Rattle.capnp_relay_requests.specs.declared.fault.RequestFault.TheVariants.{Unread};
+
+use std::alloc::{AllocError, AllocFailed};
+
+/// What of a node or of one of its members can't be read.
+#[derive(Clone, Copy, Debug, PartialEq, Eq, thiserror::Error)]
+pub enum Part {
+    /// The union of the node or the field has a member that schema.capnp doesn't name.
+    #[error("its kind can't be read")]
+    Kind,
+    /// The name is no text in UTF-8.
+    #[error("its name can't be read")]
+    Name,
+    /// The members of a struct or an enum are no list of structs.
+    #[error("its members can't be read")]
+    Members,
+    /// The type is no struct, has a member that schema.capnp doesn't name, or nests more than 64
+    /// lists.
+    #[error("its type can't be read")]
+    FieldType,
+    /// The default isn't of the field's type, or can't be read.
+    #[error("its default can't be read")]
+    Default,
+    /// The type is a float or a list of floats, which are refused.
+    #[error("it is a float")]
+    Float,
+    /// The annotations are no list of structs, or the value of one can't be read.
+    #[error("its annotations can't be read")]
+    Annotations,
+}
+
+/// A node, or one of its members.
+#[derive(Clone, Copy, Debug, PartialEq, Eq, thiserror::Error)]
+pub enum Spot {
+    /// The node of an id.
+    #[error("node {node}")]
+    Node { node: u64 },
+    /// A field or an enumerant of the node of an id, by its index.
+    #[error("member {index} of node {node}")]
+    Member { node: u64, index: u32 },
+}
+
+/// Why a request is refused.
+#[derive(Clone, Copy, Debug, PartialEq, Eq, thiserror::Error)]
+pub enum RequestFault {
+    /// The bytes aren't one frame whose value has at most 64 levels, costs at most 2^23 words and
+    /// has no capability.
+    #[error("no message")]
+    Message,
+    /// The root is no struct, or its nodes are no list of structs.
+    #[error("no request")]
+    Request,
+    /// Part of a node or of a member can't be read.
+    #[error("{spot}: {part}")]
+    Unread { spot: Spot, part: Part },
+    #[error("out of memory")]
+    Memory,
+}
+
+/// A part of a node or of a member can't be read.
+pub(crate) fn unread(spot: Spot, part: Part) -> RequestFault
+    ensures { result ≡ Unread spot part }
+{
+    RequestFault::Unread { spot, part }
+}
+
+impl From<AllocError> for RequestFault {
+    ghost use Rattle.std.specs.Prelude.{◌≡◌};
+    ghost use Rattle.capnp_relay_requests.specs.declared.fault.RequestFault.{RequestFault};
+
+    ghost from_gives = { λ _ fault. fault ≡ RequestFault.Memory };
+
+    fn from(_e: AllocError) -> RequestFault {
+        RequestFault::Memory
+    }
+}
+
+impl<T: Drop> From<AllocFailed<T>> for RequestFault {
+    ghost use Rattle.std.specs.Prelude.{◌≡◌};
+    ghost use Rattle.capnp_relay_requests.specs.declared.fault.RequestFault.{RequestFault};
+
+    ghost from_gives = { λ _ fault. fault ≡ RequestFault.Memory };
+
+    fn from(_e: AllocFailed<T>) -> RequestFault {
+        RequestFault::Memory
+    }
+}

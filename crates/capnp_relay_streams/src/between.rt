@@ -1,0 +1,177 @@
+//! The relay between two versions of a schema.
+ghost use Rattle.std.specs.Prelude.{◌≡◌, ◌+◌, ◌*◌, length, replicate, IfErr, OnOk};
+ghost use Rattle.capnp_calls.specs.Roots.{IsRoot};
+ghost use Rattle.capnp_relay_loop.specs.Streams.{streams_of};
+ghost use Rattle.capnp_relay_loop.specs.Run.{RunEndsAs};
+ghost use Rattle.capnp_relay_loop.specs.Pauses.{RelaysPausing};
+ghost use Rattle.capnp_calls_versions.specs.Renamed.{renamings_of};
+ghost use Rattle.capnp_relay_streams.specs.Newer.{MayRun};
+ghost use Rattle.capnp_relay_streams.specs.Ends.{IsHeld, RelaysBetween, RelaysBetweenWith, IfRun, IfHeld};
+
+use crate::options::RelayOptions;
+use crate::relay::relay_pausing;
+use capnp_calls::Call;
+use capnp_calls::laws::{calls_are_given, roots_are_no_groups};
+use capnp_calls_versions::admitted::{Admission, admitted_with};
+use capnp_calls_versions::compatible::compatible_with;
+use capnp_calls_versions::renamings::Renamings;
+use capnp_calls_versions::root::Root;
+use capnp_model::laws::records_of_trimmed_values;
+use capnp_model::laws_of_edits::{records_after_calls, records_of_written_values};
+use capnp_model_versions::laws_of_renamings::calls_across_renamed_versions;
+use capnp_relay_loop::ends::{Counts, RelayFault};
+use capnp_relay_loop::pauses::{NoPause, Pause};
+use capnp_stream_io::traits::{BufRead, Read, Write};
+use capnp_values_queries::structs::StructSchema;
+use std::alloc::Global;
+
+/// Why a relay between two versions ends before the end of input.
+#[derive(Clone, Copy, Debug, PartialEq, Eq, thiserror::Error)]
+pub enum BetweenFault {
+    /// The newer schema isn't compatible with the older.
+    #[error("not compatible")]
+    NotCompatible,
+    /// The call of this number, counted from 1, is the first that isn't admitted.
+    #[error("call {0} not admitted")]
+    NotAdmitted(usize),
+    /// A growth was refused before a message was read.
+    #[error("memory")]
+    Memory,
+    /// The relay met a fault.
+    #[error("{0}")]
+    Relay(RelayFault),
+}
+
+/// Whether the calls may be relayed between the two versions.
+fn check(
+    alloc: Global,
+    root: StructSchema<'_>,
+    newer: StructSchema<'_>,
+    renamings: &Renamings,
+    calls: &[Call],
+) -> Result<(), BetweenFault>
+    ensures ok { OnOk result
+        (MayRun (renamings_of renamings.now) root.entry newer.entry calls.now) }
+    ensures held { IfErr result
+        (IsHeld (renamings_of renamings.now) root.entry newer.entry calls.now) }
+{
+    let older = Root {
+        set: root.set(),
+        id: root.raw().id,
+    };
+    let newer = Root {
+        set: newer.set(),
+        id: newer.raw().id,
+    };
+    match compatible_with(alloc, older, newer, renamings) {
+        Ok(true) => {}
+        Ok(false) => return Err(BetweenFault::NotCompatible),
+        Err(_) => return Err(BetweenFault::Memory),
+    }
+    match admitted_with(alloc, calls, older, newer, renamings) {
+        Ok(Admission::Admitted) => Ok(()),
+        Ok(Admission::Refused(n)) => Err(BetweenFault::NotAdmitted(n)),
+        Err(_) => Err(BetweenFault::Memory),
+    }
+}
+
+/// Relays under the root's schema what is read under a newer one, as `relay` does, where the newer
+/// schema is compatible with the older and each call is admitted. Then the newer record of each
+/// message that is written is what the newer schema's record machine makes of that of the message
+/// that was read. Lists have to be in kind for it. So what only the newer schema knows stays.
+///
+/// The region has 8 bytes for each word of the word limit and 8 more. `NotCompatible`,
+/// `NotAdmitted` and `Memory` come, in this order, before a byte is read: source, sinks and region
+/// are as they were. `Relay` tells how `relay` ended; at that exit, and where all was answered, the
+/// region is all zeros.
+pub fn relay_between<R: BufRead, W: Write, L: Write>(
+    alloc: Global,
+    source: &mut R,
+    out: &mut W,
+    log: &mut L,
+    root: StructSchema<'_>,
+    newer: StructSchema<'_>,
+    calls: &[Call],
+    options: RelayOptions,
+    region: &mut [u8],
+) -> Result<Counts, BetweenFault>
+    requires region { length region.old ≡ 8 * (options.bounds.words + 1) }
+    requires root { IsRoot root }
+    ensures run { let seen = streams_of ⟦<R as Read>⟧ ⟦<W as Write>⟧ ⟦<L as Write>⟧ in
+        RelaysBetween RunEndsAs root.entry newer.entry calls.now options W.may_grow L.may_grow
+        (seen source.old out.old log.old) (seen source.new out.new log.new) result }
+    ensures zeros { IfRun result (region.new ≡ replicate (length region.old) 0) }
+    ensures untouched { IfHeld result ((source.new ≡ source.old) × (out.new ≡ out.old)
+        × (log.new ≡ log.old) × (region.new ≡ region.old)) }
+{
+    let none = Renamings::none(alloc);
+    relay_between_with(
+        alloc, source, out, log, root, newer, &none, calls, options, region,
+    )
+}
+
+/// As `relay_between`, where the newer schema has fields by other names. Calls keep the older
+/// names, and the newer schema's record machine makes them with each name of a field replaced by
+/// that of its partner. A renaming of a node or field that isn't reached has no effect.
+pub fn relay_between_with<R: BufRead, W: Write, L: Write>(
+    alloc: Global,
+    source: &mut R,
+    out: &mut W,
+    log: &mut L,
+    root: StructSchema<'_>,
+    newer: StructSchema<'_>,
+    renamings: &Renamings,
+    calls: &[Call],
+    options: RelayOptions,
+    region: &mut [u8],
+) -> Result<Counts, BetweenFault>
+    requires region { length region.old ≡ 8 * (options.bounds.words + 1) }
+    requires root { IsRoot root }
+    ensures run { let seen = streams_of ⟦<R as Read>⟧ ⟦<W as Write>⟧ ⟦<L as Write>⟧ in
+        RelaysBetweenWith RunEndsAs (renamings_of renamings.now) root.entry newer.entry calls.now
+        options W.may_grow L.may_grow
+        (seen source.old out.old log.old) (seen source.new out.new log.new) result }
+    ensures zeros { IfRun result (region.new ≡ replicate (length region.old) 0) }
+    ensures untouched { IfHeld result ((source.new ≡ source.old) × (out.new ≡ out.old)
+        × (log.new ≡ log.old) × (region.new ≡ region.old)) }
+{
+    relay_between_pausing::<R, W, L, NoPause>(
+        alloc, source, out, log, root, newer, renamings, calls, options, region,
+    )
+}
+
+/// As `relay_between_with`, with a pause before each message is read and a region of any length. A
+/// fault of a pause ends the run as `Out` or `Log`.
+pub fn relay_between_pausing<R: BufRead, W: Write, L: Write, P: Pause<R, W, L>>(
+    alloc: Global,
+    source: &mut R,
+    out: &mut W,
+    log: &mut L,
+    root: StructSchema<'_>,
+    newer: StructSchema<'_>,
+    renamings: &Renamings,
+    calls: &[Call],
+    options: RelayOptions,
+    region: &mut [u8],
+) -> Result<Counts, BetweenFault>
+    requires root { IsRoot root }
+    ensures run { let seen = streams_of ⟦<R as Read>⟧ ⟦<W as Write>⟧ ⟦<L as Write>⟧ in
+        RelaysBetweenWith (RelaysPausing P.may_fail) (renamings_of renamings.now) root.entry
+        newer.entry calls.now options W.may_grow L.may_grow
+        (seen source.old out.old log.old) (seen source.new out.new log.new) result }
+    ensures zeros { IfRun result (region.new ≡ replicate (length region.old) 0) }
+    ensures untouched { IfHeld result ((source.new ≡ source.old) × (out.new ≡ out.old)
+        × (log.new ≡ log.old) × (region.new ≡ region.old)) }
+{
+    calls_across_renamed_versions();
+    records_of_written_values();
+    records_after_calls();
+    records_of_trimmed_values();
+    calls_are_given();
+    roots_are_no_groups();
+    check(alloc, root, newer, renamings, calls)?;
+    match relay_pausing::<R, W, L, P>(alloc, source, out, log, root, calls, options, region) {
+        Ok(counts) => Ok(counts),
+        Err(e) => Err(BetweenFault::Relay(e)),
+    }
+}

@@ -1,4 +1,0 @@
-use Rattle.capnp_replies.proofs.ends.element_reply.Goals as goal
-
-pub returns-in-Set : goal.returns-in-Set
-returns-in-Set c s = rw c.in-Set.is (c.set_element.ensures s)

@@ -1,6 +1,0 @@
-use Rattle.std.proofs.Common.{rules}
-use Rattle.capnp_replies.proofs.Numbers.{taken_bits}
-use Rattle.capnp_replies.proofs.values.fits_unsigned.Goals as goal
-
-pub returns-in-Number : goal.returns-in-Number
-returns-in-Number c = let is = taken_bits c.unsigned_bits.result _ c.unsigned_bits.ensures in search rules

@@ -1,9 +1,0 @@
-use Rattle.std.proofs.Common.{◌≡◌, map, Ok}
-use Rattle.capnp_records.specs.NodeViews.{annotation_of}
-use Rattle.capnp_wire.specs.Views.{seen_list}
-use Rattle.capnp_requests.specs.Annotations.{given_by, annotations_among}
-use Rattle.capnp_requests.proofs.annotations.annotations_of.Given as goal
-
--- the first i are read
-abbrev pub invariant-loop-i : goal.invariant-loop-i
-invariant-loop-i g l = annotations_among (given_by l.fn.context) l.fn.spot (seen_list g.A.ReaderArena.segments l.fn.list) l.i ≡ Ok (map annotation_of l.annotations.items)

@@ -1,0 +1,33 @@
+-- What is returned where content is put into an element, and what is left. (Encoding, "Lists",
+-- "Blobs")
+use Rattle.std.specs.Prelude.{◌≡◌, ⊤, ℕ, map, length, Result, Ok, Err, OnOk, IfErr}
+use Rattle.capnp_model.specs.Sizes.{object_words}
+use Rattle.capnp_model.specs.Calls.{Content, refused_by, bits_of, object}
+use Rattle.capnp_model.specs.Edits.{Edit}
+use Rattle.capnp_units.specs.Segments.{words_in}
+use Rattle.capnp_units.specs.declared.errors.Error.{Error}
+use Rattle.capnp_copy_arenas.specs.Allocations.{TakesJust, TakesAtMost}
+use Rattle.capnp_copy_arenas.specs.declared.init.ListPlace.{ListPlace}
+use Rattle.capnp_layout_builders.specs.Making.{ArenaState}
+use Rattle.capnp_schema_structs.specs.Puts.{answered, NewObjectRefused}
+use Rattle.capnp_schema_lists.specs.Lists.{EditsElement, DeepensElement}
+
+-- An element becomes what the edit makes of it, with a new object of n words. It takes exactly
+-- these where the list's segment had room, else at most a pad's more.
+pub record PutsElementObject (old new : ArenaState) (o : ListPlace) (f : ℕ → ℕ → Edit) (index words : ℕ) : Type 0 where
+  pub writes : DeepensElement (words_in old.segments) (words_in new.segments) o f index
+  pub taken : TakesJust (words_in old.segments) old.room (words_in new.segments) o.start.segment words
+  pub bound : TakesAtMost (words_in old.segments) (words_in new.segments) words 1
+
+-- No segment changes its length.
+pub record PutsElementBits (old new : ArenaState) (o : ListPlace) (f : ℕ → ℕ → Edit) (index : ℕ) : Type 0 where
+  pub writes : EditsElement (words_in old.segments) (words_in new.segments) o f index
+  pub sizes : map length (words_in new.segments) ≡ map length (words_in old.segments)
+
+-- What is returned, and what the element becomes, by the content. What is refused by its type is
+-- exactly that. Bits are never refused, and take no memory. An object is refused only for want of
+-- it.
+abbrev pub PutsElementContent : ArenaState → ArenaState → ListPlace → (ℕ → ℕ → Edit) → ℕ → Content → Result ⊤ Error → Type 0
+PutsElementContent old new o f index (refused_by k) r = answered r ≡ Err k
+PutsElementContent old new o f index (bits_of n) r = (answered r ≡ Ok tt) × PutsElementBits old new o f index
+PutsElementContent old new o f index (object t) r = OnOk r (PutsElementObject old new o f index (object_words t)) × IfErr r (NewObjectRefused old o.start.segment t)

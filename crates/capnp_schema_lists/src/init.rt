@@ -1,0 +1,79 @@
+//! Lists of zeros, nulls and empty structs, and texts and data of zero bytes, put into elements,
+//! over places.
+ghost use Rattle.std.specs.Prelude.{◌≡◌, ◌<◌, [], true, IfErr, OnErr};
+ghost use Rattle.capnp_model.specs.Accepted.{schema_of};
+ghost use Rattle.capnp_model.specs.Calls.{initn, element_content};
+ghost use Rattle.capnp_model.specs.Coverage.{Grows};
+ghost use Rattle.capnp_model.specs.Edits.{edit_element};
+ghost use Rattle.capnp_units.specs.Errors.{kind_of};
+ghost use Rattle.capnp_units.specs.Segments.{words_in};
+ghost use Rattle.capnp_records.specs.Sets.{nodes_of};
+ghost use Rattle.capnp_values_queries.specs.Types.{ty_of, is_type_of};
+ghost use Rattle.capnp_copy_arenas.specs.Refusals.{IsSizeOrRefusal};
+ghost use Rattle.capnp_copy_arenas.specs.States.{state_in};
+ghost use Rattle.capnp_schema_structs.specs.Puts.{HasCause};
+ghost use Rattle.capnp_schema_lists.specs.Elements.{Holds, no_new_element};
+ghost use Rattle.capnp_schema_lists.specs.Lists.{IsListThere};
+ghost use Rattle.capnp_schema_lists.specs.Puts.{PutsElementContent};
+
+use crate::places::element_pointer;
+use capnp_copy_arenas::arena::BuilderArena;
+use capnp_copy_arenas::init::ListPlace;
+use capnp_records::set::SchemaSet;
+use capnp_schema_structs::initn::{list_for, put_list};
+use capnp_units::errors::{Error, Result};
+use capnp_units::kinds::ErrorKind;
+use capnp_values_queries::introspect::{Type, TypeVariant};
+
+/// Why no list is made in an element of a type that is no list's, no text's and no data's.
+fn refusal(ty: Type) -> ErrorKind
+    ensures { kind_of result ≡ no_new_element (ty_of ty) }
+{
+    match ty.which() {
+        TypeVariant::AnyPointer => ErrorKind::ListAnyPointerNotSupported,
+        _ => ErrorKind::ExpectedAListOrBlob,
+    }
+}
+
+/// Puts n zeros in place of the value behind an element's pointer, which is cleared, as `init` of a
+/// dynamic list's builder does. A text or data becomes n zero bytes, a text with its own zero byte
+/// besides. A list becomes n zeros, nulls or empty structs. The index is one of the list's. The new
+/// list takes its words, the tag of structs among them, where the list's segment has room for them,
+/// else at most one more.
+///
+/// It is refused
+/// - with `ListAnyPointerNotSupported` where the elements are untyped pointers;
+/// - with `ExpectedAListOrBlob` where they are of another type;
+/// - with `SizeOverflow` exactly where the elements, structs' words or the message's words, a pad
+///   counted, would pass 2^29 - 1;
+/// - else as the allocator refuses.
+///
+/// Then all is as it was.
+pub fn init_element<A: BuilderArena>(
+    arena: &mut A,
+    list: ListPlace,
+    set: &SchemaSet,
+    ty: Type,
+    index: u32,
+    size: u32,
+) -> Result<()>
+    requires there { IsListThere (words_in (A.segments arena.old)) list }
+    requires holds { Holds list (ty_of ty) }
+    requires known { is_type_of (nodes_of set.now) ty ≡ true }
+    requires index { index < list.count }
+    ensures puts { let at = state_in A.segments A.room A.books in
+        let s = schema_of (nodes_of set.now) in
+        PutsElementContent (at arena.old) (at arena.new) list
+        (edit_element s [] (initn size) (ty_of ty)) index
+        (element_content s (initn size) (ty_of ty)) result }
+    ensures cause { let s = schema_of (nodes_of set.now) in IfErr result (HasCause
+        (element_content s (initn size) (ty_of ty)) (IsSizeOrRefusal A.refuses)) }
+    ensures refused { OnErr result (A.segments arena.new ≡ A.segments arena.old) }
+    ensures grows { Grows (words_in (A.segments arena.old)) (words_in (A.segments arena.new)) }
+    ensures books { A.books arena.new ≡ A.books arena.old }
+{
+    match list_for(set, ty) {
+        Some(new) => put_list(arena, element_pointer(list, index), new, size),
+        None => Err(Error::from(refusal(ty))),
+    }
+}

@@ -1,0 +1,12 @@
+//! Dynamic builders of lists: lists whose elements' type is known at run time, written where they
+//! lie in a message.
+#![tactic(auto)]
+
+mod blobs;
+pub mod dynamic_list;
+pub mod elements;
+pub mod holding;
+pub mod init;
+pub mod laws;
+pub mod places;
+pub mod values;

@@ -1,0 +1,11 @@
+use Rattle.capnp_units.specs.Segments.{words_in}
+use Rattle.capnp_schema_structs.proofs.lemmas.Ready.{field_inside, there_after}
+use Rattle.capnp_schema_structs.proofs.dynamic_struct.Builder.clear.Goals as goal
+
+pub clear_field-requires-clause-inside : goal.clear_field-requires-clause-inside
+clear_field-requires-clause-inside g c = field_inside c.args.self.now.place c.args.self.now.schema c.args.field c.requires.field c.requires.ready.wide
+
+pub returns-clause-ready : goal.returns-clause-ready
+returns-clause-ready g c =
+    let old = c.args.self.now in
+    record { there = there_after (words_in (g.A.ReaderArena.segments old.memory.now.arena)) (words_in (g.A.ReaderArena.segments c.clear_field.new.arena)) old.place c.clear_field.ensures.sizes c.requires.ready.there; wide = c.requires.ready.wide }

@@ -1,0 +1,298 @@
+//! Groups that are set to structs, over places in an arena: for builders of structs, and for calls
+//! that are written where a message lies (`capnp_calls_edits`).
+ghost use Rattle.std.specs.Prelude.{◌≡◌, ◌<◌, true, false, IfErr};
+ghost use Rattle.capnp_model.specs.Accepted.{areas_of};
+ghost use Rattle.capnp_model.specs.Coverage.{Grows};
+ghost use Rattle.capnp_model.specs.Edits.{Cell};
+ghost use Rattle.capnp_model.specs.Trees.{child, null};
+ghost use Rattle.capnp_units.specs.Segments.{words_in};
+ghost use Rattle.capnp_wire.specs.Reads.{is_null_pointer};
+ghost use Rattle.capnp_wire.specs.Views.{seen_struct, pointer_field};
+ghost use Rattle.capnp_values_queries.specs.Handles.{entry_of_field};
+ghost use Rattle.capnp_values_queries.specs.Structs.{nodes_around, schema_around, shape_of_struct, fields_of_struct};
+ghost use Rattle.capnp_values_queries.specs.Types.{ty_of, is_type_of};
+ghost use Rattle.capnp_values.specs.Sources.{struct_seen};
+ghost use Rattle.capnp_copy_arenas.specs.Refusals.{IsSizeOrRefusal};
+ghost use Rattle.capnp_schema_structs.specs.Edits.{IsThere};
+ghost use Rattle.capnp_schema_structs.specs.Inside.{LieIn};
+ghost use Rattle.capnp_schema_structs.specs.Puts.{answered};
+ghost use Rattle.capnp_values_queries.specs.Fields.{union_in};
+ghost use Rattle.capnp_schema_structs.specs.GroupFaults.{StandsAt, IsFieldFaultless, AreFaultless, IsGroupFaultless};
+ghost use Rattle.capnp_schema_structs.specs.GroupRefusals.{type_tested, NullFieldRefused, SomeRefused, FieldsRefused, FieldRefused};
+ghost use Rattle.capnp_schema_structs.specs.GroupSets.{IsSource, entry_turn, WritesAsFar, IsPointerAt, SetsFields, copied_field, copied_turn, copied_fields, copied_group};
+
+use crate::group_nulls::{default_value, put_null};
+use crate::group_sources::{bits_in, copy_child, has_turn};
+use crate::slots::{clear_field, mark, pointer_place, width_of};
+use capnp_copy_arenas::arena::BuilderArena;
+use capnp_copy_arenas::fields::{StructPlace, set_bits};
+use capnp_records::node::NO_DISCRIMINANT;
+use capnp_units::errors::{Error, Result};
+use capnp_units::kinds::ErrorKind;
+use capnp_values::dynamic_struct::Reader;
+use capnp_values::laws::{nulls_are_read, pointers_are_read};
+use capnp_values::source::StructSource;
+use capnp_values_queries::fields::Field;
+use capnp_values_queries::introspect::{Type, TypeVariant};
+use capnp_values_queries::slots::FieldPlace;
+use capnp_values_queries::structs::StructSchema;
+use capnp_wire::structs::StructReader;
+use capnp_wire_objects::arena::ReaderArena;
+
+/// Tests that a slot of a pointer's type is one that is set: untyped pointers and capabilities
+/// aren't.
+fn test_type(ty: Type) -> Result<()>
+    ensures { answered result ≡ type_tested (ty_of ty) }
+{
+    let kind = match ty.which() {
+        TypeVariant::AnyPointer => ErrorKind::CannotSetAnyPointerFieldToAPrimitiveValue,
+        TypeVariant::Capability => ErrorKind::SettingDynamicCapabilitiesIsUnsupported,
+        _ => return Ok(()),
+    };
+    Err(Error::from(kind))
+}
+
+/// Sets a field behind a pointer that is null in what is read: it is left. But as a union's member
+/// it becomes its default, else the empty value of its type, and the union is marked.
+fn copy_null<A: BuilderArena>(
+    arena: &mut A,
+    object: StructPlace,
+    field: Field<'_>,
+    index: u32,
+    ty: Type,
+) -> Result<()>
+    requires there { IsThere (words_in (A.segments arena.old)) object }
+    requires inside { LieIn object.data_words object.pointers
+        (areas_of (shape_of_struct field.parent)) × (index < object.pointers) }
+    requires slot { IsPointerAt index (ty_of ty) (entry_of_field field)
+        × (is_type_of (nodes_around field.parent) ty ≡ true) }
+    ensures writes { (from : Cell) → child from.kids index ≡ null
+        → WritesAsFar (words_in (A.segments arena.old)) (words_in (A.segments arena.new)) object
+        (copied_field field.entry from) result }
+    ensures why { IfErr result (NullFieldRefused (IsSizeOrRefusal A.refuses) field.entry
+        (words_in (A.segments arena.new))) }
+    ensures cause { (from : Cell) → child from.kids index ≡ null → IfErr result (λ e.
+        IsFieldFaultless field.entry from → IsSizeOrRefusal A.refuses e) }
+    ensures grows { Grows (words_in (A.segments arena.old)) (words_in (A.segments arena.new)) }
+    ensures books { A.books arena.new ≡ A.books arena.old }
+{
+    let said = field.get_proto();
+    if said.discriminant_value == NO_DISCRIMINANT {
+        return Ok(());
+    }
+    test_type(ty)?;
+    let slot = pointer_place(object, index);
+    put_null(arena, slot, field.parent().set(), ty, default_value(field))?;
+    mark(arena, object, field);
+    Ok(())
+}
+
+/// Sets a field behind a pointer that isn't null in what is read, and then marks its union. It is
+/// refused where the pointer can't be read as the field's type.
+fn copy_some<'a, A: BuilderArena, B: ReaderArena>(
+    arena: &mut A,
+    object: StructPlace,
+    field: Field<'a>,
+    source: &StructReader<'a, B>,
+    index: u32,
+    ty: Type,
+) -> Result<()>
+    requires there { IsThere (words_in (A.segments arena.old)) object }
+    requires inside { LieIn object.data_words object.pointers
+        (areas_of (shape_of_struct field.parent)) × (index < object.pointers) }
+    requires slot { IsPointerAt index (ty_of ty) (entry_of_field field) }
+    requires some { is_null_pointer (pointer_field (seen_struct B.segments source.now) index) ≡ false }
+    ensures writes { (from : Cell) → IsSource (seen_struct B.segments source.now) from
+        → WritesAsFar (words_in (A.segments arena.old)) (words_in (A.segments arena.new)) object
+        (copied_field field.entry from) result }
+    ensures why { IfErr result (SomeRefused (IsSizeOrRefusal A.refuses) (schema_around field.entry.parent)
+        (seen_struct B.segments source.now) index (ty_of ty) (words_in (A.segments arena.new))) }
+    ensures cause { (from : Cell) → StandsAt (seen_struct B.segments source.now) from
+        → IfErr result (λ e. IsFieldFaultless field.entry from → IsSizeOrRefusal A.refuses e) }
+    ensures grows { Grows (words_in (A.segments arena.old)) (words_in (A.segments arena.new)) }
+    ensures books { A.books arena.new ≡ A.books arena.old }
+{
+    nulls_are_read();
+    pointers_are_read();
+    let _said = field.get_proto();
+    test_type(ty)?;
+    Reader::new(*source, field.parent()).get(field)?;
+    copy_child(arena, pointer_place(object, index), source, index)?;
+    mark(arena, object, field);
+    Ok(())
+}
+
+/// Sets a field as it is in what is read, and marks its union.
+#[cycle(sets)]
+fn copy_field<'a, A: BuilderArena, B: ReaderArena>(
+    arena: &mut A,
+    object: StructPlace,
+    field: Field<'a>,
+    source: &StructReader<'a, B>,
+) -> Result<()>
+    requires there { IsThere (words_in (A.segments arena.old)) object }
+    requires inside { LieIn object.data_words object.pointers
+        (areas_of (shape_of_struct field.parent)) }
+    ensures writes { (from : Cell) → IsSource (seen_struct B.segments source.now) from
+        → WritesAsFar (words_in (A.segments arena.old)) (words_in (A.segments arena.new)) object
+        (copied_field field.entry from) result }
+    ensures why { IfErr result (FieldRefused (IsSizeOrRefusal A.refuses) field.entry
+        (seen_struct B.segments source.now) (words_in (A.segments arena.new))) }
+    ensures cause { (from : Cell) → StandsAt (seen_struct B.segments source.now) from
+        → IfErr result (λ e. IsFieldFaultless field.entry from → IsSizeOrRefusal A.refuses e) }
+    ensures grows { Grows (words_in (A.segments arena.old)) (words_in (A.segments arena.new)) }
+    ensures books { A.books arena.new ≡ A.books arena.old }
+{
+    nulls_are_read();
+    let _said = field.get_proto();
+    match field.place() {
+        FieldPlace::Void { .. } => {
+            mark(arena, object, field);
+            Ok(())
+        }
+        FieldPlace::Plain { ty, offset, .. } => {
+            mark(arena, object, field);
+            let width = width_of(ty);
+            let at = width as usize * offset as usize;
+            set_bits(arena, object, at, width, bits_in(source, ty, offset));
+            Ok(())
+        }
+        FieldPlace::Pointer { index, ty, .. } => {
+            if source.is_pointer_field_null(index as usize) {
+                return copy_null(arena, object, field, index, ty);
+            }
+            copy_some(arena, object, field, source, index, ty)
+        }
+        FieldPlace::Group { schema } => {
+            clear_field(arena, object, field);
+            copy_group(arena, object, schema, source)
+        }
+    }
+}
+
+/// Sets a field in its turn as it is in what is read: the member that is active there, or a field
+/// that is no member.
+#[cycle(sets)]
+fn copy_turn<'a, A: BuilderArena, B: ReaderArena>(
+    arena: &mut A,
+    object: StructPlace,
+    field: Field<'a>,
+    source: &StructReader<'a, B>,
+    members: bool,
+) -> Result<()>
+    requires there { IsThere (words_in (A.segments arena.old)) object }
+    requires inside { LieIn object.data_words object.pointers
+        (areas_of (shape_of_struct field.parent)) }
+    ensures writes { (from : Cell) → IsSource (seen_struct B.segments source.now) from
+        → WritesAsFar (words_in (A.segments arena.old)) (words_in (A.segments arena.new)) object
+        (copied_turn field.entry members from) result }
+    ensures why { IfErr result (FieldRefused (IsSizeOrRefusal A.refuses) field.entry
+        (seen_struct B.segments source.now) (words_in (A.segments arena.new))) }
+    ensures cause { (from : Cell) → StandsAt (seen_struct B.segments source.now) from
+        → IfErr result (λ e. (entry_turn members (union_in (shape_of_struct field.entry.parent))
+        (entry_of_field field.entry) from ≡ true → IsFieldFaultless field.entry from)
+        → IsSizeOrRefusal A.refuses e) }
+    ensures grows { Grows (words_in (A.segments arena.old)) (words_in (A.segments arena.new)) }
+    ensures books { A.books arena.new ≡ A.books arena.old }
+{
+    if !has_turn(source, field, members) {
+        return Ok(());
+    }
+    copy_field(arena, object, field, source)
+}
+
+/// Sets the fields of a group that have their turn as they are in what is read.
+#[cycle(sets)]
+fn copy_fields<'a, A: BuilderArena, B: ReaderArena>(
+    arena: &mut A,
+    object: StructPlace,
+    schema: StructSchema<'a>,
+    source: &StructReader<'a, B>,
+    members: bool,
+) -> Result<()>
+    requires there { IsThere (words_in (A.segments arena.old)) object }
+    requires inside { LieIn object.data_words object.pointers (areas_of (shape_of_struct schema)) }
+    ensures writes { (from : Cell) → IsSource (seen_struct B.segments source.now) from
+        → WritesAsFar (words_in (A.segments arena.old)) (words_in (A.segments arena.new)) object
+        (copied_fields (schema_around schema.entry) members (shape_of_struct schema.entry) from)
+        result }
+    ensures why { IfErr result (FieldsRefused (IsSizeOrRefusal A.refuses)
+        (schema_around schema.entry) (fields_of_struct schema.entry)
+        (seen_struct B.segments source.now) (words_in (A.segments arena.new))) }
+    ensures cause { (from : Cell) → StandsAt (seen_struct B.segments source.now) from
+        → IfErr result (λ e. AreFaultless (schema_around schema.entry) members
+        (shape_of_struct schema.entry) from → IsSizeOrRefusal A.refuses e) }
+    ensures grows { Grows (words_in (A.segments arena.old)) (words_in (A.segments arena.new)) }
+    ensures books { A.books arena.new ≡ A.books arena.old }
+{
+    if let Ok(fields) = schema.get_fields() {
+        for i in 0..fields.len() {
+            copy_turn(arena, object, fields.get(i), source, members)?;
+        }
+    }
+    Ok(())
+}
+
+/// Sets the fields of a cleared group as they are in what is read: the active member, then those
+/// that are no members.
+#[cycle(sets)]
+fn copy_group<'a, A: BuilderArena, B: ReaderArena>(
+    arena: &mut A,
+    object: StructPlace,
+    schema: StructSchema<'a>,
+    source: &StructReader<'a, B>,
+) -> Result<()>
+    requires there { IsThere (words_in (A.segments arena.old)) object }
+    requires inside { LieIn object.data_words object.pointers (areas_of (shape_of_struct schema)) }
+    ensures writes { (from : Cell) → IsSource (seen_struct B.segments source.now) from
+        → WritesAsFar (words_in (A.segments arena.old)) (words_in (A.segments arena.new)) object
+        (copied_group (schema_around schema.entry) (shape_of_struct schema.entry) from) result }
+    ensures why { IfErr result (FieldsRefused (IsSizeOrRefusal A.refuses)
+        (schema_around schema.entry) (fields_of_struct schema.entry)
+        (seen_struct B.segments source.now) (words_in (A.segments arena.new))) }
+    ensures cause { (from : Cell) → StandsAt (seen_struct B.segments source.now) from
+        → IfErr result (λ e. IsGroupFaultless (schema_around schema.entry)
+        (shape_of_struct schema.entry) from → IsSizeOrRefusal A.refuses e) }
+    ensures grows { Grows (words_in (A.segments arena.old)) (words_in (A.segments arena.new)) }
+    ensures books { A.books arena.new ≡ A.books arena.old }
+{
+    copy_fields(arena, object, schema, source, true)?;
+    copy_fields(arena, object, schema, source, false)
+}
+
+/// Sets a field that is a group to a struct, of a message or of a default, whatever its schema, and
+/// marks its union. The group is cleared, then the struct's active member is set, then its other
+/// fields by index, nested groups in this way too. A null pointer is left, but that of an active
+/// member becomes its default, else the empty value of its type.
+///
+/// It is refused at the first of these fields that can't be set:
+/// - with `CannotSetAnyPointerFieldToAPrimitiveValue` at an untyped pointer that isn't null or is
+///   an active member;
+/// - with `SettingDynamicCapabilitiesIsUnsupported` at such a capability;
+/// - as `dynamic_struct::Reader::get` where a pointer can't be read as its type;
+/// - at a null pointer of the active member only for want of room for its default or its empty
+///   value. That is `SizeOverflow` exactly where it is too long, or the message's words with its
+///   next object and a pad would pass 2^29 - 1, else as the allocator refuses;
+/// - else as a copy is.
+///
+/// After a refusal the group has a beginning of its writes, and all else stands.
+pub fn set_group<'a, A: BuilderArena, B: ReaderArena>(
+    arena: &mut A,
+    object: StructPlace,
+    field: Field<'a>,
+    source: StructSource<'a, B>,
+) -> Result<()>
+    requires there { IsThere (words_in (A.segments arena.old)) object }
+    requires inside { LieIn object.data_words object.pointers
+        (areas_of (shape_of_struct field.parent)) }
+    ensures sets { SetsFields (IsSizeOrRefusal A.refuses) (struct_seen B.segments source.entry)
+        (words_in (A.segments arena.old)) (words_in (A.segments arena.new)) object field.entry
+        result }
+    ensures grows { Grows (words_in (A.segments arena.old)) (words_in (A.segments arena.new)) }
+    ensures books { A.books arena.new ≡ A.books arena.old }
+{
+    match source {
+        StructSource::Message(source) => copy_field(arena, object, field, &source),
+        StructSource::Default(source) => copy_field(arena, object, field, &source),
+    }
+}

@@ -1,0 +1,129 @@
+//! Structs that are read, as groups are set from them.
+ghost use Rattle.std.specs.Prelude.{ℕ, ◌≡◌, ◌≢◌, ◌*◌, ◌<◌, ◌^◌, true, false, IfErr, OnOk};
+ghost use Rattle.std.specs.Option.{is_some};
+ghost use Rattle.capnp_model.specs.Edits.{Cell};
+ghost use Rattle.capnp_model.specs.Readings.{discriminant, field_bits, is_active, whole_words};
+ghost use Rattle.capnp_model.specs.Schemas.{width};
+ghost use Rattle.capnp_model.specs.Segments.{words_at};
+ghost use Rattle.capnp_model.specs.Trees.{Tree, child, null};
+ghost use Rattle.capnp_units.specs.Segments.{words_in};
+ghost use Rattle.capnp_wire_objects.specs.Places.{place_view};
+ghost use Rattle.capnp_wire.specs.Reads.{is_null_pointer};
+ghost use Rattle.capnp_wire.specs.Views.{seen_struct, pointer_field};
+ghost use Rattle.capnp_values_queries.specs.Fields.{union_in};
+ghost use Rattle.capnp_values_queries.specs.Handles.{entry_of_field, plain_of};
+ghost use Rattle.capnp_values_queries.specs.Structs.{shape_of_struct};
+ghost use Rattle.capnp_copy_arenas.specs.Refusals.{IsSizeOrRefusal};
+ghost use Rattle.capnp_schema_structs.specs.GroupRefusals.{ChildRefused};
+ghost use Rattle.capnp_values.specs.Standing.{LeadsToValue};
+ghost use Rattle.capnp_schema_structs.specs.GroupSets.{IsSource, PutsAny, entry_turn};
+ghost use Rattle.capnp_schema_structs.specs.Sources.{StandsIfRefused};
+
+use capnp_copy_arenas::arena::BuilderArena;
+use capnp_copy_values::copy::copy_from;
+use capnp_records::node::NO_DISCRIMINANT;
+use capnp_units::errors::{Error, Result};
+use capnp_units::kinds::ErrorKind;
+use capnp_units::limiter::ReadLimiter;
+use capnp_values_queries::fields::Field;
+use capnp_values_queries::slots::PlainType;
+use capnp_values_queries::structs::StructSchema;
+use capnp_wire::structs::StructReader;
+use capnp_wire_objects::arena::ReaderArena;
+use capnp_wire_objects::place::Place;
+
+/// Whether the union's member of a discriminant is the active one in what is read.
+fn is_active<B: ReaderArena>(
+    source: &StructReader<'_, B>,
+    schema: StructSchema<'_>,
+    member: u16,
+) -> bool
+    ensures { (from : Cell) → IsSource (seen_struct B.segments source.now) from
+        → result ≡ is_active (Some member)
+        (discriminant (union_in (shape_of_struct schema.entry)) whole_words from.section) }
+{
+    // For the proof, which cites how many bits the section has.
+    let _section = source.section();
+    match schema.discriminant_offset() {
+        Some(offset) => member == source.get_data_field::<u16>(offset as usize),
+        None => false,
+    }
+}
+
+/// Whether it is a field's turn: first that of the member that is active in what is read, then of
+/// the fields that are no members.
+pub(crate) fn has_turn<B: ReaderArena>(
+    source: &StructReader<'_, B>,
+    field: Field<'_>,
+    members: bool,
+) -> bool
+    ensures { (from : Cell) → IsSource (seen_struct B.segments source.now) from
+        → result ≡ entry_turn members (union_in (shape_of_struct field.entry.parent))
+        (entry_of_field field.entry) from }
+{
+    let member = field.get_proto().discriminant_value;
+    if member == NO_DISCRIMINANT {
+        return !members;
+    }
+    members && is_active(source, field.parent(), member)
+}
+
+/// The bits of a plain slot of what is read.
+pub(crate) fn bits_in<B: ReaderArena>(
+    source: &StructReader<'_, B>,
+    ty: PlainType,
+    offset: u32,
+) -> u64
+    ensures bits { (from : Cell) → IsSource (seen_struct B.segments source.now) from
+        → result ≡ field_bits whole_words from.section (width (plain_of ty) * offset)
+        (width (plain_of ty)) }
+    ensures fit { result < 2 ^ width (plain_of ty) }
+{
+    // For the proof, which cites how many bits the section has.
+    let _section = source.section();
+    let offset = offset as usize;
+    match ty {
+        PlainType::Bool => { if source.get_bool_field(offset) { 1 } else { 0 } }
+        PlainType::Int8 | PlainType::UInt8 => u64::from(source.get_data_field::<u8>(offset)),
+        PlainType::Int16 | PlainType::UInt16 | PlainType::Enum(_) => {
+            u64::from(source.get_data_field::<u16>(offset))
+        }
+        PlainType::Int32 | PlainType::UInt32 => u64::from(source.get_data_field::<u32>(offset)),
+        PlainType::Int64 | PlainType::UInt64 => source.get_data_field::<u64>(offset),
+    }
+}
+
+/// Puts a value of what is read, which isn't null, in place of the value of the pointer at a place.
+pub(crate) fn copy_child<A: BuilderArena, B: ReaderArena>(
+    arena: &mut A,
+    slot: Place,
+    source: &StructReader<'_, B>,
+    index: u32,
+) -> Result<()>
+    requires there { is_some (words_at (words_in (A.segments arena.old)) (place_view slot) 1)
+        ≡ true }
+    requires near { slot.position < 2 ^ 61 }
+    requires some { is_null_pointer (pointer_field (seen_struct B.segments source.now) index) ≡ false }
+    ensures puts { (from : Cell) → IsSource (seen_struct B.segments source.now) from
+        → OnOk result ((child from.kids index ≢ null) × PutsAny (words_in (A.segments arena.old))
+        (words_in (A.segments arena.new)) (place_view slot) (child from.kids index)) }
+    ensures stands { StandsIfRefused (words_in (A.segments arena.old)) (words_in (A.segments arena.new))
+        result }
+    ensures why { IfErr result (ChildRefused (IsSizeOrRefusal A.refuses)
+        (seen_struct B.segments source.now) index (words_in (A.segments arena.new))) }
+    ensures cause { (n : ℕ) (t : Tree)
+        → LeadsToValue n (pointer_field (seen_struct B.segments source.now) index) t
+        → IfErr result (IsSizeOrRefusal A.refuses) }
+    ensures books { A.books arena.new ≡ A.books arena.old }
+{
+    let Some(levels) = source.levels() else {
+        return Err(Error::from(ErrorKind::NestingLimitExceeded));
+    };
+    let first = source.first_pointer();
+    let place = Place {
+        segment: first.segment,
+        position: first.position + index as usize,
+    };
+    let mut limiter = ReadLimiter::new(None);
+    copy_from(arena, slot, &mut limiter, &source.backing(), place, levels)
+}

@@ -1,0 +1,46 @@
+-- Fields of structs that are got to be written. (Encoding, "Structs")
+use Rattle.std.specs.Prelude.{◌≡◌, ℕ, Option, Some, Result, IfOk, IfErr}
+use Rattle.capnp_model.specs.Segments.{Segments, after}
+use Rattle.capnp_model.specs.Schemas.{Field as FieldNode, Body, void_slot, plain_slot, pointer_slot, group_slot, width, Value, Schema}
+use Rattle.capnp_model.specs.Accepted.{field_body}
+use Rattle.capnp_units.specs.declared.errors.Error.{Error}
+use Rattle.capnp_wire_objects.specs.declared.place.Place as code
+use Rattle.capnp_wire_objects.specs.Places.{place_view}
+use Rattle.capnp_wire.specs.Views.{StructView}
+use Rattle.capnp_copy_arenas.specs.declared.fields.StructPlace.{StructPlace}
+use Rattle.capnp_values_queries.specs.Structs.{schema_around, shape_of_struct}
+use Rattle.capnp_values_queries.specs.Handles.{IsFieldRecord}
+use Rattle.capnp_values_queries.specs.declared.fields.Field.{Field}
+use Rattle.capnp_values.specs.Shown.{number_shown, default_said}
+use Rattle.capnp_values.specs.Sources.{masked_bits}
+use Rattle.capnp_schema_values.specs.declared.placed.Placed.{Placed}
+use Rattle.capnp_schema_values.specs.declared.placed.Placed.TheVariants as placed
+use Rattle.capnp_schema_values.specs.Plain.{placed_shown}
+use Rattle.capnp_schema_values.specs.Slots.{IsStruct, IsGot, IsNotGot}
+
+-- The pointer of a number of a struct is the one at this place.
+abbrev pub IsSlotOf : StructPlace → ℕ → code.Place → Type 0
+IsSlotOf p i slot = place_view slot ≡ after (after (place_view p.start) p.data_words) i
+
+-- What a field is got as, of a struct that readers see so. A plain one is got by its bits,
+-- exclusive or those of its default; one behind a pointer as its type is got. A group is got as the
+-- same struct under its own shape. Only behind pointers something is written.
+abbrev pub IsFieldGot : Schema → StructView → Segments → Segments → StructPlace → Body → Option Value → Placed → Type 0
+IsFieldGot around v s u p (void_slot j) d x = (u ≡ s) × (x ≡ placed.Void)
+IsFieldGot around v s u p (plain_slot q at n) d x = (u ≡ s) × (placed_shown x ≡ Some (number_shown around q (masked_bits v at (width q) n)))
+IsFieldGot around v s u p (pointer_slot i ty t) d x = (slot : code.Place) × IsSlotOf p i slot × IsGot around ty d s u slot x
+IsFieldGot around v s u p (group_slot g) d x = (u ≡ s) × IsStruct (λ part. (part.place ≡ p) × (schema_around part.schema ≡ around) × (shape_of_struct part.schema ≡ g)) x
+
+-- Why it isn't got, and what stands then: only what lies behind pointers is refused.
+abbrev pub IsFieldNotGot : Schema → Segments → Segments → StructPlace → Body → Option Value → Error → Type 0
+IsFieldNotGot around s u p (void_slot j) d e = ⊥
+IsFieldNotGot around s u p (plain_slot q at n) d e = ⊥
+IsFieldNotGot around s u p (pointer_slot i ty t) d e = (slot : code.Place) × IsSlotOf p i slot × IsNotGot around ty d s u slot e
+IsFieldNotGot around s u p (group_slot g) d e = ⊥
+
+-- What a get of a field returns, and what it leaves, by what its node says of it.
+pub record GetsField (v : StructView) (s u : Segments) (p : StructPlace) (f : Field) (r : Result Placed Error) : Type 0 where
+  pub said : FieldNode
+  pub is : IsFieldRecord f.parent f.index said
+  pub got : IfOk r (IsFieldGot (schema_around f.parent) v s u p (field_body (schema_around f.parent).shape_of said.kind) (default_said said.kind))
+  pub refused : IfErr r (IsFieldNotGot (schema_around f.parent) s u p (field_body (schema_around f.parent).shape_of said.kind) (default_said said.kind))

@@ -1,0 +1,16 @@
+pub mod Untyped
+pub mod Defaults
+pub mod Inputs
+pub mod Lending
+pub mod Built
+pub mod Variants
+pub mod Blobs
+pub mod Structs
+pub mod Lists
+pub mod Plain
+pub mod Slots
+pub mod Fields
+pub mod Elements
+pub mod Builders
+pub mod Inits
+pub mod Kinds

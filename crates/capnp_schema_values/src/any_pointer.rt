@@ -1,0 +1,269 @@
+//! Pointers of no type, to write.
+ghost use Rattle.std.specs.Prelude.{◌≡◌, ◌<◌, ◌^◌, true, None, Ok, Err, option_copied, IfOk, IfErr};
+ghost use Rattle.std.specs.Borrow.{sem, RestsIfErr};
+ghost use Rattle.std.specs.Option.{is_some};
+ghost use Rattle.capnp_model.specs.Schemas.{untyped};
+ghost use Rattle.capnp_model.specs.Segments.{words_at};
+ghost use Rattle.capnp_units.specs.Segments.{words_in};
+ghost use Rattle.capnp_copy_arenas.specs.contracts.arena.Memory.{the_row};
+ghost use Rattle.capnp_copy_arenas.specs.Clearing.{ClearsValue};
+ghost use Rattle.capnp_layout_builders.specs.Gets.{Begins};
+ghost use Rattle.capnp_layout_builders.specs.Making.{StaysAt};
+ghost use Rattle.capnp_wire_objects.specs.Places.{place_view};
+ghost use Rattle.capnp_wire.specs.ValueSizes.{PointerSize};
+ghost use Rattle.capnp_values.specs.Sources.{WithoutLimit, pointer_seen};
+ghost use Rattle.capnp_schema_values.specs.Untyped.{IsPointerThere, IsReadyPointer, ClearsUntyped, IsMadeNull, IsGotAsItIs, LeavesAs, is_built_null, pointer_view_of, words_around_pointer};
+
+use crate::inputs::PointerInput;
+use capnp_copy_arenas::arena::{BuilderArena, Memory};
+use capnp_copy_arenas::clear::clear;
+use capnp_layout_builders::gets::begin;
+use capnp_layout_builders::owned;
+use capnp_layout_builders::owned::FromPointerBuilder;
+use capnp_layout_builders::pointer_builder::PointerBuilder;
+use capnp_message::placed::{OwnedPlaced, PointerPlace};
+use capnp_units::errors::Result;
+use capnp_units::sizes::{MessageSize, Word};
+use capnp_values::any_pointer::Reader;
+use capnp_values_queries::introspect::{Introspect, Type, TypeVariant};
+use capnp_wire::pointer::PointerReader;
+use capnp_wire::traits;
+use capnp_wire_objects::arena::ReaderArena;
+use capnp_wire_objects::place::{Place, word_at};
+
+/// A pointer of no type that is built, where it lies in a message.
+#[derive(Drop)]
+pub struct Builder<'a, A> {
+    pub memory: &'a mut Memory<A>,
+    pub place: Place,
+}
+
+impl<'a, A: BuilderArena> Builder<'a, A> {
+    ghost use Rattle.capnp_schema_values.specs.Lending.{LendsAnyPointer};
+
+    /// A pointer that is built, of no type. Its word is there.
+    pub fn new(builder: PointerBuilder<'a, A>) -> Self
+        requires there { IsPointerThere (words_in (A.segments builder.memory.now.arena))
+            builder.place }
+        ensures same { result.memory.ghost_name ≡ builder.entry.memory.ghost_name }
+        ensures now { result.memory.now ≡ builder.entry.memory.now }
+        ensures place { result.place ≡ builder.entry.place }
+        ensures ready { IsReadyPointer A.segments result }
+    {
+        let PointerBuilder { memory, place } = builder;
+        Builder { memory, place }
+    }
+
+    /// This pointer, lent.
+    pub fn reborrow(&mut self) -> Builder<'_, A>
+        requires ready { IsReadyPointer A.segments self.old }
+        ensures* lends { sem 𝓛 (LendsAnyPointer A.row self.entry result) }
+        ensures now { result.memory.now ≡ self.old.memory.now }
+        ensures place { result.place ≡ self.old.place }
+        ensures ready { IsReadyPointer A.segments result }
+    {
+        let place = self.place;
+        let memory = &mut *self.memory;
+        Builder { memory, place }
+    }
+
+    /// Whether it is null, a word of zeros.
+    pub fn is_null(&self) -> bool
+        ensures { result ≡ is_built_null A.segments self.now }
+    {
+        word_at(&self.memory.arena, self.place).unwrap_or(0) == 0
+    }
+
+    /// The pointer to read, under the arena's nesting limit.
+    pub fn reborrow_as_reader(&self) -> Reader<'_, A>
+        ensures { pointer_seen A.segments result.source
+            ≡ pointer_view_of A.segments A.nesting self.now }
+    {
+        Reader::new(PointerReader::at(&self.memory.arena, self.place))
+    }
+
+    /// The pointer to read, of which no handle to write is left.
+    pub fn into_reader(self) -> Reader<'a, A>
+        ensures { pointer_seen A.segments result.source
+            ≡ pointer_view_of A.segments A.nesting self.entry }
+    {
+        let Builder { memory, place } = self;
+        Reader::new(PointerReader::at(&memory.arena, place))
+    }
+
+    /// The words and the capabilities of the pointer's value, without pads and the pointer itself.
+    /// It is refused, and bounded in time and stack, as `PointerReader::total_size` is where there
+    /// is no limit of words.
+    pub fn target_size(&self) -> Result<MessageSize>
+        ensures { WithoutLimit (PointerSize (pointer_view_of A.segments A.nesting self.now)) result }
+    {
+        self.reborrow_as_reader().target_size()
+    }
+
+    /// Clears the value: the pointer becomes null, and all words of its value become zero. Nothing
+    /// else changes, and nothing is allocated.
+    pub fn clear(&mut self)
+        requires ready { IsReadyPointer A.segments self.old }
+        ensures clears { ClearsUntyped A.segments self.old self.new }
+        ensures books { A.books self.new.memory.now.arena ≡ A.books self.old.memory.now.arena }
+        ensures ready { IsReadyPointer A.segments self.new }
+    {
+        let place = self.place;
+        clear(&mut self.memory.arena, place);
+    }
+
+    /// The value that the pointer names, as a type, to write.
+    ///
+    /// It is refused as the type says. What stands then is told by the type's own
+    /// `get_from_pointer`, which can be called of the memory and the place.
+    pub fn get_as<T: FromPointerBuilder<'a, A>>(self) -> Result<T>
+        requires ready { IsReadyPointer A.segments self }
+        ensures same { IfOk result
+            (λ o. (T.memory_of o).ghost_name ≡ self.entry.memory.ghost_name) }
+        ensures got { IfOk result (λ o. T.is_got None (words_around_pointer A.segments self.entry)
+            (words_in (A.segments (T.memory_of o).now.arena)) self.entry.place o) }
+        ensures books { IfOk result (λ o.
+            A.books (T.memory_of o).now.arena ≡ A.books self.entry.memory.now.arena) }
+    {
+        let Builder { memory, place } = self;
+        T::get_from_pointer(PointerBuilder { memory, place }, None)
+    }
+
+    /// A new value of a type, with n bytes or elements, in place of the pointer's, which is
+    /// cleared; types that count none don't look at the size.
+    ///
+    /// It is refused with `SizeOverflow` exactly where the type says so, else as the allocator
+    /// refuses. That all stands then as it was is told by the type's own `init_pointer`, which can
+    /// be called of the memory and the place.
+    pub fn initn_as<T: FromPointerBuilder<'a, A>>(self, size: u32) -> Result<T>
+        requires ready { IsReadyPointer A.segments self }
+        ensures same { IfOk result
+            (λ o. (T.memory_of o).ghost_name ≡ self.entry.memory.ghost_name) }
+        ensures made { IfOk result (λ o. T.is_made (words_around_pointer A.segments self.entry)
+            (words_in (A.segments (T.memory_of o).now.arena)) self.entry.place size o) }
+        ensures books { IfOk result (λ o.
+            A.books (T.memory_of o).now.arena ≡ A.books self.entry.memory.now.arena) }
+        ensures kind { IfErr result (T.is_not_made (words_around_pointer A.segments self.entry) size) }
+    {
+        let Builder { memory, place } = self;
+        T::init_pointer(PointerBuilder { memory, place }, size)
+    }
+
+    /// A new value of a type in place of the pointer's, which is cleared: `initn_as` without bytes
+    /// or elements.
+    ///
+    /// It is refused as by `initn_as`.
+    pub fn init_as<T: FromPointerBuilder<'a, A>>(self) -> Result<T>
+        requires ready { IsReadyPointer A.segments self }
+        ensures same { IfOk result
+            (λ o. (T.memory_of o).ghost_name ≡ self.entry.memory.ghost_name) }
+        ensures made { IfOk result (λ o. T.is_made (words_around_pointer A.segments self.entry)
+            (words_in (A.segments (T.memory_of o).now.arena)) self.entry.place 0 o) }
+        ensures books { IfOk result (λ o.
+            A.books (T.memory_of o).now.arena ≡ A.books self.entry.memory.now.arena) }
+        ensures kind { IfErr result (T.is_not_made (words_around_pointer A.segments self.entry) 0) }
+    {
+        let Builder { memory, place } = self;
+        T::init_pointer(PointerBuilder { memory, place }, 0)
+    }
+
+    /// Puts a value in place of the pointer's, which is cleared: a text, data, or the copy of an
+    /// untyped pointer's, a struct's or a list's value.
+    ///
+    /// It is refused as the input says; then all words stand as they were, and new ones are zero.
+    pub fn set_as<T, V: PointerInput<T> + Drop>(&mut self, value: V) -> Result<()>
+        requires ready { IsReadyPointer A.segments self.old }
+        ensures same { self.new.memory.ghost_name ≡ self.old.memory.ghost_name }
+        ensures place { self.new.place ≡ self.old.place }
+        ensures sets { V.sets value (words_around_pointer A.segments self.old)
+            (words_around_pointer A.segments self.new) self.old.place result }
+        ensures books { A.books self.new.memory.now.arena ≡ A.books self.old.memory.now.arena }
+        ensures ready { IsReadyPointer A.segments self.new }
+    {
+        let place = self.place;
+        V::set_at(self.memory, place, value)
+    }
+}
+
+/// The type of untyped pointers, with what they are read and built as. That of `capnp_values` names
+/// what they are read as alone.
+#[derive(Clone, Copy, Debug, PartialEq, Eq)]
+pub struct Owned;
+
+impl Introspect for Owned {
+    ghost ty = { untyped };
+
+    fn introspect() -> Type {
+        Type::from(TypeVariant::AnyPointer)
+    }
+}
+
+impl<'a, A: ReaderArena + 'a> traits::Owned<'a, A> for Owned {
+    type Reader = Reader<'a, A>;
+}
+
+impl<'a, A: BuilderArena + 'a> owned::Owned<'a, A> for Owned {
+    type Reader = Reader<'a, A>;
+
+    type Builder = Builder<'a, A>;
+}
+
+/// As a message's root it is built by where its pointer stands.
+impl OwnedPlaced for Owned {
+    type Builder = PointerPlace;
+}
+
+/// An untyped pointer is made null, which is never refused, and got as what is there, whatever its
+/// kind.
+impl<'a, A: BuilderArena> FromPointerBuilder<'a, A> for Builder<'a, A> {
+    ghost memory_of = { λ o. o.memory };
+
+    ghost is_made = { λ s u slot n o. ClearsValue s u (place_view slot) × (o.place ≡ slot) };
+
+    ghost is_not_made = { λ s n e. ⊥ };
+
+    ghost is_got = { λ default s u slot o.
+        Begins default s u (place_view slot) (Ok tt) × (o.place ≡ slot) };
+
+    ghost is_not_got = { λ default s u slot e. Begins default s u (place_view slot) (Err e) };
+
+    fn init_pointer(builder: PointerBuilder<'a, A>, length: u32) -> Result<Builder<'a, A>>
+        requires there { is_some (words_at (words_in (A.segments builder.memory.now.arena))
+            (place_view builder.place) 1) ≡ true }
+        requires near { builder.place.position < 2 ^ 61 }
+        ensures same { IfOk result (λ o. o.memory.ghost_name ≡ builder.entry.memory.ghost_name) }
+        ensures made { IfOk result (IsMadeNull A.segments builder.entry) }
+        ensures books { IfOk result (λ o.
+            A.books o.memory.now.arena ≡ A.books builder.entry.memory.now.arena) }
+        ensures kind { IfErr result (λ e. ⊥) }
+        ensures* refused { sem 𝓛 (RestsIfErr (the_row A.row) builder.entry.memory
+            (λ o. o.memory.ghost_name) result
+            (StaysAt A.segments A.books builder.entry.memory.now)) }
+    {
+        let PointerBuilder { memory, place } = builder;
+        clear(&mut memory.arena, place);
+        Ok(Builder { memory, place })
+    }
+
+    fn get_from_pointer(
+        builder: PointerBuilder<'a, A>,
+        default: Option<&[Word]>,
+    ) -> Result<Builder<'a, A>>
+        requires there { is_some (words_at (words_in (A.segments builder.memory.now.arena))
+            (place_view builder.place) 1) ≡ true }
+        requires near { builder.place.position < 2 ^ 61 }
+        ensures same { IfOk result (λ o. o.memory.ghost_name ≡ builder.entry.memory.ghost_name) }
+        ensures got { IfOk result
+            (IsGotAsItIs A.segments (option_copied default.entry) builder.entry) }
+        ensures books { IfOk result (λ o.
+            A.books o.memory.now.arena ≡ A.books builder.entry.memory.now.arena) }
+        ensures* refused { sem 𝓛 (RestsIfErr (the_row A.row) builder.entry.memory
+            (λ o. o.memory.ghost_name) result (LeavesAs A.segments A.books builder.entry.memory.now
+            (λ s u. IfErr result (λ e. Begins (option_copied default.entry) s u
+            (place_view builder.entry.place) (Err e))))) }
+    {
+        let PointerBuilder { memory, place } = builder;
+        begin(&mut memory.arena, place, default)?;
+        Ok(Builder { memory, place })
+    }
+}

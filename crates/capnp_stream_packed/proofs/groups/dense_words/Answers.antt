@@ -1,0 +1,30 @@
+use Rattle.std.proofs.Common.{arith, sym, ◌∙◌, ◌+◌, ◌-◌, ◌≤◌, length}
+use Rattle.capnp_model.specs.Packing.{is_dense}
+use Rattle.capnp_stream.specs.Segments.{whole_words}
+use Rattle.capnp_stream_packed.proofs.RunLemmas.{run-none, run-full, run-stops, run-goes, words-front, no-words}
+use Rattle.capnp_stream_packed.proofs.groups.dense_words.Goals as goal
+use Rattle.capnp_stream_packed.proofs.groups.dense_words.Goals.{then-count-via-then-count, then-count-via-else-count+then-not-is_dense}
+
+pub returns-then-count-clause-count : goal.returns-then-count-clause-count
+returns-then-count-clause-count c =
+    let l = c.loop-word in
+    let parts = c.in-Some.ensures.cases in
+    let long : 8 ≤ length l.left.now = omega (arith, parts.2) in
+    let front = words-front l.left.now c.in-Some.word.now c.in-Some.behind.now long parts.0 parts.1 in
+    elim c.then-count.branch [
+      | then-count-via-then-count w ↦ run-full is_dense _ l.count (255 - l.count) (whole_words l.left.now) (omega arith) l.invariant.counted
+      | then-count-via-else-count+then-not-is_dense w ↦ run-stops is_dense _ l.count (255 - l.count) (whole_words l.left.now) _ _ front (sym w.is_dense.ensures ∙ w.if-not-is_dense.true) l.invariant.counted
+    ]
+
+pub loop-word-preserved : goal.loop-word-preserved
+loop-word-preserved c =
+    let l = c.loop-word in
+    let parts = c.in-Some.ensures.cases in
+    let long : 8 ≤ length l.left.now = omega (arith, parts.2) in
+    let front = words-front l.left.now c.in-Some.word.now c.in-Some.behind.now long parts.0 parts.1 in
+    record { counted = run-goes is_dense _ l.count (255 - l.count) (255 - (l.count + 1)) (whole_words l.left.now) _ _ front (sym c.is_dense.ensures ∙ c.if-not-is_dense.false) (omega arith) l.invariant.counted; taken = omega (arith, parts.2) }
+
+pub returns-clause-count : goal.returns-clause-count
+returns-clause-count c =
+    let l = c.loop-word in
+    run-none is_dense _ l.count (255 - l.count) (whole_words l.left.now) (no-words l.left.now (omega (arith, c.in_default.ensures.cases))) l.invariant.counted

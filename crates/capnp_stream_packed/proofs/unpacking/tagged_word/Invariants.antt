@@ -1,0 +1,11 @@
+use Rattle.std.proofs.Common.{◌≡◌, ◌-◌, length, take}
+use Rattle.capnp_model.specs.Packing.{spread}
+use Rattle.capnp_stream_packed.specs.Parts.{ContinuesWith, tagged, with_front}
+use Rattle.capnp_stream_packed.proofs.unpacking.tagged_word.Given as goal
+
+abbrev pub invariant-loop-i : goal.invariant-loop-i
+invariant-loop-i g l = record {
+  whole : length l.word ≡ 8;
+  read : ContinuesWith (tagged l.fn.tag) (g.R.Read.remaining l.initial.source) (g.R.Read.remaining l.source) (λ more. with_front (take l.i l.word) (spread (8 - l.i) l.marks more));
+  count : g.R.Read.failures l.source ≡ g.R.Read.failures l.initial.source;
+}

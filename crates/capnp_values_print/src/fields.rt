@@ -1,0 +1,65 @@
+//! What fields and elements show, and which defaults are entered for it.
+ghost use Rattle.std.specs.Prelude.{◌≡◌, ◌<◌};
+ghost use Rattle.capnp_wire_objects.specs.Places.{seen};
+ghost use Rattle.capnp_values.specs.Shown.{shown, shown_at};
+ghost use Rattle.capnp_values.specs.Sources.{struct_seen, list_seen};
+ghost use Rattle.capnp_values_print.specs.Parts.{IsActive, OpensMember};
+
+use crate::members::enters_default;
+use capnp_units::errors::{Error, Result};
+use capnp_units::kinds::ErrorKind;
+use capnp_values::laws::nulls_are_read;
+use capnp_values::{dynamic_list, dynamic_struct, dynamic_value};
+use capnp_values_queries::fields::Field;
+use capnp_wire_objects::arena::ReaderArena;
+
+/// What a field shows, and how many defaults may be entered within it.
+#[derive_where(Clone, Copy)]
+pub(crate) struct Opened<'a, A> {
+    pub(crate) value: dynamic_value::Reader<'a, A>,
+    pub(crate) left: u32,
+}
+
+/// Opens a field where n defaults may be entered: a null pointer is its default, which is entered,
+/// else the empty value.
+// Inlined, what it takes of the stack would be taken by each struct that is printed in another.
+#[inline(never)]
+pub(crate) fn open_member<'a, A: ReaderArena>(
+    reader: dynamic_struct::Reader<'a, A>,
+    field: Field<'a>,
+    left: u32,
+) -> Result<Opened<'a, A>>
+    requires parent { field.parent ≡ reader.schema }
+    requires active { IsActive reader.schema (struct_seen A.segments reader.source) field }
+    ensures { let r = reader.entry in
+        OpensMember A.segments left r.schema (struct_seen A.segments r.source) field.entry result }
+{
+    nulls_are_read();
+    let enters = enters_default(reader, field)?;
+    let got = reader.get(field);
+    if !enters {
+        let value = got?;
+        return Ok(Opened { value, left });
+    }
+    if left == 0 {
+        return Err(Error::from(ErrorKind::NestingLimitExceeded));
+    }
+    let default = got?;
+    Ok(Opened {
+        value: default,
+        left: left - 1,
+    })
+}
+
+/// What an element of a list shows.
+// Inlined, what it takes of the stack would be taken by each list that is printed in another.
+#[inline(never)]
+pub(crate) fn open_element<'a, A: ReaderArena>(
+    list: dynamic_list::Reader<'a, A>,
+    index: u32,
+) -> Result<dynamic_value::Reader<'a, A>>
+    requires { index < (list_seen A.segments list.source).count }
+    ensures { seen (shown A.segments) result ≡ shown_at A.segments list.entry index }
+{
+    list.get(index)
+}

@@ -1,0 +1,101 @@
+//! Which fields of a struct are printed.
+ghost use Rattle.std.specs.Prelude.{◌≡◌, Some, IsOkAnd};
+ghost use Rattle.capnp_values_queries.specs.Fields.{Entry};
+ghost use Rattle.capnp_values_queries.specs.Structs.{schema_around};
+ghost use Rattle.capnp_values_queries.specs.Handles.{entry_of_field, IsFieldRecord};
+ghost use Rattle.capnp_values.specs.Sources.{struct_seen};
+ghost use Rattle.capnp_values.specs.Shown.{discriminant_shown};
+ghost use Rattle.capnp_model.specs.Schemas.{Field as FieldNode};
+ghost use Rattle.capnp_model.specs.Readings.{is_active};
+ghost use Rattle.capnp_values_print.specs.Members.{AreActive, field_shown};
+ghost use Rattle.capnp_values_print.specs.Parts.{IsActive, enters_there};
+
+use crate::defaults::has_default;
+use capnp_records::node::NO_DISCRIMINANT;
+use capnp_units::errors::Result;
+use capnp_values::dynamic_struct;
+use capnp_values_queries::fields::Field;
+use capnp_wire_objects::arena::ReaderArena;
+
+/// The value of the discriminant at which the active union member is, if there is one.
+pub(crate) fn active_member<A: ReaderArena>(
+    reader: dynamic_struct::Reader<'_, A>,
+) -> Result<Option<u16>>
+    ensures { let r = reader.entry in
+        IsOkAnd result (λ active.
+        AreActive r.schema (discriminant_shown r.schema (struct_seen A.segments r.source)) active) }
+{
+    match reader.which()? {
+        None => Ok(None),
+        Some(field) => Ok(Some(field.get_proto().discriminant_value)),
+    }
+}
+
+/// Whether a field is no union member, or the active one.
+pub(crate) fn is_active<A: ReaderArena>(
+    reader: dynamic_struct::Reader<'_, A>,
+    field: Field<'_>,
+) -> Result<bool>
+    requires { field.parent ≡ reader.schema }
+    ensures { let r = reader.entry in
+        IsOkAnd result (λ b.
+        (e : Entry) → entry_of_field field.entry ≡ Some e
+        → b ≡ is_active e.member
+        (discriminant_shown r.schema (struct_seen A.segments r.source))) }
+{
+    let member = field.get_proto().discriminant_value;
+    if member == NO_DISCRIMINANT {
+        return Ok(true);
+    }
+    match active_member(reader)? {
+        None => Ok(false),
+        Some(value) => Ok(value == member),
+    }
+}
+
+/// Whether a field is printed: a union member where it is active, the first only where it is no
+/// null pointer; another field where it is no null pointer.
+pub(crate) fn is_printed<A: ReaderArena>(
+    reader: dynamic_struct::Reader<'_, A>,
+    field: Field<'_>,
+    active: Option<u16>,
+) -> Result<bool>
+    requires parent { field.parent ≡ reader.schema }
+    requires active { AreActive reader.schema
+        (discriminant_shown reader.schema (struct_seen A.segments reader.source)) active }
+    ensures { let r = reader.entry in let v = struct_seen A.segments r.source in
+        IsOkAnd result (λ b.
+        (e : Entry) → entry_of_field field.entry ≡ Some e
+        → b ≡ field_shown (schema_around r.schema) v (discriminant_shown r.schema v) e) }
+{
+    let member = field.get_proto().discriminant_value;
+    if member == NO_DISCRIMINANT {
+        return reader.has(field);
+    }
+    if member == 0 {
+        return reader.has(field);
+    }
+    match active {
+        None => Ok(false),
+        Some(value) => Ok(member == value),
+    }
+}
+
+/// Whether a field that is no member, or the active one, is a null pointer that prints as a
+/// default, whose root isn't null.
+pub(crate) fn enters_default<A: ReaderArena>(
+    reader: dynamic_struct::Reader<'_, A>,
+    field: Field<'_>,
+) -> Result<bool>
+    requires parent { field.parent ≡ reader.schema }
+    requires active { IsActive reader.schema (struct_seen A.segments reader.source) field }
+    ensures { let v = struct_seen A.segments reader.entry.source in let f = field.entry in
+        IsOkAnd result (λ b.
+        (said : FieldNode) → IsFieldRecord f.parent f.index said
+        → b ≡ enters_there v (schema_around f.parent) said.kind) }
+{
+    if reader.has(field)? {
+        return Ok(false);
+    }
+    Ok(has_default(&field.get_proto().body))
+}

@@ -1,0 +1,15 @@
+use Rattle.std.proofs.Common.{◌≡◌, ◌<◌, ◌&&◌, ℕ, List, map, length, sym, ◌∙◌, ap, subst}
+use Rattle.capnp_records.specs.NodeViews.{annotation_of, field_of}
+use Rattle.capnp_records.specs.declared.node.AnnotationRecord.{AnnotationRecord}
+use Rattle.capnp_model.proofs.lemmas.Tests.{and_right}
+use Rattle.capnp_values_queries.specs.Fields.{names_kind, are_named, are_few}
+use Rattle.capnp_values_queries.specs.Structs.{nodes_around}
+use Rattle.capnp_values_queries.proofs.lemmas.Records.{few_annotations}
+use Rattle.capnp_values_queries.proofs.fields.Field.get_annotations.Goals as goal
+
+pub new-requires-clause-few : goal.new-requires-clause-few
+new-requires-clause-few c =
+    let nodes = nodes_around c.args.self.parent in
+    let f = field_of c.get_proto.result.now in
+    let named = and_right (names_kind nodes f.kind) (are_named nodes f.annotations && are_few f.annotations) c.get_proto.ensures.named in
+    subst (λ (xs : List AnnotationRecord). length xs < 536870912) (sym c.deref.ensures.value) (few_annotations annotation_of c.get_proto.result.now.annotations.items (and_right (are_named nodes f.annotations) (are_few f.annotations) named))

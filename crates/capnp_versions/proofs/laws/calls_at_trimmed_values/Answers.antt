@@ -1,5 +1,0 @@
-use Rattle.capnp_versions.proofs.TrimmedCalls.{trimmed-calls}
-use Rattle.capnp_versions.proofs.laws.calls_at_trimmed_values.Goals as goal
-
-pub returns : goal.returns
-returns c = trimmed-calls

@@ -1,6 +1,0 @@
-pub mod Moves
-pub mod Widened
-pub mod Got
-pub mod MovedElements
-pub mod WidenedLists
-pub use Rattle.capnp_wire.specs.Places

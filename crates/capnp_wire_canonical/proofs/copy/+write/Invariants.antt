@@ -1,0 +1,45 @@
+-- A value takes a level less than what it stands in, and within a level each calls the next.
+use Rattle.std.proofs.Common.{◌+◌, ◌*◌}
+use Rattle.capnp_units.specs.Segments.{words_in}
+use Rattle.capnp_wire_objects.specs.Places.{place_view}
+use Rattle.capnp_wire_objects.specs.Inside.{words_there}
+use Rattle.capnp_wire_canonical.proofs.Elements.{ElementsSoFar}
+use Rattle.capnp_wire_canonical.proofs.Pointers.{PointersSoFar}
+use Rattle.capnp_wire_canonical.proofs.copy.+write.Given as goal
+
+abbrev pub decreases-write_object : goal.decreases-write_object
+decreases-write_object g l = 7 * l.levels + 6
+
+abbrev pub decreases-write_struct : goal.decreases-write_struct
+decreases-write_struct g l = 7 * l.levels + 5
+
+abbrev pub decreases-write_structs : goal.decreases-write_structs
+decreases-write_structs g l = 7 * l.levels + 5
+
+abbrev pub decreases-write_elements : goal.decreases-write_elements
+decreases-write_elements g l = 7 * l.levels + 4
+
+abbrev pub decreases-write_element : goal.decreases-write_element
+decreases-write_element g l = 7 * l.levels + 3
+
+abbrev pub decreases-write_row : goal.decreases-write_row
+decreases-write_row g l = 7 * l.levels + 2
+
+abbrev pub decreases-write_any : goal.decreases-write_any
+decreases-write_any g l = 7 * l.levels
+
+abbrev pub decreases-write_at : goal.decreases-write_at
+decreases-write_at g l = 7 * l.levels + 1
+
+-- the first i are written, and paid
+abbrev pub invariant-write_row-loop-i : goal.invariant-write_row-loop-i
+invariant-write_row-loop-i g l =
+    let s = words_in (g.A.ReaderArena.segments l.arena) in
+    let p = place_view l.first in
+    PointersSoFar l.levels s p l.count l.at l.i l.used l.fn.into l.fn.limiter l.end l.into l.limiter
+
+abbrev pub invariant-write_elements-loop-i : goal.invariant-write_elements-loop-i
+invariant-write_elements-loop-i g l =
+    let s = words_in (g.A.ReaderArena.segments l.arena) in
+    let p = place_view l.start in
+    ElementsSoFar l.levels s p (words_there s p l.words) l.cut.data_words l.cut.pointers l.cut.kept_words l.cut.kept_pointers l.count l.at l.i l.used l.fn.into l.fn.limiter l.end l.into l.limiter

@@ -1,0 +1,132 @@
+//! Whether values stand as their canonical words.
+ghost use Rattle.std.specs.Prelude.{◌+◌};
+ghost use Rattle.capnp_units.specs.Segments.{words_in};
+ghost use Rattle.capnp_wire_objects.specs.Places.{place_view};
+ghost use Rattle.capnp_wire_objects.specs.Objects.{AreThere};
+ghost use Rattle.capnp_wire_canonical.specs.Checks.{TellsValue, TellsRow, TellsStruct, TellsMessage};
+
+use crate::heads::{is_behind, move_on};
+use crate::own_words::{are_words, is_least};
+use crate::value_ends::{row_end, value_end};
+use capnp_units::errors::Result;
+use capnp_units::limiter::ReadLimiter;
+use capnp_units::sizes::StructSize;
+use capnp_wire_objects::arena::ReaderArena;
+use capnp_wire_objects::follow::follow_within;
+use capnp_wire_objects::place::{Place, ROOT, has_words};
+
+/// Whether the pointer at a place and its value stand as the value's canonical words. At the place
+/// is the pointer. From the head on, a place behind it in its segment, are the words of what it
+/// leads to, trimmed. On a yes the head is left behind those words, else where it was.
+///
+/// Pointers are followed, and objects paid for, as by `size_at`, up to the first difference. A
+/// capability is one, and so is a head that lies in another segment or not behind the pointer (the
+/// pointer itself is followed even then). It is refused only where a walk over the whole value
+/// would be:
+/// - at the first fault, by its kind;
+/// - with `ReadLimitExceeded` at the first object that costs more words than are left.
+///
+/// A no says that the value stands with no levels more either, so a value that is only too deep is
+/// refused. It is exact in a segment of at most 2^29 - 1 words, the most that a message has. A yes
+/// is so everywhere, and says that the value is within the levels and the budget.
+///
+/// It takes no memory, and a step for each pointer that it follows and each word of an object, so
+/// none for an element without words. Each level takes a few hundred bytes of stack.
+pub fn is_canonical<A: ReaderArena>(
+    arena: &A,
+    limiter: &mut ReadLimiter,
+    place: Place,
+    levels: u32,
+    head: &mut Place,
+) -> Result<bool>
+    ensures { TellsValue levels (words_in (A.segments arena.now)) (place_view place)
+        (place_view head.old) limiter.old result (place_view head.new) limiter.new }
+{
+    if !is_behind(arena, place, 1, *head) {
+        follow_within(arena, limiter, place, levels)?;
+        return Ok(false);
+    }
+    are_words(arena, place.segment);
+    let end = value_end(arena, limiter, place, levels, head.position)?;
+    Ok(move_on(head, end))
+}
+
+/// Whether n pointers in a row, as those of a struct, and their values stand as canonical words.
+/// From the head on are the words of what each leads to, one after the other. Where the head lies
+/// elsewhere none is followed.
+pub fn are_canonical<A: ReaderArena>(
+    arena: &A,
+    limiter: &mut ReadLimiter,
+    first: Place,
+    count: u32,
+    levels: u32,
+    head: &mut Place,
+) -> Result<bool>
+    requires { AreThere (words_in (A.segments arena.now)) (place_view first) count }
+    ensures { TellsRow levels (words_in (A.segments arena.now)) (place_view first) count
+        (place_view head.old) limiter.old result (place_view head.new) limiter.new }
+{
+    if !is_behind(arena, first, count as usize, *head) {
+        return Ok(false);
+    }
+    are_words(arena, first.segment);
+    let end = row_end(arena, limiter, first, count, levels, head.position)?;
+    Ok(move_on(head, end))
+}
+
+/// Whether a struct's own words and what its pointers lead to stand as canonical words. Neither its
+/// last data word nor its last pointer is a word of zeros. From the head on are the words of what
+/// its pointers lead to, one after the other. Its own words were paid for already.
+///
+/// It is refused, and exact, as `is_canonical` is. Where the struct can do with less, or the head
+/// lies elsewhere, no pointer is followed.
+pub fn is_canonical_struct<A: ReaderArena>(
+    arena: &A,
+    limiter: &mut ReadLimiter,
+    start: Place,
+    size: StructSize,
+    levels: u32,
+    head: &mut Place,
+) -> Result<bool>
+    requires { AreThere (words_in (A.segments arena.now)) (place_view start)
+        (size.data_words + size.pointers) }
+    ensures { TellsStruct levels (words_in (A.segments arena.now)) (place_view start)
+        size.data_words size.pointers (place_view head.old) limiter.old result
+        (place_view head.new) limiter.new }
+{
+    if !is_least(arena, start, size) {
+        return Ok(false);
+    }
+    let first = Place {
+        segment: start.segment,
+        position: start.position + size.data_words as usize,
+    };
+    are_canonical(arena, limiter, first, size.pointers as u32, levels, head)
+}
+
+/// Whether a message is one segment of the canonical words of its value. Where there is a second
+/// segment it is not, no pointer is followed, and nothing is paid.
+///
+/// It is refused as `is_canonical` is. A no says that it is none with more levels either; it is
+/// exact where the segment has at most 2^29 - 1 words.
+pub fn is_canonical_message<A: ReaderArena>(
+    arena: &A,
+    limiter: &mut ReadLimiter,
+    levels: u32,
+) -> Result<bool>
+    ensures { TellsMessage levels (words_in (A.segments arena.now)) limiter.old result limiter.new }
+{
+    let second = Place {
+        segment: 1,
+        position: 0,
+    };
+    if has_words(arena, second, 0) {
+        return Ok(false);
+    }
+    let mut head = Place {
+        segment: 0,
+        position: 1,
+    };
+    let begins = is_canonical(arena, limiter, ROOT, levels, &mut head)?;
+    Ok(begins && !has_words(arena, head, 1))
+}

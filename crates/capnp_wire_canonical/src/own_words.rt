@@ -1,0 +1,232 @@
+//! An object's own words: how many of them are kept, and their copy.
+ghost use Rattle.std.specs.Prelude.{◌≡◌, ◌+◌, ◌*◌, ◌≤◌, ◌<◌, ◌^◌, ◌++◌, ℕ, max, length, take, drop, slice_index, unwrap_or};
+ghost use Rattle.std.specs.Bool.{OnTrue, OnFalse};
+ghost use Rattle.capnp_model.specs.Segments.{after, word_at};
+ghost use Rattle.capnp_model.specs.Sections.{needed_words};
+ghost use Rattle.capnp_model.specs.Spelling.{AreWords};
+ghost use Rattle.capnp_units.specs.Segments.{words_in};
+ghost use Rattle.capnp_wire_objects.specs.Arenas.{segment_bytes};
+ghost use Rattle.capnp_wire_objects.specs.Places.{place_view};
+ghost use Rattle.capnp_wire_objects.specs.Objects.{AreThere};
+ghost use Rattle.capnp_wire_objects.specs.Inside.{section_at, words_there};
+ghost use Rattle.capnp_wire_canonical.specs.Copies.{Behind};
+ghost use Rattle.capnp_wire_canonical.specs.Standing.{segment_words};
+ghost use Rattle.capnp_wire_canonical.specs.Writes.{words_view, with_section_at};
+ghost use Rattle.capnp_wire_canonical.specs.Widths.{kept, widest, NeedsAll, IsLeast};
+
+use capnp_units::sizes::{StructSize, Word};
+use capnp_wire_objects::arena::ReaderArena;
+use capnp_wire_objects::place::{Place, segment_bytes, word_at, word_in};
+
+/// The word at a place, or 0 where there is none.
+#[inline(always)]
+pub(crate) fn word_or_zero<A: ReaderArena>(arena: &A, place: Place) -> u64
+    ensures word { result ≡ unwrap_or
+        (word_at (words_in (A.segments arena.now)) (place_view place)) 0 }
+    ensures fits { result < 2 ^ 64 }
+{
+    word_at(arena, place).unwrap_or(0)
+}
+
+/// The word at a place in the segment of these bytes, or 0 where there is none.
+#[inline(always)]
+fn word_or_zero_in<A: ReaderArena>(arena: &A, bytes: &[u8], place: Place) -> u64
+    requires bytes { bytes.now ≡ segment_bytes (A.segments arena.now) place.segment }
+    ensures word { result ≡ unwrap_or
+        (word_at (words_in (A.segments arena.now)) (place_view place)) 0 }
+    ensures fits { result < 2 ^ 64 }
+{
+    word_in(bytes, place.position).unwrap_or(0)
+}
+
+/// How many of n words there are without zeros at the end, and at least as many as were needed
+/// before. Only the words behind those are looked at.
+#[inline(always)]
+fn more_needed<A: ReaderArena>(arena: &A, bytes: &[u8], start: Place, count: u16, most: u16) -> u16
+    requires bytes { bytes.now ≡ segment_bytes (A.segments arena.now) start.segment }
+    requires there { AreThere (words_in (A.segments arena.now)) (place_view start) count }
+    requires before { most ≤ count }
+    ensures needed { result ≡ max most (needed_words count
+        (section_at (words_in (A.segments arena.now)) (place_view start) count)) }
+    ensures kept { result ≡ max most (kept
+        (words_there (words_in (A.segments arena.now)) (place_view start) count)) }
+    ensures few { result ≤ count }
+{
+    let mut n = count;
+    while n > most {
+        let last = Place {
+            segment: start.segment,
+            position: start.position + (n - 1) as usize,
+        };
+        if word_or_zero_in(arena, bytes, last) != 0 {
+            return n;
+        }
+        n -= 1;
+    }
+    most
+}
+
+/// Whether the last of n words is no zero, where there is one.
+#[inline(always)]
+fn needs_all<A: ReaderArena>(arena: &A, start: Place, count: u16) -> bool
+    requires { AreThere (words_in (A.segments arena.now)) (place_view start) count }
+    ensures all { let s = words_in (A.segments arena.now) in
+        OnTrue result (NeedsAll s (place_view start) count) }
+    ensures words { let s = words_in (A.segments arena.now) in OnFalse result
+        (needed_words count (section_at s (place_view start) count) ≡ count → ⊥) }
+    ensures pointers { let s = words_in (A.segments arena.now) in OnFalse result
+        (kept (words_there s (place_view start) count) ≡ count → ⊥) }
+{
+    if count == 0 {
+        return true;
+    }
+    let last = Place {
+        segment: start.segment,
+        position: start.position + (count - 1) as usize,
+    };
+    if word_or_zero(arena, last) == 0 {
+        return false;
+    }
+    true
+}
+
+/// Whether a struct can't do with fewer words or pointers: neither its last data word nor its last
+/// pointer is 0.
+#[inline(always)]
+pub(crate) fn is_least<A: ReaderArena>(arena: &A, start: Place, size: StructSize) -> bool
+    requires { AreThere (words_in (A.segments arena.now)) (place_view start)
+        (size.data_words + size.pointers) }
+    ensures least { OnTrue result (IsLeast (words_in (A.segments arena.now)) (place_view start)
+        size.data_words size.pointers) }
+    ensures less { OnFalse result (IsLeast (words_in (A.segments arena.now)) (place_view start)
+        size.data_words size.pointers → ⊥) }
+{
+    let first = Place {
+        segment: start.segment,
+        position: start.position + size.data_words as usize,
+    };
+    if !needs_all(arena, start, size.data_words) {
+        return false;
+    }
+    if !needs_all(arena, first, size.pointers) {
+        return false;
+    }
+    true
+}
+
+/// The most words that any of n parts needs, each of m words and k words from the next. Where a
+/// part needs all of them no other is looked at.
+#[inline(always)]
+pub(crate) fn most_needed<A: ReaderArena>(
+    arena: &A,
+    bytes: &[u8],
+    start: Place,
+    words: u16,
+    width: usize,
+    count: u32,
+) -> u16
+    requires bytes { bytes.now ≡ segment_bytes (A.segments arena.now) start.segment }
+    requires short { width < 2 ^ 17 }
+    requires there { (i : ℕ) → i < count
+        → AreThere (words_in (A.segments arena.now)) (after (place_view start) (i * width)) words }
+    ensures needed { result ≡ widest (λ p.
+        needed_words words (section_at (words_in (A.segments arena.now)) p words))
+        (place_view start) width count }
+    ensures kept { result ≡ widest (λ p.
+        kept (words_there (words_in (A.segments arena.now)) p words)) (place_view start) width
+        count }
+    ensures few { result ≤ words }
+{
+    let mut most = 0;
+    if words == 0 {
+        return most;
+    }
+    for i in 0..count {
+        let part = Place {
+            segment: start.segment,
+            position: start.position + i as usize * width,
+        };
+        most = more_needed(arena, bytes, part, words, most);
+        if most == words {
+            return most;
+        }
+    }
+    most
+}
+
+/// Bytes are numbers below 256.
+#[inline(always)]
+fn are_bytes(bytes: &[u8])
+    ensures { (i : ℕ) → slice_index bytes.now i < 256 }
+{}
+
+/// The words of the segment of these bytes are numbers of 64 bits.
+#[inline(always)]
+fn are_words_of<A: ReaderArena>(arena: &A, bytes: &[u8], segment: u32)
+    requires { bytes.now ≡ segment_bytes (A.segments arena.now) segment }
+    ensures { AreWords (segment_words (words_in (A.segments arena.now)) segment) }
+{
+    are_bytes(bytes);
+}
+
+/// The words of a segment are numbers of 64 bits.
+#[inline(always)]
+pub(crate) fn are_words<A: ReaderArena>(arena: &A, segment: u32)
+    ensures { AreWords (segment_words (words_in (A.segments arena.now)) segment) }
+{
+    are_words_of(arena, segment_bytes(arena, segment), segment);
+}
+
+/// n words from a place on, where they are there.
+#[inline(always)]
+fn row_of<'a, A: ReaderArena>(arena: &A, bytes: &'a [u8], start: Place, count: usize) -> &'a [Word]
+    requires bytes { bytes.now ≡ segment_bytes (A.segments arena.now) start.segment }
+    requires there { AreThere (words_in (A.segments arena.now)) (place_view start) count }
+    ensures words { words_view result.now
+        ≡ words_there (words_in (A.segments arena.now)) (place_view start) count }
+    ensures len { length result.now ≡ count }
+{
+    let (words, _) = bytes.as_chunks::<8>();
+    &words[start.position..start.position + count]
+}
+
+/// As many words, or fewer, are copied faster one by one than all at once.
+const FEW_WORDS: usize = 8;
+
+/// Puts words over those from a place on.
+#[inline(always)]
+fn lay(into: &mut [Word], at: usize, row: &[Word])
+    requires { at + length row.now ≤ length into.old }
+    ensures { into.new ≡ take at into.old ++ (row.now ++ drop (at + length row.now) into.old) }
+{
+    if row.len() > FEW_WORDS {
+        into[at..at + row.len()].copy_from_slice(row);
+        return;
+    }
+    for i in 0..row.len() {
+        into[at + i] = row[i];
+    }
+}
+
+/// Copies n words over those from a place on.
+#[inline(always)]
+pub(crate) fn copy_words<A: ReaderArena>(
+    arena: &A,
+    bytes: &[u8],
+    start: Place,
+    count: usize,
+    into: &mut [Word],
+    at: usize,
+)
+    requires bytes { bytes.now ≡ segment_bytes (A.segments arena.now) start.segment }
+    requires there { AreThere (words_in (A.segments arena.now)) (place_view start) count }
+    requires room { at + count ≤ length into.old }
+    ensures words { words_view into.new
+        ≡ with_section_at at count
+        (section_at (words_in (A.segments arena.now)) (place_view start) count)
+        (words_view into.old) }
+    ensures behind { Behind (at + count) into.old into.new }
+{
+    are_words_of(arena, bytes, start.segment);
+    lay(into, at, row_of(arena, bytes, start, count));
+}

@@ -1,0 +1,9 @@
+pub mod Places
+pub mod Arenas
+pub mod Named
+pub mod Objects
+pub mod Near
+pub mod Follow
+pub mod Inside
+pub mod Walks
+pub mod Laws

@@ -1,0 +1,96 @@
+//! Structs, and lists of plain elements, that are told in one look at their segment.
+ghost use Rattle.std.specs.Prelude.{◌≡◌, ℕ, List, IfSome};
+ghost use Rattle.capnp_units.specs.Segments.{words_in};
+ghost use Rattle.capnp_wire_objects.specs.Arenas.{segment_bytes};
+ghost use Rattle.capnp_wire_objects.specs.Places.{place_view};
+ghost use Rattle.capnp_wire_objects.specs.Near.{list_object, struct_object, IsMeasured, IsNear};
+
+use crate::lists::NearList;
+use crate::place::{Place, begins_at, reach, word_in};
+use crate::structs::NearStruct;
+use crate::word_pointer::{WordPointer, pointer_of_word};
+use capnp_units::sizes::StructSize;
+
+/// The numbers of the sizes of plain elements are below this one.
+const PLAIN_SIZES: u64 = 6;
+
+/// The list that the pointer at a place names, where it is one of plain elements in the same
+/// segment, without a landing pad, and its words are there. It is what `object_at` tells of the
+/// place. The segment is the one of these bytes, and isn't asked for.
+///
+/// `None` has no meaning: whatever is there, a list too, `object_at` tells it or refuses it.
+#[inline(always)]
+pub fn near_list_in(bytes: &[u8], place: Place) -> Option<NearList>
+    ensures near { (segments : List (List ℕ)) → bytes.now ≡ segment_bytes segments place.segment
+        → IfSome result (λ list.
+        IsNear (words_in segments) (place_view place) (list_object list)) }
+    ensures measured { IfSome result IsMeasured }
+    ensures segment { IfSome result (λ list. list.start.segment ≡ place.segment) }
+{
+    let word = word_in(bytes, place.position)?;
+    let WordPointer::List {
+        offset,
+        size,
+        count,
+    } = pointer_of_word(word)
+    else {
+        return None;
+    };
+    if size.number() >= PLAIN_SIZES {
+        return None;
+    }
+    let end = Place {
+        segment: place.segment,
+        position: place.position + 1,
+    };
+    let Ok(start) = begins_at(end, offset) else {
+        return None;
+    };
+    let list = NearList::new(start, size, count);
+    if !reach(bytes, start.position, list.words) {
+        return None;
+    }
+    Some(list)
+}
+
+/// The struct that the pointer at a place names, where it lies in the same segment, without a
+/// landing pad, and its words are there. It is what `object_at` tells of the place. The segment is
+/// the one of these bytes, and isn't asked for.
+///
+/// `None` has no meaning: whatever is there, a struct too, `object_at` tells it or refuses it.
+#[inline(always)]
+pub fn near_struct_in(bytes: &[u8], place: Place) -> Option<NearStruct>
+    ensures near { (segments : List (List ℕ)) → bytes.now ≡ segment_bytes segments place.segment
+        → IfSome result (λ near.
+        IsNear (words_in segments) (place_view place) (struct_object near)) }
+    ensures segment { IfSome result (λ near. near.start.segment ≡ place.segment) }
+{
+    let word = word_in(bytes, place.position)?;
+    if word == 0 {
+        return None;
+    }
+    let WordPointer::Struct {
+        offset,
+        data_words,
+        pointers,
+    } = pointer_of_word(word)
+    else {
+        return None;
+    };
+    let end = Place {
+        segment: place.segment,
+        position: place.position + 1,
+    };
+    let Ok(start) = begins_at(end, offset) else {
+        return None;
+    };
+    let width = data_words as usize + pointers as usize;
+    if !reach(bytes, start.position, width) {
+        return None;
+    }
+    let size = StructSize {
+        data_words,
+        pointers,
+    };
+    Some(NearStruct { start, size })
+}

@@ -1,0 +1,177 @@
+//! Handles, made where a pointer lies, and the places that they give.
+ghost use Rattle.std.specs.Prelude.{◌≡◌, ◌+◌, ◌*◌, ◌<◌, ◌≤◌, ◌^◌};
+ghost use Rattle.capnp_units.specs.Sizes.{size_number};
+
+use crate::outcomes::Stop;
+use capnp_copy_arenas::arena::{BuilderArena, Memory};
+use capnp_copy_arenas::fields::StructPlace;
+use capnp_copy_arenas::init::ListPlace;
+use capnp_layout_builders::list_builder::ListBuilder;
+use capnp_layout_builders::pointer_builder::PointerBuilder;
+use capnp_layout_builders::struct_builder::StructBuilder;
+use capnp_units::kinds::ErrorKind;
+use capnp_units::sizes::{ElementSize, StructSize, Word};
+use capnp_wire_objects::place::{Place, has_words};
+
+/// Positions that are too far for a handle.
+pub const FAR: usize = 1 << 60;
+
+/// What is told where a pointer's word isn't there.
+pub const NOT_THERE: Stop = Stop::Refused(ErrorKind::OutOfBounds);
+
+/// The handle of a pointer that is there.
+pub fn handle<'a, A: BuilderArena>(memory: &'a mut Memory<A>, place: Place) -> PointerBuilder<'a, A>
+    ensures same { result.memory.ghost_name ≡ memory.entry.ghost_name }
+    ensures now { result.memory.now ≡ memory.old }
+    ensures place { result.place ≡ place }
+{
+    PointerBuilder { memory, place }
+}
+
+/// Where the struct lies that is got at a pointer.
+pub fn struct_got<A: BuilderArena>(
+    memory: &mut Memory<A>,
+    place: Place,
+    size: StructSize,
+    default: Option<&[Word]>,
+) -> Result<StructPlace, Stop>
+    ensures { A.books memory.new.arena ≡ A.books memory.old.arena }
+{
+    if place.position >= FAR || !has_words(&memory.arena, place, 1) {
+        return Err(NOT_THERE);
+    }
+    match handle(memory, place).get_struct(size, default) {
+        Ok(object) => Ok(object.place),
+        Err(error) => Err(Stop::Refused(error.kind)),
+    }
+}
+
+/// Where the list lies that is got at a pointer.
+pub fn list_got<A: BuilderArena>(
+    memory: &mut Memory<A>,
+    place: Place,
+    expected: ElementSize,
+    default: Option<&[Word]>,
+) -> Result<ListPlace, Stop>
+    ensures { A.books memory.new.arena ≡ A.books memory.old.arena }
+{
+    if place.position >= FAR || !has_words(&memory.arena, place, 1) {
+        return Err(NOT_THERE);
+    }
+    match handle(memory, place).get_list(expected, default) {
+        Ok(list) => Ok(list.place),
+        Err(error) => Err(Stop::Refused(error.kind)),
+    }
+}
+
+/// Where the list of structs lies that is got at a pointer.
+pub fn structs_got<A: BuilderArena>(
+    memory: &mut Memory<A>,
+    place: Place,
+    size: StructSize,
+    default: Option<&[Word]>,
+) -> Result<ListPlace, Stop>
+    ensures { A.books memory.new.arena ≡ A.books memory.old.arena }
+{
+    if place.position >= FAR || !has_words(&memory.arena, place, 1) {
+        return Err(NOT_THERE);
+    }
+    match handle(memory, place).get_struct_list(size, default) {
+        Ok(list) => Ok(list.place),
+        Err(error) => Err(Stop::Refused(error.kind)),
+    }
+}
+
+/// A pointer of a struct.
+fn field_of<'a, A: BuilderArena>(
+    memory: &'a mut Memory<A>,
+    place: StructPlace,
+    index: usize,
+) -> PointerBuilder<'a, A>
+    requires near { place.start.position + (place.data_words + place.pointers) < 2 ^ 61 }
+    requires inside { index < place.pointers }
+    ensures same { result.memory.ghost_name ≡ memory.entry.ghost_name }
+    ensures now { result.memory.now ≡ memory.old }
+{
+    StructBuilder { memory, place }.get_pointer_field(index)
+}
+
+/// A pointer of a list of pointers.
+fn item_of<'a, A: BuilderArena>(
+    memory: &'a mut Memory<A>,
+    place: ListPlace,
+    index: u32,
+) -> PointerBuilder<'a, A>
+    requires pointers { size_number place.size ≡ 6 }
+    requires near { place.start.position + place.count < 2 ^ 61 }
+    requires inside { index < place.count }
+    ensures same { result.memory.ghost_name ≡ memory.entry.ghost_name }
+    ensures now { result.memory.now ≡ memory.old }
+{
+    ListBuilder { memory, place }.get_pointer_element(index)
+}
+
+/// A struct of a list of structs.
+fn element_of<'a, A: BuilderArena>(
+    memory: &'a mut Memory<A>,
+    place: ListPlace,
+    index: u32,
+) -> StructBuilder<'a, A>
+    requires structs { size_number place.size ≡ 7 }
+    requires near { place.start.position + (1 + place.claimed) < 2 ^ 61 }
+    requires fits { place.count * (place.data_words + place.pointers) ≤ place.claimed }
+    requires inside { index < place.count }
+    ensures same { result.memory.ghost_name ≡ memory.entry.ghost_name }
+    ensures now { result.memory.now ≡ memory.old }
+{
+    ListBuilder { memory, place }.get_struct_element(index)
+}
+
+/// Where a pointer of a struct lies.
+pub fn pointer_in<A: BuilderArena>(
+    memory: &mut Memory<A>,
+    place: StructPlace,
+    index: usize,
+) -> Result<Place, Stop>
+    ensures { A.books memory.new.arena ≡ A.books memory.old.arena }
+{
+    if place.start.position >= FAR || index >= place.pointers as usize {
+        return Err(Stop::NoIndex);
+    }
+    Ok(field_of(memory, place, index).place)
+}
+
+/// Where a pointer of a list of pointers lies.
+pub fn pointer_of<A: BuilderArena>(
+    memory: &mut Memory<A>,
+    place: ListPlace,
+    index: u32,
+) -> Result<Place, Stop>
+    ensures { A.books memory.new.arena ≡ A.books memory.old.arena }
+{
+    if place.start.position >= FAR || index >= place.count || place.size != ElementSize::Pointer {
+        return Err(Stop::NoIndex);
+    }
+    Ok(item_of(memory, place, index).place)
+}
+
+/// Where a struct of a list of structs lies.
+pub fn struct_of<A: BuilderArena>(
+    memory: &mut Memory<A>,
+    place: ListPlace,
+    index: u32,
+) -> Result<StructPlace, Stop>
+    ensures { A.books memory.new.arena ≡ A.books memory.old.arena }
+{
+    if place.start.position >= FAR || index >= place.count {
+        return Err(Stop::NoIndex);
+    }
+    if place.size != ElementSize::InlineComposite {
+        return Err(Stop::NoIndex);
+    }
+    let width = place.data_words as usize + place.pointers as usize;
+    if place.count as usize * width > place.claimed as usize {
+        return Err(Stop::NoIndex);
+    }
+    Ok(element_of(memory, place, index).place)
+}

@@ -1,0 +1,256 @@
+//! Calls of values as a whole, where they were got.
+ghost use Rattle.std.specs.Prelude.{◌≡◌, ◌<◌, ◌^◌, true};
+ghost use Rattle.std.specs.Option.{is_some};
+ghost use Rattle.capnp_units.specs.Segments.{words_in};
+ghost use Rattle.capnp_values_queries.specs.Structs.{shape_of_struct};
+ghost use Rattle.capnp_schema_structs.specs.Edits.{IsThere, HoldsShape};
+ghost use Rattle.capnp_schema_values.specs.Built.{IsPlaced, IsReadyValue};
+ghost use Rattle.capnp_schema_values.specs.Untyped.{IsReadyPointer as IsPointerReady};
+ghost use Rattle.capnp_schema_values.specs.Variants.{built_data, built_text, built_untyped};
+
+use crate::answers::{Answer, told, truth};
+use crate::fault::Stop;
+use crate::readers::name_of;
+use crate::steps::struct_at;
+use crate::values::bytes_in;
+use crate::verbs::Call;
+use capnp_copy_arenas::arena::{BuilderArena, Memory};
+use capnp_layout_builders::data_builder::DataBuilder;
+use capnp_layout_builders::text_builder::TextBuilder;
+use capnp_schema_structs::init::Part;
+use capnp_schema_values::any_pointer;
+use capnp_schema_values::dynamic_value::Builder;
+use capnp_schema_values::placed::Placed;
+use capnp_text::{data, text};
+use std::alloc::Global;
+
+/// The text that a value is.
+fn text_of<'a, A: BuilderArena>(value: Builder<'a, A>) -> TextBuilder<'a, A>
+    requires is { is_some (built_text value) ≡ true }
+    requires ready { IsReadyValue A.segments value }
+    ensures near { result.place.start.position < 2 ^ 61 }
+{
+    let Builder::Text(inner) = value else {
+        unreachable!()
+    };
+    inner
+}
+
+/// The data that a value is.
+fn data_of<'a, A: BuilderArena>(value: Builder<'a, A>) -> DataBuilder<'a, A>
+    requires is { is_some (built_data value) ≡ true }
+    requires ready { IsReadyValue A.segments value }
+    ensures near { result.place.start.position < 2 ^ 61 }
+{
+    let Builder::Data(inner) = value else {
+        unreachable!()
+    };
+    inner
+}
+
+/// The untyped pointer that a value is.
+fn untyped_of<'a, A: BuilderArena>(value: Builder<'a, A>) -> any_pointer::Builder<'a, A>
+    requires is { is_some (built_untyped value) ≡ true }
+    requires ready { IsReadyValue A.segments value }
+    ensures ready { IsPointerReady A.segments result }
+{
+    let Builder::AnyPointer(inner) = value else {
+        unreachable!()
+    };
+    inner
+}
+
+/// Whether a value is a text.
+fn is_text<A: BuilderArena>(value: &Builder<'_, A>) -> bool
+    ensures { result ≡ is_some (built_text value.now) }
+{
+    matches!(value, Builder::Text(_))
+}
+
+/// Whether a value is data.
+fn is_data<A: BuilderArena>(value: &Builder<'_, A>) -> bool
+    ensures { result ≡ is_some (built_data value.now) }
+{
+    matches!(value, Builder::Data(_))
+}
+
+/// Whether a value is an untyped pointer.
+fn is_untyped<A: BuilderArena>(value: &Builder<'_, A>) -> bool
+    ensures { result ≡ is_some (built_untyped value.now) }
+{
+    matches!(value, Builder::AnyPointer(_))
+}
+
+/// Where a value lies: a struct's position and sizes, an untyped pointer's position, how many bytes
+/// or elements others have.
+fn place_of(alloc: Global, placed: Placed<'_>) -> Result<Answer, Stop> {
+    let text = match placed {
+        Placed::Struct(part) => {
+            let place = part.place;
+            let position = place.start.position;
+            format!(in alloc; "struct {position} {} {}", place.data_words, place.pointers)?
+        }
+        Placed::List(list) => format!(in alloc; "list {}", list.place.count)?,
+        Placed::Text(place) => format!(in alloc; "text {}", place.count)?,
+        Placed::Data(place) => format!(in alloc; "data {}", place.count)?,
+        Placed::AnyPointer(place) => format!(in alloc; "untyped {}", place.position)?,
+        _ => String::from_str(alloc, "plain")?,
+    };
+    told(alloc, text.as_str())
+}
+
+/// Writes bytes over the first of a text that has room for them.
+fn write_text<A: BuilderArena>(
+    memory: &mut Memory<A>,
+    placed: Placed<'_>,
+    bytes: &[u8],
+) -> Result<Answer, Stop>
+    requires { IsPlaced (words_in (A.segments memory.old.arena)) placed }
+{
+    let value = Builder::new(memory, placed);
+    if !is_text(&value) {
+        return Err(Stop::NoCall);
+    }
+    let mut text = text_of(value);
+    if (text.len() as usize) < bytes.len() {
+        return Err(Stop::NoCall);
+    }
+    text.write(0, bytes);
+    Ok(Answer::Done)
+}
+
+/// The same of data.
+fn write_data<A: BuilderArena>(
+    memory: &mut Memory<A>,
+    placed: Placed<'_>,
+    bytes: &[u8],
+) -> Result<Answer, Stop>
+    requires { IsPlaced (words_in (A.segments memory.old.arena)) placed }
+{
+    let value = Builder::new(memory, placed);
+    if !is_data(&value) {
+        return Err(Stop::NoCall);
+    }
+    let mut data = data_of(value);
+    if (data.len() as usize) < bytes.len() {
+        return Err(Stop::NoCall);
+    }
+    data.write(0, bytes);
+    Ok(Answer::Done)
+}
+
+/// The active member of a union.
+fn which<A: BuilderArena>(
+    alloc: Global,
+    memory: &mut Memory<A>,
+    part: Part<'_>,
+) -> Result<Answer, Stop>
+    requires there { IsThere (words_in (A.segments memory.old.arena)) part.place }
+    requires wide { HoldsShape part.place (shape_of_struct part.schema) }
+{
+    let object = struct_at(memory, part);
+    name_of(alloc, object.which()?)
+}
+
+/// How many bytes a text or data behind an untyped pointer has.
+fn length<A: BuilderArena>(
+    alloc: Global,
+    memory: &mut Memory<A>,
+    placed: Placed<'_>,
+    verb: &str,
+) -> Result<Answer, Stop>
+    requires { IsPlaced (words_in (A.segments memory.old.arena)) placed }
+{
+    let value = Builder::new(memory, placed);
+    if !is_untyped(&value) {
+        return Err(Stop::NoCall);
+    }
+    let pointer = untyped_of(value);
+    let text = if verb == "get_text" {
+        format!(in alloc; "text {}", pointer.get_as::<TextBuilder<'_, A>>()?.len())?
+    } else {
+        format!(in alloc; "data {}", pointer.get_as::<DataBuilder<'_, A>>()?.len())?
+    };
+    told(alloc, text.as_str())
+}
+
+/// Makes a new text or data, or null, behind an untyped pointer.
+fn begin<A: BuilderArena>(
+    memory: &mut Memory<A>,
+    placed: Placed<'_>,
+    call: Call<'_>,
+) -> Result<Answer, Stop>
+    requires { IsPlaced (words_in (A.segments memory.old.arena)) placed }
+{
+    let value = Builder::new(memory, placed);
+    if !is_untyped(&value) {
+        return Err(Stop::NoCall);
+    }
+    let pointer = untyped_of(value);
+    match call.verb {
+        "init_text" => {
+            let _text = pointer.initn_as::<TextBuilder<'_, A>>(call.size)?;
+        }
+        "init_data" => {
+            let _data = pointer.initn_as::<DataBuilder<'_, A>>(call.size)?;
+        }
+        _ => {
+            let _null = pointer.init_as::<any_pointer::Builder<'_, A>>()?;
+        }
+    }
+    Ok(Answer::Done)
+}
+
+/// Asks whether an untyped pointer is null, clears it, or puts a text or data behind it.
+fn put<A: BuilderArena>(
+    alloc: Global,
+    memory: &mut Memory<A>,
+    placed: Placed<'_>,
+    call: Call<'_>,
+) -> Result<Answer, Stop>
+    requires { IsPlaced (words_in (A.segments memory.old.arena)) placed }
+{
+    let bytes = bytes_in(alloc, call.value)?;
+    let value = Builder::new(memory, placed);
+    if !is_untyped(&value) {
+        return Err(Stop::NoCall);
+    }
+    let mut pointer = untyped_of(value);
+    match call.verb {
+        "null" => return truth(alloc, pointer.is_null()),
+        "clear_pointer" => pointer.clear(),
+        _ if call.value.starts_with('t') => {
+            pointer.set_as::<text::Owned, text::Reader<'_>>(text::Reader(&bytes))?;
+        }
+        _ => pointer.set_as::<data::Owned, &[u8]>(&bytes)?,
+    }
+    Ok(Answer::Done)
+}
+
+/// Returns a call of a value that was got.
+pub fn answer<A: BuilderArena>(
+    alloc: Global,
+    memory: &mut Memory<A>,
+    placed: Placed<'_>,
+    call: Call<'_>,
+) -> Result<Answer, Stop>
+    requires { IsPlaced (words_in (A.segments memory.old.arena)) placed }
+{
+    match call.verb {
+        "where" => place_of(alloc, placed),
+        "which" => match placed {
+            Placed::Struct(part) => which(alloc, memory, part),
+            _ => Err(Stop::NoCall),
+        },
+        "write" => {
+            let bytes = bytes_in(alloc, call.value)?;
+            match placed {
+                Placed::Text(_) => write_text(memory, placed, &bytes),
+                _ => write_data(memory, placed, &bytes),
+            }
+        }
+        "get_text" | "get_data" => length(alloc, memory, placed, call.verb),
+        "init_text" | "init_data" | "init_null" => begin(memory, placed, call),
+        _ => put(alloc, memory, placed, call),
+    }
+}

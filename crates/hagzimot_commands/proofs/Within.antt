@@ -1,0 +1,39 @@
+-- What is read of a canonical copy within limits.
+use Rattle.std.proofs.Common.{◌≡◌, ℕ, Some, None, List, ◌++◌, length, take, drop, ap, ◌∙◌, append-nil, arith}
+use Rattle.std.proofs.lemmas.List.{drop_all, take_all}
+use Rattle.capnp_model.specs.Segments.{Segments, root}
+use Rattle.capnp_model.specs.Trees.{has_capability}
+use Rattle.capnp_model.specs.Trimming.{trim}
+use Rattle.capnp_model.specs.Encoding.{canonical_words}
+use Rattle.capnp_model.specs.Traversal.{tree_at}
+use Rattle.capnp_model.specs.Answers.{value_within}
+use Rattle.capnp_units.specs.Limits.{left_of}
+use Rattle.capnp_units.specs.declared.errors.Error.{Error}
+use Rattle.capnp_units.specs.declared.limiter.ReadLimiter.{ReadLimiter}
+use Rattle.capnp_wire_objects.specs.Walks.{Stopped}
+use Rattle.capnp_wire_canonical.specs.Copies.{copy_visits, Written}
+use Rattle.capnp_wire_canonical.proofs.lemmas.Limited.{WalkLaws, written_within, stopped_none}
+use Rattle.hagzimot_commands.specs.Answers.{canonical_limits, ReadsValueWithinLimits}
+use Rattle.hagzimot_commands.specs.declared.canonical.Canonical.{Canonical}
+
+-- what is written back of a slice of a whole buffer
+pub put_back : {X : Type 0} (len : ℕ) (new items : List X) → len ≡ length items → length new ≡ length items → take len (new ++ drop (length new) items) ≡ new
+put_back len new items is same =
+    ap (λ xs. take len (new ++ xs)) (drop_all (length new) items (omega (arith, same))) ∙ ap (take len) (append-nil new) ∙ take_all len new (omega (arith, is, same))
+
+module _ (laws : WalkLaws) (s : Segments) (c : Canonical) where
+  -- a copy that was written
+  pub value_read : (l m : ReadLimiter) (old new : List (List ℕ)) (end : ℕ) → left_of l ≡ Some c.words
+      → Written (tree_at c.nesting s root) has_capability (λ t words. canonical_words (trim t)) (copy_visits c.nesting s root) 1 1 old l end new m → ReadsValueWithinLimits (canonical_limits c) s new end
+  value_read l m old new end left w =
+      record {
+        value = w.what;
+        within = written_within laws s c.words c.nesting l m old new end left w;
+        words = w.words;
+        inside = w.bound;
+        few = w.near;
+      }
+
+  -- a copy that was stopped
+  pub none_read : (l m : ReadLimiter) (e : Error) → left_of l ≡ Some c.words → Stopped (copy_visits c.nesting s root) l e m → value_within (canonical_limits c) s ≡ None
+  none_read l m e left stop = stopped_none laws s c.words c.nesting l m e left stop

@@ -1,0 +1,219 @@
+//! Lists and untyped pointers of a struct whose schema is known at run time.
+use crate::fixtures::{SCHEMAS, begin, schema_of, set_of, text_of};
+use capnp_layout::{
+    BuilderArena, Error, ErrorKind, Memory, NullArena, Result, StructBuilder, StructPlace,
+    TextBuilder, has_words, text,
+};
+use capnp_message::message::{Builder, HeapAllocator, with_message};
+use capnp_schema::dynamic_struct::{begun, get_named, has_sizes, initn, value};
+use capnp_schema::dynamic_value::{Capability, DowncastReader, Reader};
+use capnp_schema::schema::StructSchema;
+use capnp_schema::{dynamic_list, dynamic_struct, dynamic_value};
+use std::alloc::Global;
+use std::test::Fail;
+
+/// A value of no message.
+type Given<'a> = Reader<'a, NullArena>;
+
+/// Positions that are too far for a handle.
+const FAR: usize = 1 << 60;
+
+/// What a call answers that finds its value missing.
+fn missing<T>() -> Result<T> {
+    Err(Error::from(ErrorKind::OutOfBounds))
+}
+
+/// Writes a text of two bytes.
+fn write_ho<A: BuilderArena>(mut text: TextBuilder<'_, A>) -> Result<()> {
+    if text.len() != 2 || text.position != 0 || text.place.start.position >= FAR {
+        return missing();
+    }
+    text.push_str("ho");
+    Ok(())
+}
+
+/// Begins a list of two elements in a field of R, and sets its last text, a number of its last
+/// struct, or its first capability.
+fn begin_field<A: BuilderArena>(
+    memory: &mut Memory<A>,
+    place: StructPlace,
+    schema: StructSchema<'_>,
+    name: &str,
+) -> Result<()> {
+    let words = place.data_words as usize + place.pointers as usize;
+    let there = has_words(&memory.arena, place.start, words);
+    let fields = StructBuilder { memory, place };
+    if !there || !has_sizes(&fields, schema) {
+        return missing();
+    }
+    let mut record = dynamic_struct::Builder::new(fields, schema);
+    let field = record.get_schema().get_field_by_name(name)?;
+    let placed = initn(&mut record, field, 2)?;
+    let dynamic_value::Builder::List(mut list) = begun(record, placed) else {
+        return missing();
+    };
+    if list.len() != 2 {
+        return missing();
+    }
+    match name {
+        "words" => list.set(1, Given::from("hi")),
+        "items" => {
+            let part = list.struct_at(1)?;
+            list.part(part).set_named("a", Given::UInt16(3))
+        }
+        _ => list.set(0, Given::Capability(Capability)),
+    }
+}
+
+/// Gets a list of R, and begins its first text, or sets the text of its first struct, which is got.
+fn write_field<A: BuilderArena>(
+    memory: &mut Memory<A>,
+    place: StructPlace,
+    schema: StructSchema<'_>,
+    name: &str,
+) -> Result<()> {
+    let words = place.data_words as usize + place.pointers as usize;
+    let there = has_words(&memory.arena, place.start, words);
+    let fields = StructBuilder { memory, place };
+    if !there || !has_sizes(&fields, schema) {
+        return missing();
+    }
+    let mut record = dynamic_struct::Builder::new(fields, schema);
+    let placed = get_named(&mut record, name)?;
+    let dynamic_value::Builder::List(mut list) = value(record, placed) else {
+        return missing();
+    };
+    if list.is_empty() {
+        return missing();
+    }
+    if name == "words" {
+        let placed = dynamic_list::init(&mut list, 0, 2)?;
+        return match dynamic_list::begun(list, placed) {
+            dynamic_value::Builder::Text(text) => write_ho(text),
+            _ => missing(),
+        };
+    }
+    let placed = dynamic_list::get(&mut list, 0)?;
+    match dynamic_list::value(list, placed) {
+        dynamic_value::Builder::Struct(mut first) => first.set_named("t", Given::from("x")),
+        _ => missing(),
+    }
+}
+
+/// Gets the untyped field of R, and sets it to a text, which is a word.
+fn write_pointer<A: BuilderArena>(
+    memory: &mut Memory<A>,
+    place: StructPlace,
+    schema: StructSchema<'_>,
+) -> Result<()> {
+    let words = place.data_words as usize + place.pointers as usize;
+    let there = has_words(&memory.arena, place.start, words);
+    let fields = StructBuilder { memory, place };
+    if !there || !has_sizes(&fields, schema) {
+        return missing();
+    }
+    let mut record = dynamic_struct::Builder::new(fields, schema);
+    let placed = get_named(&mut record, "any")?;
+    let dynamic_value::Builder::AnyPointer(mut any) = value(record, placed) else {
+        return missing();
+    };
+    if !any.is_null() {
+        return missing();
+    }
+    any.set_as::<text::Owned, &str>("hi")?;
+    if any.target_size()?.word_count != 1 {
+        return missing();
+    }
+    Ok(())
+}
+
+/// The text of a struct.
+fn shown<A: BuilderArena>(
+    alloc: Global,
+    memory: &mut Memory<A>,
+    place: StructPlace,
+    schema: StructSchema<'_>,
+) -> Result<String> {
+    let words = place.data_words as usize + place.pointers as usize;
+    let there = has_words(&memory.arena, place.start, words);
+    let fields = StructBuilder { memory, place };
+    if !there || !has_sizes(&fields, schema) {
+        return missing();
+    }
+    let record = dynamic_struct::Builder::new(fields, schema);
+    text_of(alloc, Reader::Struct(record.into_reader()))
+}
+
+/// Writes a field of a new message of R, and tells its text.
+fn written(
+    alloc: Global,
+    message: &mut Builder<HeapAllocator>,
+    schema: StructSchema<'_>,
+    name: &str,
+) -> Result<String> {
+    let place = begin(message, schema)?;
+    if name == "any" {
+        write_pointer(&mut message.memory, place, schema)?;
+    } else {
+        begin_field(&mut message.memory, place, schema, name)?;
+        write_field(&mut message.memory, place, schema, name)?;
+    }
+    shown(alloc, &mut message.memory, place, schema)
+}
+
+/// Fields of R, and the text of a struct where that one was written.
+const WRITTEN: [(&str, &str); 3] = [
+    (
+        "words",
+        r#"(n = 5, e = red, words = ["ho", "hi"], g = (x = 0))"#,
+    ),
+    (
+        "items",
+        r#"(n = 5, e = red, items = [(a = 0, t = "x"), (a = 3)], g = (x = 0))"#,
+    ),
+    (
+        "any",
+        "(n = 5, e = red, any = <opaque pointer>, g = (x = 0))",
+    ),
+];
+
+#[test]
+fn lists_and_pointers_are_written(rt: HostRuntime) -> std::result::Result<(), Fail> {
+    let alloc = rt.alloc();
+    let set = set_of(alloc, SCHEMAS)?;
+    let schema = schema_of(&set, 2)?;
+    for (name, text) in WRITTEN {
+        let is = with_message(alloc, |message| written(alloc, message, schema, name))?;
+        assert!(rt; is.as_str() == text, "{name}");
+    }
+    Ok(())
+}
+
+#[test]
+fn a_list_of_capabilities_takes_none(rt: HostRuntime) -> std::result::Result<(), Fail> {
+    let alloc = rt.alloc();
+    let set = set_of(alloc, SCHEMAS)?;
+    let schema = schema_of(&set, 2)?;
+    match with_message(alloc, |message| written(alloc, message, schema, "caps")) {
+        Ok(_) => Err(Fail::from("a capability is set")),
+        Err(error) => {
+            assert!(rt; error.kind == ErrorKind::ListCapabilityNotSupported);
+            Ok(())
+        }
+    }
+}
+
+/// The number of an element, if it is one of 16 bits.
+fn number(value: Reader<'_, NullArena>) -> Option<u16> {
+    if !u16::fits(&value) {
+        return None;
+    }
+    Some(value.downcast::<u16>())
+}
+
+#[test]
+fn values_are_downcast(rt: HostRuntime) -> std::result::Result<(), Fail> {
+    assert!(rt; number(Reader::from(7u16)) == Some(7));
+    assert!(rt; number(Reader::from(7u32)).is_none());
+    Ok(())
+}

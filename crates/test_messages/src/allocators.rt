@@ -1,0 +1,3 @@
+//! Tests of `capnp_message_allocators`.
+
+mod tests;

@@ -1,0 +1,18 @@
+//! Tests of the relay and its program that no data can say: devices that fail, sources that wait,
+//! and long streams.
+#![tactic(auto)]
+
+#[cfg(test)]
+mod devices;
+#[cfg(test)]
+mod files;
+#[cfg(test)]
+mod large;
+#[cfg(test)]
+mod runs;
+#[cfg(test)]
+mod samples;
+#[cfg(test)]
+mod streams;
+#[cfg(test)]
+mod waits;

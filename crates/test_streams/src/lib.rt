@@ -1,0 +1,16 @@
+//! Tests of `capnp_stream_io`, `capnp_stream`, `capnp_stream` and `capnp_stream_packed`, by their
+//! public calls alone, where no case of `cases_segments` can say them.
+#![tactic(auto)]
+
+#[cfg(test)]
+mod adapter_tests;
+#[cfg(test)]
+mod devices;
+#[cfg(test)]
+mod messages;
+#[cfg(test)]
+mod packing_tests;
+#[cfg(test)]
+mod segment_tests;
+#[cfg(test)]
+mod stream_tests;
