@@ -3,7 +3,7 @@ ghost use Rattle.std.specs.Prelude.{◌≡◌};
 ghost use Rattle.capnp_copy_arenas.specs.Memory.{AllZero};
 ghost use Rattle.capnp_relay_loop.specs.Streams.{streams_of};
 ghost use Rattle.capnp_relay_loop.specs.Work.{work_by};
-ghost use Rattle.capnp_relay_loop.specs.Pauses.{RelaysPausing};
+ghost use Rattle.capnp_relay_loop.specs.Pauses.{RelaysPausing, moment, pauses_of, PausesBeforeReads};
 
 use crate::answers::Answers;
 use crate::ends::{Counts, RelayFault};
@@ -45,6 +45,10 @@ pub fn answer_all<
         RelaysPausing P.may_fail (work_by ⟦<A as Answers>⟧ answers.now I.reader O.writer limit
         W.may_grow L.may_grow) (seen source.old out.old log.old)
         (seen source.new out.new log.new) result }
+    ensures pauses { PausesBeforeReads (pauses_of ⟦<R as Read>⟧ ⟦<W as Write>⟧ ⟦<L as Write>⟧
+        P.holds P.fails) (work_by ⟦<A as Answers>⟧ answers.now I.reader O.writer limit
+        W.may_grow L.may_grow) (moment source.old out.old log.old)
+        (moment source.new out.new log.new) result }
     ensures zeros { region.new ≡ region.old }
 {
     let mut buffers = Buffers::new(alloc);

@@ -16,7 +16,10 @@ use Rattle.capnp_relay_loop.specs.declared.ends.RelayFault.{RelayFault}
 use Rattle.capnp_calls_versions.specs.Renamed.{renamings_of}
 use Rattle.capnp_relay_streams.specs.Relaying.{relay_work}
 use Rattle.std.specs.Prelude.{⊤}
-use Rattle.capnp_relay_loop.specs.Pauses.{RelaysPausing}
+use Rattle.capnp_model.specs.Messages.{Reader}
+use Rattle.capnp_relay_loop.specs.Pauses.{RelaysPausing, Moment, Pauses, PausesBeforeReads}
+use Rattle.capnp_relay_streams.specs.Options.{reader_of}
+use Rattle.capnp_relay_program.specs.Flushing.{RanFlushing}
 use Rattle.capnp_relay_loop.specs.Streams.{Streams}
 use Rattle.capnp_relay_streams.specs.Ends.{RunsBetween, IsHeld}
 use Rattle.capnp_relay_streams.specs.declared.between.BetweenFault.TheVariants as between
@@ -43,6 +46,24 @@ module _ (root : StructSchema) (calls : List Call) (s : Settings) (out_grows log
 
     pub ran_beside : (result : Result Counts RelayFault) → RunsBetween (RelaysPausing ⊤) (renamings_of s.renamings) root newer calls s.options out_grows log_grows old new result → Ran (asked_of s) out_grows log_grows old new result
     ran_beside result h = record { root = root; newer = Some newer; renamings = renamings_of s.renamings; calls = calls; options = s.options; asks = asks_beside root calls s nodes id same newer v e newer_nodes; may = (newer_id ∙ same_id ∙ sym id, h.may); relays = h.relays }
+
+-- ---- what was flushed
+
+-- What is said of pauses in one form is said of them in an equal one.
+module _ {R W L : Type 0} (flushes : Reader → Pauses R W L) (root : StructSchema) (calls : List Call) (s : Settings) (out_grows log_grows : Type 0) (old new : Moment R W L)
+    (nodes : nodes_around root ≡ nodes_at s.version) (id : id_of root ≡ s.version.root.id) (same : calls ≡ s.calls.items) (read : Reader) (form : reader_of s.options.input ≡ read) where
+  Paused : Result Counts RelayFault → Reader → Type 0
+  Paused result r = PausesBeforeReads (flushes r) (relay_work root calls s.options out_grows log_grows) old new result
+
+  pub flushing_alone : (result : Result Counts RelayFault) → s.newer ≡ None → PausesBeforeReads (flushes read) (relay_work root calls s.options out_grows log_grows) old new result
+      → RanFlushing flushes (asked_of s) out_grows log_grows old new result
+  flushing_alone result e paused =
+      record { root = root; newer = None; renamings = renamings_of s.renamings; calls = calls; options = s.options; asks = asks_alone root calls s nodes id same e; pauses = subst (Paused result) (sym form) paused }
+
+  pub flushing_beside : (newer : StructSchema) (v : Version) → s.newer ≡ Some v → nodes_around newer ≡ nodes_at v → (result : Result Counts RelayFault)
+      → PausesBeforeReads (flushes read) (relay_work root calls s.options out_grows log_grows) old new result → RanFlushing flushes (asked_of s) out_grows log_grows old new result
+  flushing_beside newer v e newer_nodes result paused =
+      record { root = root; newer = Some newer; renamings = renamings_of s.renamings; calls = calls; options = s.options; asks = asks_beside root calls s nodes id same newer v e newer_nodes; pauses = subst (Paused result) (sym form) paused }
 
 -- A call that isn't admitted between the two schemas isn't admitted beside the newer one of the settings.
 pub held_beside : (root newer : StructSchema) (calls : List Call) (s : Settings) (v : Version) (n : ℕ)

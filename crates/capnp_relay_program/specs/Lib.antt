@@ -6,5 +6,6 @@ pub mod Versions
 pub mod Settings
 pub mod Lines
 pub mod Program
+pub mod Flushing
 pub mod Enough
 pub mod Ahead

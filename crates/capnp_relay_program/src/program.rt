@@ -2,9 +2,11 @@
 ghost use Rattle.std.specs.Prelude.{◌≡◌, [], map, string_bytes};
 ghost use Rattle.std.specs.Option.{option_copied};
 ghost use Rattle.capnp_relay_loop.specs.Streams.{sink_seen, streams_of};
+ghost use Rattle.capnp_relay_loop.specs.Pauses.{moment};
 ghost use Rattle.capnp_relay_program.specs.Asked.{request};
 ghost use Rattle.capnp_relay_program.specs.Lines.{fault_line};
 ghost use Rattle.capnp_relay_program.specs.Program.{seen_of, Told, Ends};
+ghost use Rattle.capnp_relay_program.specs.Flushing.{flushes_of, FlushesBeforeReads};
 
 use crate::arguments::asks_for_help;
 use crate::lines::write_line;
@@ -74,6 +76,10 @@ pub fn program<R: Windowed, W: Flush, L: Flush>(
         (seen_of (three source.old out.old log.old) (W.held out.old) (L.held log.old))
         (seen_of (three source.new out.new log.new) (W.held out.new) (L.held log.new))
         result }
+    ensures flushes { FlushesBeforeReads (flushes_of ⟦<R as Read>⟧ ⟦<W as Write>⟧ ⟦<L as Write>⟧
+        R.window W.held L.held) (request (map string_bytes words.now) (option_copied schema.entry)
+        (option_copied calls.entry) (option_copied newer.entry) (option_copied renames.entry))
+        W.may_grow L.may_grow (moment source.old out.old log.old) source.new }
     ensures held { result ≡ 0 → (W.held out.new ≡ []) × (L.held log.new ≡ []) }
 {
     if asks_for_help(words) {

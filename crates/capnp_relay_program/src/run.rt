@@ -2,9 +2,12 @@
 ghost use Rattle.std.specs.Prelude.{◌≡◌, [], map, string_bytes, OnOk, IfOk, IfErr};
 ghost use Rattle.std.specs.Option.{option_copied};
 ghost use Rattle.capnp_relay_loop.specs.Streams.{streams_of};
+ghost use Rattle.capnp_relay_loop.specs.Pauses.{moment};
+ghost use Rattle.capnp_relay_streams.specs.Options.{reader_of};
 ghost use Rattle.capnp_relay_program.specs.Asked.{request, IsHeldBack};
 ghost use Rattle.capnp_relay_program.specs.Settings.{asked_of};
 ghost use Rattle.capnp_relay_program.specs.Program.{seen_of, Ran, RelaysAll};
+ghost use Rattle.capnp_relay_program.specs.Flushing.{flushes_of, RanFlushing, FlushesBeforeReads};
 
 use crate::ahead::BoundedForm;
 use crate::settings::Settings;
@@ -34,9 +37,13 @@ fn relay_in<F: BoundedForm, R: Windowed, W: Flush, L: Flush>(
     out: &mut W,
     log: &mut L,
 ) -> Result<Result<Counts, RelayFault>, Stop>
+    requires form { reader_of settings.now.options.input ≡ F.reader }
     ensures ran { let three = streams_of ⟦<R as Read>⟧ ⟦<W as Write>⟧ ⟦<L as Write>⟧ in
         IfOk result (Ran (asked_of settings.now) W.may_grow L.may_grow
         (three source.old out.old log.old) (three source.new out.new log.new)) }
+    ensures flushes { IfOk result (RanFlushing (flushes_of ⟦<R as Read>⟧ ⟦<W as Write>⟧
+        ⟦<L as Write>⟧ R.window W.held L.held) (asked_of settings.now) W.may_grow L.may_grow
+        (moment source.old out.old log.old) (moment source.new out.new log.new)) }
     ensures held { IfErr result (IsHeldBack (asked_of settings.now)) }
     ensures untouched { IfErr result (λ _. (source.new ≡ source.old)
         × (out.new ≡ out.old) × (log.new ≡ log.old)) }
@@ -90,6 +97,9 @@ fn relay_asked<R: Windowed, W: Flush, L: Flush>(
     ensures ran { let three = streams_of ⟦<R as Read>⟧ ⟦<W as Write>⟧ ⟦<L as Write>⟧ in
         IfOk result (Ran (asked_of settings.now) W.may_grow L.may_grow
         (three source.old out.old log.old) (three source.new out.new log.new)) }
+    ensures flushes { IfOk result (RanFlushing (flushes_of ⟦<R as Read>⟧ ⟦<W as Write>⟧
+        ⟦<L as Write>⟧ R.window W.held L.held) (asked_of settings.now) W.may_grow L.may_grow
+        (moment source.old out.old log.old) (moment source.new out.new log.new)) }
     ensures held { IfErr result (IsHeldBack (asked_of settings.now)) }
     ensures untouched { IfErr result (λ _. (source.new ≡ source.old)
         × (out.new ≡ out.old) × (log.new ≡ log.old)) }
@@ -120,6 +130,10 @@ pub(crate) fn relay_all<R: Windowed, W: Flush, L: Flush>(
         (seen_of (three source.old out.old log.old) (W.held out.old) (L.held log.old))
         (seen_of (three source.new out.new log.new) (W.held out.new) (L.held log.new))
         result }
+    ensures flushes { FlushesBeforeReads (flushes_of ⟦<R as Read>⟧ ⟦<W as Write>⟧ ⟦<L as Write>⟧
+        R.window W.held L.held) (request (map string_bytes words.now) (option_copied schema.entry)
+        (option_copied calls.entry) (option_copied newer.entry) (option_copied renames.entry))
+        W.may_grow L.may_grow (moment source.old out.old log.old) source.new }
     ensures held { OnOk result ((W.held out.new ≡ []) × (L.held log.new ≡ [])) }
 {
     let settings = Settings::new(alloc, words, schema, calls, newer, renames)?;

@@ -34,6 +34,7 @@ pub struct Settings {
     /// The form of the input.
     pub(crate) input: Form,
     pub ghost same_root: { HasRootId newer version.root.id },
+    pub ghost same_input: { options.input ≡ input },
 }
 
 /// The newer version, where a word names its file.

@@ -1,9 +1,8 @@
 //! The flushes before a source that may wait.
-ghost use Rattle.std.specs.Prelude.{◌≡◌, ℕ, Option, [], OnOk, IfErr, ⊤};
-ghost use Rattle.capnp_model.specs.Messages.{message_at};
-ghost use Rattle.capnp_stream.specs.Pieces.{EndsEarly};
+ghost use Rattle.std.specs.Prelude.{◌≡◌, [], OnOk, IfErr, ⊤};
 ghost use Rattle.capnp_relay_loop.specs.Streams.{sink_of};
 ghost use Rattle.capnp_relay_loop.specs.Pauses.{SinkRests, FailsInPause};
+ghost use Rattle.capnp_relay_program.specs.Flushing.{HoldsNothing, HoldsNoOutput};
 
 use crate::ahead::{BoundedForm, holds_next};
 use crate::sinks::Flush;
@@ -22,14 +21,14 @@ pub fn flush_before_wait<F: BoundedForm, R: Windowed, W: Flush, L: Flush>(
     out: &mut W,
     log: &mut L,
 ) -> Result<(), Fault>
-    ensures whole { OnOk result ((limit : Option ℕ)
-        → EndsEarly (message_at F.reader limit (R.window source.now))
-        → (W.held out.new ≡ []) × (L.held log.new ≡ [])) }
+    ensures whole { OnOk result
+        (HoldsNothing F.reader (R.window source.now) (W.held out.new) (L.held log.new)) }
     ensures empty { OnOk result
         (R.shown source.now ≡ 0 → (W.held out.new ≡ []) × (L.held log.new ≡ [])) }
     ensures rests { let sink = sink_of ⟦<W as Write>⟧ in let line = sink_of ⟦<L as Write>⟧ in
         OnOk result (SinkRests (sink out.old) (sink out.new)
         × SinkRests (line log.old) (line log.new)) }
+    ensures output { IfErr result (λ f. HoldsNoOutput f (W.held out.new)) }
     ensures fault { let sink = sink_of ⟦<W as Write>⟧ in let line = sink_of ⟦<L as Write>⟧ in
         IfErr result (λ f. FailsInPause f (sink out.old) (sink out.new)
         (line log.old) (line log.new)) }
@@ -54,6 +53,11 @@ pub struct FlushBeforeWait<F> {
 
 impl<F: BoundedForm, R: Windowed, W: Flush, L: Flush> Pause<R, W, L> for FlushBeforeWait<F> {
     ghost may_fail = { ⊤ };
+
+    ghost holds = { λ source out log.
+        HoldsNothing F.reader (R.window source) (W.held out) (L.held log) };
+
+    ghost fails = { λ fault out log. HoldsNoOutput fault (W.held out) };
 
     #[inline(always)]
     fn pause(source: &R, out: &mut W, log: &mut L) -> Result<(), Fault> {

@@ -16,6 +16,7 @@ use Rattle.capnp_relay_streams.specs.Messages.{IsAnswerInForm, IsTooLargeIn}
 use Rattle.capnp_relay_streams.specs.Options.{reader_of, writer_of}
 use Rattle.capnp_relay_loop.specs.Work.{LoopWork, work}
 use Rattle.capnp_relay_loop.specs.Streams.{Streams}
+use Rattle.capnp_relay_loop.specs.Pauses.{Moment, Pauses, PausesBeforeReads}
 use Rattle.capnp_relay_streams.specs.declared.between.BetweenFault.{BetweenFault}
 use Rattle.capnp_relay_streams.specs.declared.between.BetweenFault.TheVariants as fault
 use Rattle.capnp_relay_streams.specs.Newer.{AreCompatibleSchemas, is_admitted_between, MayRun, ReadsAsRenamed}
@@ -57,6 +58,14 @@ RelaysBetweenWith runs rs root newer calls options out_grows log_grows old new (
 -- A relay between two versions where no field is renamed: it ran, or was held.
 abbrev pub RelaysBetween : RunEffect → StructSchema → StructSchema → List Call → RelayOptions → Type 0 → Type 0 → Streams → Streams → Result Counts BetweenFault → Type 0
 RelaysBetween runs root newer calls options out_grows log_grows old new result = RelaysBetweenWith runs [] root newer calls options out_grows log_grows old new result
+
+-- Each read of a relay that ran stood right behind a pause.
+abbrev pub PausesBetween : {R W L : Type 0} → Pauses R W L → LoopWork → Moment R W L → Moment R W L → Result Counts BetweenFault → Type 0
+PausesBetween p w old new (Ok counts) = PausesBeforeReads p w old new (Ok counts)
+PausesBetween p w old new (Err (fault.Relay e)) = PausesBeforeReads p w old new (Err e)
+PausesBetween p w old new (Err fault.NotCompatible) = ⊤
+PausesBetween p w old new (Err (fault.NotAdmitted n)) = ⊤
+PausesBetween p w old new (Err fault.Memory) = ⊤
 
 -- This holds where the relay ran.
 abbrev pub IfRun : Result Counts BetweenFault → Type 0 → Type 0

@@ -3,10 +3,11 @@ ghost use Rattle.std.specs.Prelude.{◌≡◌, ◌+◌, ◌*◌, length, replica
 ghost use Rattle.capnp_calls.specs.Roots.{IsRoot};
 ghost use Rattle.capnp_relay_loop.specs.Streams.{streams_of};
 ghost use Rattle.capnp_relay_loop.specs.Run.{RunEndsAs};
-ghost use Rattle.capnp_relay_loop.specs.Pauses.{RelaysPausing};
+ghost use Rattle.capnp_relay_loop.specs.Pauses.{RelaysPausing, moment, pauses_of};
 ghost use Rattle.capnp_calls_versions.specs.Renamed.{renamings_of};
 ghost use Rattle.capnp_relay_streams.specs.Newer.{MayRun};
-ghost use Rattle.capnp_relay_streams.specs.Ends.{IsHeld, RelaysBetween, RelaysBetweenWith, IfRun, IfHeld};
+ghost use Rattle.capnp_relay_streams.specs.Relaying.{relay_work};
+ghost use Rattle.capnp_relay_streams.specs.Ends.{IsHeld, RelaysBetween, RelaysBetweenWith, PausesBetween, IfRun, IfHeld};
 
 use crate::options::RelayOptions;
 use crate::relay::relay_pausing;
@@ -140,8 +141,9 @@ pub fn relay_between_with<R: BufRead, W: Write, L: Write>(
     )
 }
 
-/// As `relay_between_with`, with a pause before each message is read and a region of any length. A
-/// fault of a pause ends the run as `Out` or `Log`.
+/// As `relay_between_with`, with a pause before each message is read and a region of any length.
+/// What the pause promises holds when a message is read. A fault of a pause ends the run as `Out`
+/// or `Log`.
 pub fn relay_between_pausing<R: BufRead, W: Write, L: Write, P: Pause<R, W, L>>(
     alloc: Global,
     source: &mut R,
@@ -159,6 +161,9 @@ pub fn relay_between_pausing<R: BufRead, W: Write, L: Write, P: Pause<R, W, L>>(
         RelaysBetweenWith (RelaysPausing P.may_fail) (renamings_of renamings.now) root.entry
         newer.entry calls.now options W.may_grow L.may_grow
         (seen source.old out.old log.old) (seen source.new out.new log.new) result }
+    ensures pauses { PausesBetween (pauses_of ⟦<R as Read>⟧ ⟦<W as Write>⟧ ⟦<L as Write>⟧ P.holds
+        P.fails) (relay_work root.entry calls.now options W.may_grow L.may_grow)
+        (moment source.old out.old log.old) (moment source.new out.new log.new) result }
     ensures zeros { IfRun result (region.new ≡ replicate (length region.old) 0) }
     ensures untouched { IfHeld result ((source.new ≡ source.old) × (out.new ≡ out.old)
         × (log.new ≡ log.old) × (region.new ≡ region.old)) }

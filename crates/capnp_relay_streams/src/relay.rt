@@ -6,7 +6,7 @@ ghost use Rattle.capnp_relay_loop.specs.Streams.{streams_of};
 ghost use Rattle.capnp_relay_loop.specs.Run.{RunEndsAs};
 ghost use Rattle.capnp_relay_loop.specs.Work.{work_by};
 ghost use Rattle.capnp_relay_streams.specs.Options.{reader_of, writer_of};
-ghost use Rattle.capnp_relay_loop.specs.Pauses.{RelaysPausing};
+ghost use Rattle.capnp_relay_loop.specs.Pauses.{RelaysPausing, moment, pauses_of, PausesBeforeReads};
 ghost use Rattle.capnp_relay_streams.specs.Relaying.{relay_work};
 
 use crate::at_root::{CallsAtRoot, PlainCallsAtRoot};
@@ -105,6 +105,10 @@ fn answer_in_forms<R: BufRead, W: Write, L: Write, A: Answers, P: Pause<R, W, L>
         RelaysPausing P.may_fail (work_by ⟦<A as Answers>⟧ answers.now (reader_of options.input)
         (writer_of options.output) options.bounds.words W.may_grow L.may_grow)
         (seen source.old out.old log.old) (seen source.new out.new log.new) result }
+    ensures pauses { PausesBeforeReads (pauses_of ⟦<R as Read>⟧ ⟦<W as Write>⟧ ⟦<L as Write>⟧
+        P.holds P.fails) (work_by ⟦<A as Answers>⟧ answers.now (reader_of options.input)
+        (writer_of options.output) options.bounds.words W.may_grow L.may_grow)
+        (moment source.old out.old log.old) (moment source.new out.new log.new) result }
     ensures zeros { region.new ≡ region.old }
 {
     let limit = options.bounds.words as usize;
@@ -125,8 +129,9 @@ fn answer_in_forms<R: BufRead, W: Write, L: Write, A: Answers, P: Pause<R, W, L>
 }
 
 /// As `relay`, with a pause before each message is read and a region of any length: a message that
-/// doesn't fit into it is edited in memory from `alloc`. A fault of a pause ends the run as `Out`
-/// or `Log`: the messages before it are answered whole.
+/// doesn't fit into it is edited in memory from `alloc`. What the pause promises holds when a
+/// message is read. A fault of a pause ends the run as `Out` or `Log`: the messages before it are
+/// answered whole.
 pub fn relay_pausing<R: BufRead, W: Write, L: Write, P: Pause<R, W, L>>(
     alloc: Global,
     source: &mut R,
@@ -141,6 +146,9 @@ pub fn relay_pausing<R: BufRead, W: Write, L: Write, P: Pause<R, W, L>>(
     ensures run { let seen = streams_of ⟦<R as Read>⟧ ⟦<W as Write>⟧ ⟦<L as Write>⟧ in
         RelaysPausing P.may_fail (relay_work root.entry calls.now options W.may_grow L.may_grow)
         (seen source.old out.old log.old) (seen source.new out.new log.new) result }
+    ensures pauses { PausesBeforeReads (pauses_of ⟦<R as Read>⟧ ⟦<W as Write>⟧ ⟦<L as Write>⟧
+        P.holds P.fails) (relay_work root.entry calls.now options W.may_grow L.may_grow)
+        (moment source.old out.old log.old) (moment source.new out.new log.new) result }
     ensures zeros { region.new ≡ replicate (length region.old) 0 }
 {
     region.fill(0);

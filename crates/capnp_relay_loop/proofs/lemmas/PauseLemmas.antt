@@ -1,5 +1,5 @@
 -- Runs with pauses.
-use Rattle.std.proofs.Common.{◌≡◌, ℕ, List, [], Result, Ok, Err, inl, inr, refl, sym, subst, append-nil, arith}
+use Rattle.std.proofs.Common.{◌≡◌, ℕ, suc, ◌+◌, List, [], Result, Ok, Err, inl, inr, refl, sym, subst, append-nil, arith}
 use Rattle.std.proofs.KnownBytes.{Consumes-nil, Keeps-refl}
 use Rattle.capnp_model.specs.Segments.{Segments}
 use Rattle.capnp_model.specs.Answers.{Answer}
@@ -12,7 +12,7 @@ use Rattle.capnp_relay_loop.specs.Streams.{Streams, SinkSeen, SinkTakes}
 use Rattle.capnp_relay_loop.specs.Work.{LoopWork}
 use Rattle.capnp_relay_loop.specs.Run.{Answered, RunEndsAs, RunStops}
 use Rattle.capnp_relay_loop.specs.Stops.{StopsBefore}
-use Rattle.capnp_relay_loop.specs.Pauses.{SinkRests, RelaysPausing}
+use Rattle.capnp_relay_loop.specs.Pauses.{SinkRests, RelaysPausing, Moment, Pauses, AnswersPausing, AnsweredPausing}
 use Rattle.capnp_relay_loop.proofs.RunLemmas.{Answered-nil, SinkTakes-trans}
 
 takes_rests : (a b c : SinkSeen) (bs : List ℕ) → SinkTakes a b bs → SinkRests b c → SinkTakes a c bs
@@ -45,3 +45,10 @@ wants_first w may_fail old e fault frames refusals =
     let rests : StopsBefore w old old e.counts e.counts = (([], (λ n s less spells. absurd (omega (arith, less))), Consumes-nil old.source.remaining), (Keeps-refl _, refl), (Keeps-refl _, refl), refl) in
     let P : Fault → Type 0 = λ f. RunStops w f old old e.counts in
     inl (subst P (sym fault) ([], [], old, e.counts, Answered-nil w old e.counts frames refusals, (refl, refl, refl, inl rests)))
+
+-- one more message, which is read right behind a pause
+pub AnsweredPausing-more : {R W L : Type 0} (p : Pauses R W L) (w : LoopWork) (n : ℕ) (old mid new : Moment R W L) → AnsweredPausing p w n old mid → AnswersPausing p w (n + 1) mid new
+    → AnsweredPausing p w (n + 1) old new
+AnsweredPausing-more p w n old mid new answered one =
+    let next : suc n ≡ n + 1 = omega arith in
+    subst (λ k. AnsweredPausing p w k old new) next (mid, answered, subst (λ k. AnswersPausing p w k mid new) (sym next) one)

@@ -1,4 +1,4 @@
-use Rattle.std.proofs.Common.{rules, arith, ◌≡◌, ◌≤◌, refl, sym, ◌∙◌, map, string_bytes, true, false, List, ℕ, subst}
+use Rattle.std.proofs.Common.{rules, arith, inl, ◌≡◌, ◌≤◌, refl, sym, ◌∙◌, map, string_bytes, true, false, List, ℕ, subst}
 use Rattle.std.specs.Option.{option_copied}
 use Rattle.capnp_relay_loop.specs.Streams.{source_seen, sink_seen, streams}
 use Rattle.capnp_relay_program.specs.Arguments.{is_help}
@@ -47,3 +47,9 @@ returns-in-Err-clause-ends g c =
         told = c.put_fault-in-Err.ensures;
       };
     }
+
+pub returns-then-asks_for_help-clause-flushes : goal.returns-then-asks_for_help-clause-flushes
+returns-then-asks_for_help-clause-flushes g c = inl refl
+
+pub returns-in-Err-clause-flushes : goal.returns-in-Err-clause-flushes
+returns-in-Err-clause-flushes g c = c.in-Err.ensures.flushes

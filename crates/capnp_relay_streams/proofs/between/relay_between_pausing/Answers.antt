@@ -28,3 +28,9 @@ returns-in-Err-clause-run g c =
     let relays = relays-between (renamings_of c.args.renamings.now) root c.args.newer calls c.args.options laws (c.roots_are_no_groups.ensures root c.requires.root) (c.calls_are_given.ensures root calls) may
     g.P.Pause.may_fail g.W.Write.may_grow g.L.Write.may_grow old new (Err c.in-Err.e) c.in-Err.ensures.run in
     record { may = may; relays = relays }
+
+pub returns-in-Ok-clause-pauses : goal.returns-in-Ok-clause-pauses
+returns-in-Ok-clause-pauses g c = c.in-Ok.ensures.pauses
+
+pub returns-in-Err-clause-pauses : goal.returns-in-Err-clause-pauses
+returns-in-Err-clause-pauses g c = c.in-Err.ensures.pauses

@@ -1,6 +1,7 @@
-use Rattle.std.proofs.Common.{◌∙◌}
+use Rattle.std.proofs.Common.{◌∙◌, refl, inl}
 use Rattle.capnp_relay_streams.specs.Relaying.{relay_work}
 use Rattle.capnp_relay_loop.specs.Streams.{source_seen, sink_seen, streams}
+use Rattle.capnp_relay_loop.specs.Pauses.{moment}
 use Rattle.capnp_relay_loop.proofs.lemmas.PauseLemmas.{wants_first}
 use Rattle.capnp_relay_streams.proofs.relay.relay_pausing.Goals as goal
 
@@ -8,10 +9,10 @@ pub returns-in-Err : goal.returns-in-Err
 returns-in-Err g c =
     let here = streams (source_seen g.R.Read.remaining g.R.Read.failures c.args.source.now) (sink_seen g.W.Write.contents g.W.Write.failures g.W.Write.room c.args.out.now) (sink_seen g.L.Write.contents g.L.Write.failures g.L.Write.room c.args.log.now) in
     let wanted = c.wants_memory.ensures in
-    record { run = wants_first (relay_work c.args.root c.args.calls.now c.args.options g.W.Write.may_grow g.L.Write.may_grow) g.P.Pause.may_fail here c.wants_memory.result wanted.fault wanted.counts.0 wanted.counts.1; zeros = c.fill.ensures.after (λ y e. e) }
+    record { run = wants_first (relay_work c.args.root c.args.calls.now c.args.options g.W.Write.may_grow g.L.Write.may_grow) g.P.Pause.may_fail here c.wants_memory.result wanted.fault wanted.counts.0 wanted.counts.1; pauses = (0, moment c.args.source.now c.args.out.now c.args.log.now, refl, inl refl); zeros = c.fill.ensures.after (λ y e. e) }
 
 pub returns-then-options : goal.returns-then-options
-returns-then-options g c = record { run = rw c.if-options.true (rw (c.in-Ok.ensures.schema, c.in-Ok.ensures.calls) at c.answer_in_forms.ensures.run); zeros = c.answer_in_forms.ensures.zeros ∙ c.fill.ensures.after (λ y e. e) }
+returns-then-options g c = record { run = rw c.if-options.true (rw (c.in-Ok.ensures.schema, c.in-Ok.ensures.calls) at c.answer_in_forms.ensures.run); pauses = rw c.if-options.true (rw (c.in-Ok.ensures.schema, c.in-Ok.ensures.calls) at c.answer_in_forms.ensures.pauses); zeros = c.answer_in_forms.ensures.zeros ∙ c.fill.ensures.after (λ y e. e) }
 
 pub returns : goal.returns
-returns g c = record { run = rw c.if-options.false (rw (c.in-Ok.ensures.schema, c.in-Ok.ensures.calls) at c.answer_in_forms-2.ensures.run); zeros = c.answer_in_forms-2.ensures.zeros ∙ c.fill.ensures.after (λ y e. e) }
+returns g c = record { run = rw c.if-options.false (rw (c.in-Ok.ensures.schema, c.in-Ok.ensures.calls) at c.answer_in_forms-2.ensures.run); pauses = rw c.if-options.false (rw (c.in-Ok.ensures.schema, c.in-Ok.ensures.calls) at c.answer_in_forms-2.ensures.pauses); zeros = c.answer_in_forms-2.ensures.zeros ∙ c.fill.ensures.after (λ y e. e) }
