@@ -52,7 +52,7 @@ module _ (root : StructSchema) (calls : List Call) (s : Settings) (out_grows log
 -- What is said of pauses in one form is said of them in an equal one.
 module _ {R W L : Type 0} (flushes : Reader → Pauses R W L) (root : StructSchema) (calls : List Call) (s : Settings) (out_grows log_grows : Type 0) (old new : Moment R W L)
     (nodes : nodes_around root ≡ nodes_at s.version) (id : id_of root ≡ s.version.root.id) (same : calls ≡ s.calls.items) (read : Reader) (form : reader_of s.options.input ≡ read) where
-  Paused : Result Counts RelayFault → Reader → Type 0
+  abbrev Paused : Result Counts RelayFault → Reader → Type 0
   Paused result r = PausesBeforeReads (flushes r) (relay_work root calls s.options out_grows log_grows) old new result
 
   pub flushing_alone : (result : Result Counts RelayFault) → s.newer ≡ None → PausesBeforeReads (flushes read) (relay_work root calls s.options out_grows log_grows) old new result
