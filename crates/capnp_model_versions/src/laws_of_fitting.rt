@@ -13,7 +13,7 @@ ghost use Rattle.capnp_model.specs.Answers.{Limits, edits};
 ghost use Rattle.capnp_model.specs.Runs.{End, finished};
 ghost use Rattle.capnp_model.specs.SameRuns.{IsForm, Relays};
 ghost use Rattle.capnp_model_versions.specs.Fitting.{HasShortLists, HoldsShortLists, AreSpelled};
-ghost use Rattle.capnp_model_versions.specs.OwnOutput.{SizesSuffice, WritesFitting, HaveFewWords, IsWritten, relay_of};
+ghost use Rattle.capnp_model_versions.specs.OwnOutput.{SizesSuffice, SufficeEach, WritesFitting, HaveFewWords, IsWritten, relay_of};
 ghost use Rattle.capnp_model_versions.specs.TwoRelays.{RelayWrites};
 
 /// Calls in turn leave a value that fits its spelling, where no list in it gets too long.
@@ -39,14 +39,14 @@ pub fn sizes_that_suffice()
 {}
 
 /// A relay's own output, relayed again in its form without calls, gives the same bytes, where sizes
-/// sufficed and the second run writes every message.
+/// sufficed for what it wrote and the second run writes every message.
 pub fn own_output_again()
     ensures { (nodes : List Node) (quoted : List ℕ → List ℕ) (id : ℕ) (calls : List Call)
         (limits again : Limits) (read other : Reader) (write : Writer)
         (bytes output log others lines : List ℕ) (end : End)
         → AreSpelled nodes calls → IsForm other write
         → (x : Relays (relay_of nodes quoted id calls limits) read write bytes output log end)
-        → AllByRecursion (SizesSuffice (relay_of nodes quoted id calls limits)) x.messages
+        → SufficeEach (relay_of nodes quoted id calls limits) x.messages x.answers
         → (y : Relays (relay_of nodes quoted id [] again) other write output others lines finished)
         → AllByRecursion IsWritten y.answers → others ≡ output }
 {}
