@@ -22,7 +22,7 @@ use Rattle.capnp_model_versions.specs.TwoRelays.{TwoRelays, first, second, joine
 use Rattle.capnp_model.specs.Answers.{reply_done, written, Limits, edits, replies, value_within, opened_root, answer}
 
 -- a struct with a list of voids
-abbrev voids : List Node
+abbrev pub voids : List Node
 voids = record {
   id = 1;
   name = codes "N";

@@ -38,7 +38,7 @@ abbrev pub IsWritten : Answer → Type 0
 IsWritten (written segments replies) = Unit {0}
 IsWritten _ = ⊥
 
--- It holds of each message that is written, and of the segments that are written for it.
+-- It holds of each message that is written, with the segments that are written for it.
 abbrev pub HoldsOfWritten : (Segments → Segments → Type 0) → List Segments → List Answer → Type 0
 HoldsOfWritten holds [] [] = Unit {0}
 HoldsOfWritten holds (s ∷ messages) (written segments replies ∷ answers) = holds s segments × HoldsOfWritten holds messages answers
