@@ -28,6 +28,7 @@ mod FittingTrims
 mod SufficientSizes
 mod OwnOutput
 mod OutputLengths
+mod RunsInARow
 mod KeptFollows
 mod ReplacedViews
 mod OlderContents

@@ -46,11 +46,11 @@ module _ (read : Reader) (limit : Option ℕ) where
   unfolding message_at
   message_free b r e = let t = bind_ok (read 1 b) _ r e in ok_then (read 1 b) _ t.0 (Ok r) t.1 (first_free (halves t.0.0) t.0.1 r t.2)
 
-  begins_free : (ms : List Segments) (b rest : List ℕ) → BeginWith read limit b ms rest → BeginWith read None b ms rest
+  pub begins_free : (ms : List Segments) (b rest : List ℕ) → BeginWith read limit b ms rest → BeginWith read None b ms rest
   begins_free [] b rest h = h
   begins_free (s ∷ ms) b rest h = (h.0, message_free b (s, h.0) h.1, begins_free ms h.0 rest h.2)
 
-form-reads-back : (read : Reader) (write : Writer) → IsForm read write → ReadsBack read write
+pub form-reads-back : (read : Reader) (write : Writer) → IsForm read write → ReadsBack read write
 form-reads-back read write (inl f) = subst (λ r. ReadsBack r write) (sym f.0) (subst (λ w. ReadsBack plain_words w) (sym f.1) plain_back)
 form-reads-back read write (inr f) = subst (λ r. ReadsBack r write) (sym f.0) (subst (λ w. ReadsBack unpacked w) (sym f.1) packed_back)
 
@@ -60,12 +60,12 @@ form_reader read write (inr f) = inr f.0
 
 -- ---- the messages that were written
 
-outs : List Answer → List Segments
+unfoldable pub outs : List Answer → List Segments
 outs [] = []
 outs (written s rs ∷ answers) = s ∷ outs answers
 outs (a ∷ answers) = outs answers
 
-outputs_are : (write : Writer) (answers : List Answer) → outputs_of write answers ≡ flat_map (spelled write) (outs answers)
+pub outputs_are : (write : Writer) (answers : List Answer) → outputs_of write answers ≡ flat_map (spelled write) (outs answers)
 unfolding outs
 outputs_are write [] = refl
 outputs_are write (refused_value ∷ answers) = outputs_are write answers

@@ -37,13 +37,13 @@ voids = record {
   });
 } ∷ []
 
-abbrev so_many : ℕ → List Call
+abbrev pub so_many : ℕ → List Call
 so_many n = record { path = name (codes "v") ∷ []; verb = initn n } ∷ []
 
 abbrev unlimited : Limits
 unlimited = record { words = None; nesting = pos 64 }
 
-voids_are_accepted : IsAccepted voids
+pub voids_are_accepted : IsAccepted voids
 unfolding shape_in has_no_overlap areas_of
 voids_are_accepted = refl
 

@@ -8,7 +8,7 @@ pub use capnp_model_versions::laws::{
 pub use capnp_model_versions::laws_of_fitting::{
     edited_values_that_fit, own_output_again, sizes_that_suffice,
 };
-pub use capnp_model_versions::laws_of_relays::outputs_without_calls;
+pub use capnp_model_versions::laws_of_relays::{outputs_without_calls, runs_in_a_row};
 pub use capnp_model_versions::laws_of_renamings::{
     calls_across_renamed_versions, calls_without_renamings, records_by_older_names,
 };
