@@ -9,11 +9,11 @@ ghost use Rattle.capnp_model.specs.Messages.{Reader, Writer};
 ghost use Rattle.capnp_model.specs.Schemas.{Node};
 ghost use Rattle.capnp_model.specs.Accepted.{schema_of};
 ghost use Rattle.capnp_model.specs.Calls.{Call};
-ghost use Rattle.capnp_model.specs.Answers.{Limits, edits};
-ghost use Rattle.capnp_model.specs.Runs.{End, finished};
-ghost use Rattle.capnp_model.specs.SameRuns.{IsForm, Relays};
+ghost use Rattle.capnp_model.specs.Answers.{Answer, Limits, edits};
+ghost use Rattle.capnp_model.specs.Runs.{AnswerEach, End, finished};
+ghost use Rattle.capnp_model.specs.SameRuns.{IsForm, IsAnswerIn, Relays};
 ghost use Rattle.capnp_model_versions.specs.Fitting.{HasShortLists, HoldsShortLists, AreSpelled};
-ghost use Rattle.capnp_model_versions.specs.OwnOutput.{SizesSuffice, SufficeEach, WritesFitting, HaveFewWords, IsWritten, relay_of};
+ghost use Rattle.capnp_model_versions.specs.OwnOutput.{SizesSuffice, SufficeEach, WritesFitting, HaveFewWords, IsWritten, HoldsOfWritten, relay_of};
 ghost use Rattle.capnp_model_versions.specs.TwoRelays.{RelayWrites};
 
 /// Calls in turn leave a value that fits its spelling, where no list in it gets too long.
@@ -36,6 +36,17 @@ pub fn sizes_that_suffice()
         (limits : Limits) (message : Segments)
         → AreSpelled nodes calls → SizesSuffice (relay_of nodes quoted id calls limits) message
         → WritesFitting (relay_of nodes quoted id calls limits) message }
+{}
+
+/// Sizes suffice for each message that a run writes, where its calls hold no list that is too long
+/// and at most 2^29 words are written for each.
+pub fn sizes_that_suffice_each()
+    ensures { (nodes : List Node) (quoted : List ℕ → List ℕ) (id : ℕ) (calls : List Call)
+        (limits : Limits) (messages : List Segments) (answers : List Answer)
+        → AreSpelled nodes calls → AllByRecursion (λ c. HoldsShortLists c.verb) calls
+        → AnswerEach (IsAnswerIn (relay_of nodes quoted id calls limits)) messages answers
+        → HoldsOfWritten (λ s segments. HaveFewWords segments) messages answers
+        → SufficeEach (relay_of nodes quoted id calls limits) messages answers }
 {}
 
 /// A relay's own output, relayed again in its form without calls, gives the same bytes, where sizes

@@ -11,8 +11,8 @@ ghost use Rattle.capnp_model_versions.specs.OwnOutput.{WritesFitting, HaveFewWor
 ghost use Rattle.capnp_model_versions.specs.TwoRelays.{TwoRelays, first, RelayWrites, CanRelay, HasShortCalls};
 ghost use Rattle.capnp_model_versions.specs.RunsInARow.{RunsInARow, WriteOnBothRoads};
 
-/// Two relays in a row write the bytes of one with the joined calls, where the second reads the form
-/// that the first writes, and
+/// Two relays in a row write the bytes of one with the joined calls, where the second reads the
+/// form that the first writes, and
 /// - each message is written on both roads or on neither;
 /// - the calls of both can start from each message that the first writes;
 /// - the first relay's calls hold no list that is too long, and it writes at most 2^29 words for
