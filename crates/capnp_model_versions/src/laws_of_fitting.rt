@@ -30,7 +30,8 @@ pub fn sizes_that_suffice()
     ensures sizes { (nodes : List Node) (quoted : List ℕ → List ℕ) (id : ℕ) (calls : List Call)
         (limits : Limits) (message segments : Segments)
         → AreSpelled nodes calls → AllByRecursion (λ c. HoldsShortLists c.verb) calls
-        → RelayWrites (relay_of nodes quoted id calls limits) message segments → HaveFewWords segments
+        → RelayWrites (relay_of nodes quoted id calls limits) message segments
+        → HaveFewWords segments
         → SizesSuffice (relay_of nodes quoted id calls limits) message }
     ensures fits { (nodes : List Node) (quoted : List ℕ → List ℕ) (id : ℕ) (calls : List Call)
         (limits : Limits) (message : Segments)
