@@ -27,6 +27,8 @@ mod FittingSchemas
 mod FittingTrims
 mod SufficientSizes
 mod OwnOutput
+mod OutputLengths
+mod RunsInARow
 mod KeptFollows
 mod ReplacedViews
 mod OlderContents
@@ -38,6 +40,7 @@ mod OlderRecords
 mod WriteOnly
 mod Versions
 mod SizeExamples
+mod RunExamples
 mod BareValues
 mod BareContents
 mod BareCells

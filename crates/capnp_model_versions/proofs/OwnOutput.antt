@@ -20,7 +20,7 @@ use Rattle.capnp_model.proofs.lemmas.TrimTwice.{trim-trim}
 use Rattle.capnp_model.proofs.lemmas.Written.{ReadsBack, plain_back, packed_back, message_back}
 use Rattle.capnp_model.proofs.lemmas.RunLaws.{form_nothing, same_messages}
 use Rattle.capnp_model_versions.specs.Fitting.{AreSpelled}
-use Rattle.capnp_model_versions.specs.OwnOutput.{edited_value, SizesSuffice, IsWritten, with_calls, relay_of}
+use Rattle.capnp_model_versions.specs.OwnOutput.{edited_value, SizesSuffice, SufficeEach, IsWritten, with_calls, relay_of}
 use Rattle.capnp_model_versions.proofs.lemmas.WholeValues.{fits-whole}
 use Rattle.capnp_model_versions.proofs.Structs.{edits_are_structs, trim_struct, opened_is_struct, reopened}
 use Rattle.capnp_model_versions.proofs.lemmas.WrittenValues.{HasWritten, has-written, IsReadBack, read-back, sizes-fit}
@@ -46,11 +46,11 @@ module _ (read : Reader) (limit : Option ℕ) where
   unfolding message_at
   message_free b r e = let t = bind_ok (read 1 b) _ r e in ok_then (read 1 b) _ t.0 (Ok r) t.1 (first_free (halves t.0.0) t.0.1 r t.2)
 
-  begins_free : (ms : List Segments) (b rest : List ℕ) → BeginWith read limit b ms rest → BeginWith read None b ms rest
+  pub begins_free : (ms : List Segments) (b rest : List ℕ) → BeginWith read limit b ms rest → BeginWith read None b ms rest
   begins_free [] b rest h = h
   begins_free (s ∷ ms) b rest h = (h.0, message_free b (s, h.0) h.1, begins_free ms h.0 rest h.2)
 
-form-reads-back : (read : Reader) (write : Writer) → IsForm read write → ReadsBack read write
+pub form-reads-back : (read : Reader) (write : Writer) → IsForm read write → ReadsBack read write
 form-reads-back read write (inl f) = subst (λ r. ReadsBack r write) (sym f.0) (subst (λ w. ReadsBack plain_words w) (sym f.1) plain_back)
 form-reads-back read write (inr f) = subst (λ r. ReadsBack r write) (sym f.0) (subst (λ w. ReadsBack unpacked w) (sym f.1) packed_back)
 
@@ -60,12 +60,12 @@ form_reader read write (inr f) = inr f.0
 
 -- ---- the messages that were written
 
-outs : List Answer → List Segments
+unfoldable pub outs : List Answer → List Segments
 outs [] = []
 outs (written s rs ∷ answers) = s ∷ outs answers
 outs (a ∷ answers) = outs answers
 
-outputs_are : (write : Writer) (answers : List Answer) → outputs_of write answers ≡ flat_map (spelled write) (outs answers)
+pub outputs_are : (write : Writer) (answers : List Answer) → outputs_of write answers ≡ flat_map (spelled write) (outs answers)
 unfolding outs
 outputs_are write [] = refl
 outputs_are write (refused_value ∷ answers) = outputs_are write answers
@@ -95,25 +95,25 @@ module _ (w : Work) (back : (message segments : Segments) → SizesSuffice w mes
 
   -- ---- all messages
 
-  outs_spell : (ms : List Segments) (xs : List Answer) → AllByRecursion (SizesSuffice w) ms → AnswerEach (IsAnswerIn w) ms xs → AllByRecursion (CanSpell None) (outs xs)
+  outs_spell : (ms : List Segments) (xs : List Answer) → SufficeEach w ms xs → AnswerEach (IsAnswerIn w) ms xs → AllByRecursion (CanSpell None) (outs xs)
   unfolding outs
   outs_spell [] [] h a = tt
   outs_spell [] (x ∷ xs) h a = absurd a
   outs_spell (m ∷ ms) [] h a = absurd a
-  outs_spell (m ∷ ms) (refused_value ∷ xs) h a = outs_spell ms xs h.1 a.1
-  outs_spell (m ∷ ms) (refused_root ∷ xs) h a = outs_spell ms xs h.1 a.1
-  outs_spell (m ∷ ms) (refused_depth ∷ xs) h a = outs_spell ms xs h.1 a.1
+  outs_spell (m ∷ ms) (refused_value ∷ xs) h a = outs_spell ms xs h a.1
+  outs_spell (m ∷ ms) (refused_root ∷ xs) h a = outs_spell ms xs h a.1
+  outs_spell (m ∷ ms) (refused_depth ∷ xs) h a = outs_spell ms xs h a.1
   outs_spell (m ∷ ms) (written s rs ∷ xs) h a = ((back m s h.0 (has-written w m s rs a.0)).spells, outs_spell ms xs h.1 a.1)
 
-  outs_again : (limits : Limits) (ms : List Segments) (xs ys : List Answer) → AllByRecursion (SizesSuffice w) ms → AnswerEach (IsAnswerIn w) ms xs → AnswerEach (IsAnswerIn (with_calls [] limits w)) (outs xs) ys → AllByRecursion IsWritten ys → outs ys ≡ outs xs
+  outs_again : (limits : Limits) (ms : List Segments) (xs ys : List Answer) → SufficeEach w ms xs → AnswerEach (IsAnswerIn w) ms xs → AnswerEach (IsAnswerIn (with_calls [] limits w)) (outs xs) ys → AllByRecursion IsWritten ys → outs ys ≡ outs xs
   unfolding outs
   outs_again limits [] [] [] h a b k = refl
   outs_again limits [] [] (y ∷ ys) h a b k = absurd b
   outs_again limits [] (x ∷ xs) ys h a b k = absurd a
   outs_again limits (m ∷ ms) [] ys h a b k = absurd a
-  outs_again limits (m ∷ ms) (refused_value ∷ xs) ys h a b k = outs_again limits ms xs ys h.1 a.1 b k
-  outs_again limits (m ∷ ms) (refused_root ∷ xs) ys h a b k = outs_again limits ms xs ys h.1 a.1 b k
-  outs_again limits (m ∷ ms) (refused_depth ∷ xs) ys h a b k = outs_again limits ms xs ys h.1 a.1 b k
+  outs_again limits (m ∷ ms) (refused_value ∷ xs) ys h a b k = outs_again limits ms xs ys h a.1 b k
+  outs_again limits (m ∷ ms) (refused_root ∷ xs) ys h a b k = outs_again limits ms xs ys h a.1 b k
+  outs_again limits (m ∷ ms) (refused_depth ∷ xs) ys h a b k = outs_again limits ms xs ys h a.1 b k
   outs_again limits (m ∷ ms) (written s rs ∷ xs) [] h a b k = absurd b
   outs_again limits (m ∷ ms) (written s rs ∷ xs) (refused_value ∷ ys) h a b k = absurd k.0
   outs_again limits (m ∷ ms) (written s rs ∷ xs) (refused_root ∷ ys) h a b k = absurd k.0
@@ -123,7 +123,7 @@ module _ (w : Work) (back : (message segments : Segments) → SizesSuffice w mes
       let rest = outs_again limits ms xs ys h.1 a.1 b.1 k.1 in cc
 
   own_output : (limits : Limits) (read other : Reader) (write : Writer) (bytes output log others lines : List ℕ) (end : End) → IsForm other write
-      → (x : Relays w read write bytes output log end) → AllByRecursion (SizesSuffice w) x.messages
+      → (x : Relays w read write bytes output log end) → SufficeEach w x.messages x.answers
       → (y : Relays (with_calls [] limits w) other write output others lines finished) → AllByRecursion IsWritten y.answers → others ≡ output
   own_output limits read other write bytes output log others lines end form x sizes y all =
       let spelled_all = outs_spell x.messages x.answers sizes x.answered in
@@ -136,7 +136,7 @@ module _ (w : Work) (back : (message segments : Segments) → SizesSuffice w mes
 
 -- THE LAW: a relay's own output, relayed again without calls, is the same, where each message is written.
 pub own-output-again : (nodes : List Node) (quoted : List ℕ → List ℕ) (id : ℕ) (calls : List Call) (limits again : Limits) (read other : Reader) (write : Writer) (bytes output log others lines : List ℕ) (end : End) → AreSpelled nodes calls → IsForm other write
-    → (x : Relays (relay_of nodes quoted id calls limits) read write bytes output log end) → AllByRecursion (SizesSuffice (relay_of nodes quoted id calls limits)) x.messages
+    → (x : Relays (relay_of nodes quoted id calls limits) read write bytes output log end) → SufficeEach (relay_of nodes quoted id calls limits) x.messages x.answers
     → (y : Relays (relay_of nodes quoted id [] again) other write output others lines finished) → AllByRecursion IsWritten y.answers → others ≡ output
 own-output-again nodes quoted id calls limits again read other write bytes output log others lines end spelled form x sizes y all =
     own_output (relay_of nodes quoted id calls limits) (λ message segments enough h. read-back (relay_of nodes quoted id calls limits) message segments (sizes-fit nodes quoted id calls limits message spelled enough) h) again read other write bytes output log others lines end form x sizes y all

@@ -22,7 +22,7 @@ use Rattle.capnp_model_versions.specs.TwoRelays.{TwoRelays, first, second, joine
 use Rattle.capnp_model.specs.Answers.{reply_done, written, Limits, edits, replies, value_within, opened_root, answer}
 
 -- a struct with a list of voids
-abbrev voids : List Node
+abbrev pub voids : List Node
 voids = record {
   id = 1;
   name = codes "N";
@@ -37,13 +37,13 @@ voids = record {
   });
 } ∷ []
 
-abbrev so_many : ℕ → List Call
+abbrev pub so_many : ℕ → List Call
 so_many n = record { path = name (codes "v") ∷ []; verb = initn n } ∷ []
 
 abbrev unlimited : Limits
 unlimited = record { words = None; nesting = pos 64 }
 
-voids_are_accepted : IsAccepted voids
+pub voids_are_accepted : IsAccepted voids
 unfolding shape_in has_no_overlap areas_of
 voids_are_accepted = refl
 

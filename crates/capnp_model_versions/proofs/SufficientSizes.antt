@@ -11,12 +11,14 @@ use Rattle.capnp_model.specs.Encoding.{body, links, bodies, cells, element_bodie
 use Rattle.capnp_model.specs.Schemas.{Node}
 use Rattle.capnp_model.specs.Accepted.{schema_of}
 use Rattle.capnp_model.specs.Calls.{whole_number, truth, enumerant, text_value, blob_value, message, Verb, get, set_to, init, initn, clear, Call}
-use Rattle.capnp_model.specs.Answers.{Limits, opened_root}
+use Rattle.capnp_model.specs.Answers.{Answer, refused_value, refused_root, refused_depth, written, Limits, opened_root}
+use Rattle.capnp_model.specs.Runs.{AnswerEach}
+use Rattle.capnp_model.specs.SameRuns.{IsAnswerIn}
 use Rattle.capnp_model.proofs.lemmas.Chaining.{some_is}
 use Rattle.capnp_model.proofs.lemmas.Numbers.{length-numbers_in}
 use Rattle.capnp_model.proofs.lemmas.RoundTrip.{links_length}
 use Rattle.capnp_model_versions.specs.Fitting.{HasShortLists, AllHaveShortLists, ElementsHaveShortLists, IsSpelledVerb, HoldsShortLists, AreSpelled}
-use Rattle.capnp_model_versions.specs.OwnOutput.{edited_value, SizesSuffice, HaveFewWords, relay_of}
+use Rattle.capnp_model_versions.specs.OwnOutput.{edited_value, SizesSuffice, HaveFewWords, HoldsOfWritten, SufficeEach, relay_of}
 use Rattle.capnp_model_versions.specs.TwoRelays.{RelayWrites}
 use Rattle.capnp_model_versions.proofs.FittingParts.{any_lengths, short_lengths, FitsBy, AllFitBy, ElementsFitBy, SpelledBy, of-any, numbers-of, fits-by-parts}
 use Rattle.capnp_model_versions.proofs.FittingTrims.{numbers-trim}
@@ -92,3 +94,17 @@ sizes-suffice nodes quoted id calls limits source segments spelled short writes 
     let edited : FitsBy short_lengths e =
     all-edited-numbers short_lengths nodes spelled.accepted spelled.small id calls (short-verbs calls spelled.verbs short) (opened_root (schema_of nodes) id t) (numbers-of short_lengths (opened_root (schema_of nodes) id t) opened) in
     (short-lists (trim e) (numbers-trim short_lengths e edited) (few-words (trim e) words.0), words.0)
+
+-- and for each message that a run writes
+pub suffice-each : (nodes : List Node) (quoted : List ℕ → List ℕ) (id : ℕ) (calls : List Call) (limits : Limits) (messages : List Segments) (answers : List Answer) → AreSpelled nodes calls → AllByRecursion (λ c. HoldsShortLists c.verb) calls
+    → AnswerEach (IsAnswerIn (relay_of nodes quoted id calls limits)) messages answers → HoldsOfWritten (λ s segments. HaveFewWords segments) messages answers → SufficeEach (relay_of nodes quoted id calls limits) messages answers
+suffice-each nodes quoted id calls limits messages answers spelled short = by messages answers
+  where
+    by : (ms : List Segments) (xs : List Answer) → AnswerEach (IsAnswerIn (relay_of nodes quoted id calls limits)) ms xs → HoldsOfWritten (λ s segments. HaveFewWords segments) ms xs → SufficeEach (relay_of nodes quoted id calls limits) ms xs
+    by [] [] a h = tt
+    by [] (x ∷ xs) a h = absurd a
+    by (m ∷ ms) [] a h = absurd a
+    by (m ∷ ms) (refused_value ∷ xs) a h = by ms xs a.1 h
+    by (m ∷ ms) (refused_root ∷ xs) a h = by ms xs a.1 h
+    by (m ∷ ms) (refused_depth ∷ xs) a h = by ms xs a.1 h
+    by (m ∷ ms) (written one rs ∷ xs) a h = (sizes-suffice nodes quoted id calls limits m one spelled short (rs, a.0) h.0, by ms xs a.1 h.1)

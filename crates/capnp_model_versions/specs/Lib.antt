@@ -8,4 +8,5 @@ pub mod RenamedViews
 pub mod Fitting
 pub mod OwnOutput
 pub mod TwoRelays
+pub mod RunsInARow
 pub mod Capabilities

@@ -1,5 +1,5 @@
 -- What a relay's own output needs to be relayed again.
-use Rattle.std.specs.Prelude.{◌≡◌, ℕ, ◌^◌, ◌≤◌, List, length, Some}
+use Rattle.std.specs.Prelude.{◌≡◌, ℕ, ◌^◌, ◌≤◌, List, [], ◌∷◌, length, Some}
 use Rattle.std.specs.List.{AllByRecursion}
 use Rattle.capnp_model.specs.Segments.{Segments}
 use Rattle.capnp_model.specs.Trees.{Tree}
@@ -37,6 +37,17 @@ HaveFewWords segments = AllByRecursion (λ words. length words ≤ 2 ^ 29) segme
 abbrev pub IsWritten : Answer → Type 0
 IsWritten (written segments replies) = Unit {0}
 IsWritten _ = ⊥
+
+-- It holds of each message that is written, with the segments that are written for it.
+abbrev pub HoldsOfWritten : (Segments → Segments → Type 0) → List Segments → List Answer → Type 0
+HoldsOfWritten holds [] [] = Unit {0}
+HoldsOfWritten holds (s ∷ messages) (written segments replies ∷ answers) = holds s segments × HoldsOfWritten holds messages answers
+HoldsOfWritten holds (s ∷ messages) (a ∷ answers) = HoldsOfWritten holds messages answers
+HoldsOfWritten holds _ _ = ⊥
+
+-- Sizes suffice for each message that is written.
+abbrev pub SufficeEach : Work → List Segments → List Answer → Type 0
+SufficeEach w messages answers = HoldsOfWritten (λ s segments. SizesSuffice w s) messages answers
 
 -- The work with other calls and other limits.
 abbrev pub with_calls : List Call → Limits → Work → Work

@@ -9,11 +9,11 @@ ghost use Rattle.capnp_model.specs.Messages.{Reader, Writer};
 ghost use Rattle.capnp_model.specs.Schemas.{Node};
 ghost use Rattle.capnp_model.specs.Accepted.{schema_of};
 ghost use Rattle.capnp_model.specs.Calls.{Call};
-ghost use Rattle.capnp_model.specs.Answers.{Limits, edits};
-ghost use Rattle.capnp_model.specs.Runs.{End, finished};
-ghost use Rattle.capnp_model.specs.SameRuns.{IsForm, Relays};
+ghost use Rattle.capnp_model.specs.Answers.{Answer, Limits, edits};
+ghost use Rattle.capnp_model.specs.Runs.{AnswerEach, End, finished};
+ghost use Rattle.capnp_model.specs.SameRuns.{IsForm, IsAnswerIn, Relays};
 ghost use Rattle.capnp_model_versions.specs.Fitting.{HasShortLists, HoldsShortLists, AreSpelled};
-ghost use Rattle.capnp_model_versions.specs.OwnOutput.{SizesSuffice, WritesFitting, HaveFewWords, IsWritten, relay_of};
+ghost use Rattle.capnp_model_versions.specs.OwnOutput.{SizesSuffice, SufficeEach, WritesFitting, HaveFewWords, IsWritten, HoldsOfWritten, relay_of};
 ghost use Rattle.capnp_model_versions.specs.TwoRelays.{RelayWrites};
 
 /// Calls in turn leave a value that fits its spelling, where no list in it gets too long.
@@ -30,7 +30,8 @@ pub fn sizes_that_suffice()
     ensures sizes { (nodes : List Node) (quoted : List ℕ → List ℕ) (id : ℕ) (calls : List Call)
         (limits : Limits) (message segments : Segments)
         → AreSpelled nodes calls → AllByRecursion (λ c. HoldsShortLists c.verb) calls
-        → RelayWrites (relay_of nodes quoted id calls limits) message segments → HaveFewWords segments
+        → RelayWrites (relay_of nodes quoted id calls limits) message segments
+        → HaveFewWords segments
         → SizesSuffice (relay_of nodes quoted id calls limits) message }
     ensures fits { (nodes : List Node) (quoted : List ℕ → List ℕ) (id : ℕ) (calls : List Call)
         (limits : Limits) (message : Segments)
@@ -38,15 +39,26 @@ pub fn sizes_that_suffice()
         → WritesFitting (relay_of nodes quoted id calls limits) message }
 {}
 
+/// Sizes suffice for each message that a run writes, where its calls hold no list that is too long
+/// and at most 2^29 words are written for each.
+pub fn sizes_that_suffice_each()
+    ensures { (nodes : List Node) (quoted : List ℕ → List ℕ) (id : ℕ) (calls : List Call)
+        (limits : Limits) (messages : List Segments) (answers : List Answer)
+        → AreSpelled nodes calls → AllByRecursion (λ c. HoldsShortLists c.verb) calls
+        → AnswerEach (IsAnswerIn (relay_of nodes quoted id calls limits)) messages answers
+        → HoldsOfWritten (λ s segments. HaveFewWords segments) messages answers
+        → SufficeEach (relay_of nodes quoted id calls limits) messages answers }
+{}
+
 /// A relay's own output, relayed again in its form without calls, gives the same bytes, where sizes
-/// sufficed and the second run writes every message.
+/// sufficed for what it wrote and the second run writes every message.
 pub fn own_output_again()
     ensures { (nodes : List Node) (quoted : List ℕ → List ℕ) (id : ℕ) (calls : List Call)
         (limits again : Limits) (read other : Reader) (write : Writer)
         (bytes output log others lines : List ℕ) (end : End)
         → AreSpelled nodes calls → IsForm other write
         → (x : Relays (relay_of nodes quoted id calls limits) read write bytes output log end)
-        → AllByRecursion (SizesSuffice (relay_of nodes quoted id calls limits)) x.messages
+        → SufficeEach (relay_of nodes quoted id calls limits) x.messages x.answers
         → (y : Relays (relay_of nodes quoted id [] again) other write output others lines finished)
         → AllByRecursion IsWritten y.answers → others ≡ output }
 {}

@@ -5,4 +5,5 @@
 pub mod laws;
 pub mod laws_of_capabilities;
 pub mod laws_of_fitting;
+pub mod laws_of_relays;
 pub mod laws_of_renamings;

@@ -6,8 +6,9 @@ pub use capnp_model_versions::laws::{
     fitting_values_are_whole, relays_in_a_row, steps_across_versions,
 };
 pub use capnp_model_versions::laws_of_fitting::{
-    edited_values_that_fit, own_output_again, sizes_that_suffice,
+    edited_values_that_fit, own_output_again, sizes_that_suffice, sizes_that_suffice_each,
 };
+pub use capnp_model_versions::laws_of_relays::{outputs_without_calls, runs_in_a_row};
 pub use capnp_model_versions::laws_of_renamings::{
     calls_across_renamed_versions, calls_without_renamings, records_by_older_names,
 };
