@@ -2,7 +2,7 @@
 
 use capnp_relay_loop::ends::Fault;
 use capnp_units::kinds::ErrorKind;
-use hagzimot_commands::schemas::SchemaTrouble;
+use hagzimot_schemas::schemas::SchemaTrouble;
 use std::alloc::{AllocError, AllocFailed, Global};
 use std::fmt::{Display, Formatter, Write};
 use std::{fmt, io};

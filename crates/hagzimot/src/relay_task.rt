@@ -15,9 +15,9 @@ use capnp_relay_streams::options::{ReaderOptions, RelayOptions};
 use capnp_relay_streams::relay::relay_pausing;
 use capnp_stream_io::adapters::Source;
 use clap::ArgMatches;
-use hagzimot_commands::schemas::RootedSchema;
 use hagzimot_commands::strict::check_call;
 use hagzimot_commands::word_calls::{CallParts, WordVerb, call_of_words};
+use hagzimot_schemas::schemas::RootedSchema;
 use std::alloc::Global;
 use std::fmt::Display;
 

@@ -4,8 +4,8 @@ use crate::faults::Failure;
 use crate::files::read_file;
 use crate::words;
 use clap::ArgMatches;
-use hagzimot_commands::schema_text::schema_text;
-use hagzimot_commands::schemas::{read_nodes, read_set};
+use hagzimot_schemas::schema_text::schema_text;
+use hagzimot_schemas::schemas::{read_nodes, read_set};
 
 /// Prints a line.
 pub fn print_line(rt: &HostRuntime, line: &str) -> Result<(), Failure> {

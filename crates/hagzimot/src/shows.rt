@@ -14,7 +14,7 @@ use capnp_stream_io::traits::Write;
 use capnp_stream_packed::form::Packed;
 use capnp_values_queries::structs::StructSchema;
 use clap::ArgMatches;
-use hagzimot_commands::show::{Chosen, ShowForm, ShownCounts, StreamFault, show_all};
+use hagzimot_show::show::{Chosen, ShowForm, ShownCounts, StreamFault, show_all};
 use std::alloc::Global;
 
 /// What is shown, and how.

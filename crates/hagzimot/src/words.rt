@@ -8,7 +8,7 @@ use capnp_relay_files::renames_file::renames_file;
 use capnp_relay_requests::request::Floats;
 use capnp_relay_streams::options::Form;
 use clap::ArgMatches;
-use hagzimot_commands::schemas::RootedSchema;
+use hagzimot_schemas::schemas::RootedSchema;
 use std::alloc::Global;
 
 /// The most words of a message, and the most that following it may cost, where no word says otherwise.

@@ -1,9 +1,10 @@
 //! Calls that are given as words, as `customer.name=Ada`.
 
-use crate::paths::{Landing, Misstep, enumerants_of, landing_from, node_of_id};
+use crate::paths::{Landing, Misstep, landing_from};
 use crate::strict::sort_of;
 use capnp_calls::{CallValue, Step, Verb};
 use capnp_records::node::{BaseType, NodeRecord, TypeRecord};
+use hagzimot_schemas::nodes::{enumerants_of, node_of_id};
 use std::alloc::{AllocError, Global};
 use std::fmt;
 use std::fmt::{Display, Formatter, Write};

@@ -2,9 +2,9 @@
 ghost use Rattle.std.specs.Prelude.{◌≡◌, true, map, Some, IfOk, IfSome};
 ghost use Rattle.capnp_records.specs.NodeViews.{node_of};
 ghost use Rattle.capnp_records.specs.Sets.{nodes_of, IsStructOf};
-ghost use Rattle.hagzimot_commands.specs.SchemaForms.{is_request, nodes_told};
+ghost use Rattle.hagzimot_schemas.specs.SchemaForms.{is_request, nodes_told};
 
-use crate::paths::node_of_id;
+use crate::nodes::node_of_id;
 use crate::rules::rule_text;
 use capnp_records::fault::SchemaFault;
 use capnp_records::laws::struct_is_named;
@@ -250,7 +250,7 @@ impl RootedSchema {
     ghost use Rattle.capnp_records.specs.Sets.{nodes_of};
     ghost use Rattle.capnp_values_queries.specs.Structs.{nodes_around};
     ghost use Rattle.capnp_calls.specs.Roots.{IsRoot};
-    ghost use Rattle.hagzimot_commands.specs.SchemaForms.{nodes_told};
+    ghost use Rattle.hagzimot_schemas.specs.SchemaForms.{nodes_told};
 
     /// The schema that a file tells, with the struct of this name, or of this id in decimal digits, as root.
     pub fn new(

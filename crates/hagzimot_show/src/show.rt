@@ -4,7 +4,7 @@ ghost use Rattle.capnp_model.specs.Messages.{frame};
 ghost use Rattle.capnp_units.specs.Segments.{words_in};
 ghost use Rattle.capnp_stream.specs.Writing.{AreWritable};
 ghost use Rattle.capnp_relay_show.specs.Answers.{shown_by};
-ghost use Rattle.hagzimot_commands.specs.Shown.{IsNotShown};
+ghost use Rattle.hagzimot_show.specs.Shown.{IsNotShown};
 
 use crate::json_show::json_of_segments;
 use capnp_message::options::ReaderOptions;

@@ -5,10 +5,10 @@ use std::fmt::{Display, Formatter, Write};
 
 /// A text between double quotes. (JSON, "Strings")
 #[derive(Clone, Copy)]
-pub(crate) struct Quoted<'a>(pub(crate) &'a str);
+pub struct Quoted<'a>(pub &'a str);
 
 /// Writes a character of a text.
-pub(crate) fn put_char<W: Write>(c: char, f: &mut Formatter<W>) -> fmt::Result {
+pub fn put_char<W: Write>(c: char, f: &mut Formatter<W>) -> fmt::Result {
     match c {
         '"' => f.write_str("\\\""),
         '\\' => f.write_str("\\\\"),
@@ -32,7 +32,7 @@ impl Display for Quoted<'_> {
 
 /// Bytes as an array of numbers.
 #[derive(Clone, Copy)]
-pub(crate) struct Numbers<'a>(pub(crate) &'a [u8]);
+pub struct Numbers<'a>(pub &'a [u8]);
 
 impl Display for Numbers<'_> {
     fn fmt<W: Write>(&self, f: &mut Formatter<W>) -> fmt::Result {

@@ -2,7 +2,7 @@
 ghost use Rattle.std.specs.Prelude.{◌≡◌, map, option_map, string_bytes, Some, IfOk};
 ghost use Rattle.capnp_records.specs.NodeViews.{node_of};
 ghost use Rattle.capnp_relay_files.specs.SchemaFiles.{schema_nodes_in};
-ghost use Rattle.hagzimot_commands.specs.SchemaForms.{bare_node};
+ghost use Rattle.hagzimot_schemas.specs.SchemaForms.{bare_node};
 
 use crate::json_text::Quoted;
 use crate::same_nodes::are_same_nodes;

@@ -9,7 +9,7 @@ ghost use Rattle.capnp_calls_versions.specs.Breaks.{IsBreakFrom};
 ghost use Rattle.capnp_calls_versions.specs.AllBreaks.{AreAllBreaks};
 ghost use Rattle.capnp_calls_versions.specs.Renamed.{renamings_of};
 
-use crate::paths::{fields_of, node_of_id};
+use crate::nodes::{fields_of, node_of_id};
 use capnp_calls_versions::all_breaks::all_breaks;
 use capnp_calls_versions::breaks::{Break, FieldRule, Rule};
 use capnp_calls_versions::compatible::first_break;

@@ -1,6 +1,6 @@
 use Rattle.std.proofs.Common.{ℕ, List, ◌∙◌, subst}
 use Rattle.capnp_relay_show.specs.Answers.{IsShowFault}
-use Rattle.hagzimot_commands.proofs.show.text_of_segments.Goals as goal
+use Rattle.hagzimot_show.proofs.show.text_of_segments.Goals as goal
 
 pub returns-in-Ok-clause-fault : goal.returns-in-Ok-clause-fault
 returns-in-Ok-clause-fault g c some =

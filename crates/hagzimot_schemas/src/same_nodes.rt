@@ -1,7 +1,7 @@
 //! Whether nodes are the same but for their annotations.
 ghost use Rattle.std.specs.Prelude.{◌≡◌, IsTrue, map, option_map};
 ghost use Rattle.capnp_records.specs.NodeViews.{base_of, type_record_of, value_of, kind_of_field, field_of, enumerant_of, struct_of, node_kind, node_of};
-ghost use Rattle.hagzimot_commands.specs.SchemaForms.{bare_field, bare_enumerant, bare_struct, bare_kind, bare_node};
+ghost use Rattle.hagzimot_schemas.specs.SchemaForms.{bare_field, bare_enumerant, bare_struct, bare_kind, bare_node};
 
 use capnp_records::node::{
     EnumerantRecord, FieldBody, FieldRecord, NodeBody, NodeRecord, StructRecord, Value,

@@ -1,7 +1,5 @@
 //! Messages as JSON.
 
-use crate::canonical::{Canonical, write_value};
-use crate::json_text::{Numbers, Quoted};
 use capnp_message::options::ReaderOptions;
 use capnp_records::node::NO_DISCRIMINANT;
 use capnp_relay_show::show::ShowFault;
@@ -17,6 +15,8 @@ use capnp_values_queries::fields::Field;
 use capnp_values_queries::structs::StructSchema;
 use capnp_wire::pointer::PointerReader;
 use capnp_wire_objects::arena::{ReaderArena, ReaderArenaImpl};
+use hagzimot_commands::canonical::{Canonical, write_value};
+use hagzimot_schemas::json_text::{Numbers, Quoted};
 use std::alloc::Global;
 use std::fmt::{Display, Write};
 
