@@ -217,7 +217,13 @@ fn schema_file<'a>(alloc: Global) -> Result<Command<'a>, AllocError> {
     Command::new(alloc, "schema")
         .about("Prints a schema as a JSON file of nodes, which is taken wherever a schema is")
         .arg(file(alloc, "schema", "SCHEMA", SCHEMA_HELP))?
-        .arg(floats_as_bits(alloc))
+        .arg(floats_as_bits(alloc))?
+        .arg(
+            Arg::new(alloc, "ids-as-texts")
+                .long("ids-as-texts")
+                .action(ArgAction::SetTrue)
+                .help("Prints ids as texts, for readers of JSON that round long numbers"),
+        )
 }
 
 fn compatible<'a>(alloc: Global) -> Result<Command<'a>, AllocError> {

@@ -2,7 +2,7 @@
 ghost use Rattle.std.specs.Prelude.{◌≡◌, map, option_map, string_bytes, Some, IfOk};
 ghost use Rattle.capnp_records.specs.NodeViews.{node_of};
 ghost use Rattle.capnp_relay_files.specs.SchemaFiles.{schema_nodes_in};
-ghost use Rattle.hagzimot_schemas.specs.SchemaForms.{bare_node};
+ghost use Rattle.hagzimot_schemas.specs.SchemaForms.{bare_node, readable};
 
 use crate::json_text::Quoted;
 use crate::same_nodes::are_same_nodes;
@@ -12,6 +12,7 @@ use capnp_records::node::{
 };
 use capnp_relay_files::fault::FileFault;
 use capnp_relay_files::schema_file::schema_file;
+use hagzimot_forms::id_numbers::ids_as_numbers;
 use std::alloc::{AllocError, Global};
 use std::fmt;
 use std::fmt::{Display, Formatter, Write};
@@ -30,13 +31,50 @@ impl Display for Hex<'_> {
     }
 }
 
+/// How ids are written.
+#[derive(Clone, Copy, Debug, PartialEq, Eq)]
+pub enum IdForm {
+    /// As numbers of up to 20 digits.
+    Numbers,
+    /// As texts of their digits, which no reader of JSON rounds. The command takes both.
+    Texts,
+}
+
+/// An id.
+#[derive(Clone, Copy)]
+struct IdText {
+    id: u64,
+    form: IdForm,
+}
+
+impl Display for IdText {
+    fn fmt<W: Write>(&self, f: &mut Formatter<W>) -> fmt::Result {
+        let id = self.id;
+        match self.form {
+            IdForm::Numbers => write!(f, "{id}"),
+            IdForm::Texts => write!(f, "\"{id}\""),
+        }
+    }
+}
+
 /// A base, as a name or an object with an id.
 #[derive(Clone, Copy)]
-struct BaseText(BaseType);
+struct BaseText {
+    base: BaseType,
+    ids: IdForm,
+}
+
+impl BaseText {
+    /// Writes the object of a key and an id.
+    fn put<W: Write>(&self, key: &str, id: u64, f: &mut Formatter<W>) -> fmt::Result {
+        let form = self.ids;
+        write!(f, "{{\"{key}\": {}}}", IdText { id, form })
+    }
+}
 
 impl Display for BaseText {
     fn fmt<W: Write>(&self, f: &mut Formatter<W>) -> fmt::Result {
-        match self.0 {
+        match self.base {
             BaseType::Void => f.write_str("\"Void\""),
             BaseType::Bool => f.write_str("\"Bool\""),
             BaseType::Int8 => f.write_str("\"Int8\""),
@@ -51,8 +89,8 @@ impl Display for BaseText {
             BaseType::Float64 => f.write_str("\"Float64\""),
             BaseType::Text => f.write_str("\"Text\""),
             BaseType::Data => f.write_str("\"Data\""),
-            BaseType::Enum(id) => write!(f, "{{\"enum\": {id}}}"),
-            BaseType::Struct(id) => write!(f, "{{\"struct\": {id}}}"),
+            BaseType::Enum(id) => self.put("enum", id, f),
+            BaseType::Struct(id) => self.put("struct", id, f),
             BaseType::AnyPointer => f.write_str("\"AnyPointer\""),
             BaseType::Capability => f.write_str("\"Capability\""),
         }
@@ -61,15 +99,19 @@ impl Display for BaseText {
 
 /// A type.
 #[derive(Clone, Copy)]
-struct TypeText(TypeRecord);
+struct TypeText {
+    ty: TypeRecord,
+    ids: IdForm,
+}
 
 impl Display for TypeText {
     fn fmt<W: Write>(&self, f: &mut Formatter<W>) -> fmt::Result {
-        let TypeRecord { list_count, base } = self.0;
+        let TypeRecord { list_count, base } = self.ty;
+        let ids = self.ids;
         for _ in 0..list_count {
             f.write_str("{\"list\": ")?;
         }
-        write!(f, "{}", BaseText(base))?;
+        write!(f, "{}", BaseText { base, ids })?;
         for _ in 0..list_count {
             f.write_char('}')?;
         }
@@ -123,19 +165,29 @@ impl Display for DefaultText<'_> {
 
 /// A field.
 #[derive(Clone, Copy)]
-struct FieldText<'a>(&'a FieldRecord);
+struct FieldText<'a> {
+    field: &'a FieldRecord,
+    ids: IdForm,
+}
 
 impl Display for FieldText<'_> {
     fn fmt<W: Write>(&self, f: &mut Formatter<W>) -> fmt::Result {
-        let field = self.0;
+        let field = self.field;
+        let ids = self.ids;
         write!(f, "{{\"name\": {}", Quoted(field.name.as_str()))?;
         match &field.body {
             FieldBody::Slot { offset, ty, .. } => write!(
                 f,
                 ", \"type\": {}, \"offset\": {offset}",
-                TypeText(*ty)
+                TypeText { ty: *ty, ids }
             )?,
-            FieldBody::Group { node } => write!(f, ", \"group\": {node}")?,
+            FieldBody::Group { node } => {
+                let group = IdText {
+                    id: *node,
+                    form: ids,
+                };
+                write!(f, ", \"group\": {group}")?;
+            }
         }
         if field.discriminant_value != NO_DISCRIMINANT {
             write!(f, ", \"discriminant\": {}", field.discriminant_value)?;
@@ -153,11 +205,15 @@ impl Display for FieldText<'_> {
 
 /// The keys of a struct or a group.
 #[derive(Clone, Copy)]
-struct StructText<'a>(&'a StructRecord);
+struct StructText<'a> {
+    body: &'a StructRecord,
+    ids: IdForm,
+}
 
 impl Display for StructText<'_> {
     fn fmt<W: Write>(&self, f: &mut Formatter<W>) -> fmt::Result {
-        let body = self.0;
+        let body = self.body;
+        let ids = self.ids;
         write!(
             f,
             ", \"data\": {}, \"pointers\": {}",
@@ -172,7 +228,7 @@ impl Display for StructText<'_> {
         f.write_str(", \"fields\": [")?;
         let mut before = "\n    ";
         for field in body.fields.iter() {
-            write!(f, "{before}{}", FieldText(field))?;
+            write!(f, "{before}{}", FieldText { field, ids })?;
             before = ",\n    ";
         }
         f.write_char(']')
@@ -197,15 +253,23 @@ impl Display for EnumText<'_> {
 
 /// A node.
 #[derive(Clone, Copy)]
-struct NodeText<'a>(&'a NodeRecord);
+struct NodeText<'a> {
+    node: &'a NodeRecord,
+    ids: IdForm,
+}
 
 impl Display for NodeText<'_> {
     fn fmt<W: Write>(&self, f: &mut Formatter<W>) -> fmt::Result {
-        let node = self.0;
+        let node = self.node;
+        let ids = self.ids;
+        let id = IdText {
+            id: node.id,
+            form: ids,
+        };
         let name = Quoted(node.display_name.as_str());
-        write!(f, "{{\"id\": {}, \"name\": {name}", node.id)?;
+        write!(f, "{{\"id\": {id}, \"name\": {name}")?;
         match &node.body {
-            NodeBody::Struct(body) => write!(f, "{}", StructText(body))?,
+            NodeBody::Struct(body) => write!(f, "{}", StructText { body, ids })?,
             NodeBody::Enum(enumerants) => write!(f, "{}", EnumText(enumerants))?,
         }
         f.write_char('}')
@@ -214,14 +278,18 @@ impl Display for NodeText<'_> {
 
 /// Nodes, as the text of a schema file.
 #[derive(Clone, Copy)]
-struct SchemaText<'a>(&'a [NodeRecord]);
+struct SchemaText<'a> {
+    nodes: &'a [NodeRecord],
+    ids: IdForm,
+}
 
 impl Display for SchemaText<'_> {
     fn fmt<W: Write>(&self, f: &mut Formatter<W>) -> fmt::Result {
         f.write_char('[')?;
         let mut before = "\n  ";
-        for node in self.0 {
-            write!(f, "{before}{}", NodeText(node))?;
+        let ids = self.ids;
+        for node in self.nodes {
+            write!(f, "{before}{}", NodeText { node, ids })?;
             before = ",\n  ";
         }
         f.write_str("\n]\n")
@@ -251,17 +319,34 @@ impl From<AllocError> for SchemaTextFault {
     }
 }
 
+/// The nodes of a text that has its ids in this form.
+fn read_back(alloc: Global, text: &[u8], ids: IdForm) -> Result<Vec<NodeRecord>, SchemaTextFault>
+    ensures { IfOk result (λ nodes. schema_nodes_in (readable ids text.now)
+        ≡ Some (map node_of nodes.items)) }
+{
+    let read = match ids {
+        IdForm::Numbers => schema_file(alloc, text),
+        IdForm::Texts => schema_file(alloc, &ids_as_numbers(alloc, text)?),
+    };
+    match read {
+        Ok(nodes) => Ok(nodes),
+        Err(FileFault::Memory) => Err(SchemaTextFault::Memory),
+        Err(FileFault::Form) => Err(SchemaTextFault::Untold),
+    }
+}
+
 /// The text of a schema file that tells these nodes but for their annotations, which files don't hold: a line for each node, and one for each field. `Untold`: no file can tell them. `Memory`: a growth was refused.
-pub fn schema_text(alloc: Global, nodes: &[NodeRecord]) -> Result<String, SchemaTextFault>
-    ensures { IfOk result (λ text. option_map (map bare_node) (schema_nodes_in (string_bytes text))
+pub fn schema_text(
+    alloc: Global,
+    nodes: &[NodeRecord],
+    ids: IdForm,
+) -> Result<String, SchemaTextFault>
+    ensures { IfOk result (λ text.
+        option_map (map bare_node) (schema_nodes_in (readable ids (string_bytes text)))
         ≡ Some (map bare_node (map node_of nodes.now))) }
 {
-    let text = format!(in alloc; "{}", SchemaText(nodes))?;
-    let again = match schema_file(alloc, text.as_bytes()) {
-        Ok(again) => again,
-        Err(FileFault::Memory) => return Err(SchemaTextFault::Memory),
-        Err(FileFault::Form) => return Err(SchemaTextFault::Untold),
-    };
+    let text = format!(in alloc; "{}", SchemaText { nodes, ids })?;
+    let again = read_back(alloc, text.as_bytes(), ids)?;
     if are_same_nodes(nodes, &again) {
         Ok(text)
     } else {

@@ -2,7 +2,8 @@
 ghost use Rattle.std.specs.Prelude.{◌≡◌, true, map, Some, IfOk, IfSome};
 ghost use Rattle.capnp_records.specs.NodeViews.{node_of};
 ghost use Rattle.capnp_records.specs.Sets.{nodes_of, IsStructOf};
-ghost use Rattle.hagzimot_schemas.specs.SchemaForms.{is_request, nodes_told};
+ghost use Rattle.capnp_relay_requests.specs.Floats.{float_told};
+ghost use Rattle.hagzimot_schemas.specs.SchemaForms.{is_request, nodes_told, floats_of_file};
 
 use crate::nodes::node_of_id;
 use crate::rules::rule_text;
@@ -14,9 +15,11 @@ use capnp_records::set::SchemaSet;
 use capnp_relay_files::fault::FileFault;
 use capnp_relay_files::schema_file::schema_file;
 use capnp_relay_requests::fault::{Part, RequestFault, Spot};
-use capnp_relay_requests::request::{Floats, request_file};
+use capnp_relay_requests::request::{FloatField, Floats, Requested, request_file};
 use capnp_values_queries::laws::struct_is_node;
 use capnp_values_queries::structs::StructSchema;
+use hagzimot_forms::id_numbers::ids_as_numbers;
+use hagzimot_forms::schema_form::schema_form_fault;
 use serde_json::Value as Json;
 use std::alloc::{AllocError, Global};
 use std::fmt;
@@ -27,8 +30,8 @@ use std::fmt::{Display, Formatter, Write};
 pub enum SchemaTrouble {
     /// It is no JSON; why, with line and column.
     Json(serde_json::Error),
-    /// It is JSON, but no array of nodes.
-    Form,
+    /// It is JSON, but no array of nodes; what is wrong, with line and column, where a closer look finds it.
+    Form(Option<serde_json::Error>),
     /// It is a request of the compiler that can't be read.
     Request(RequestFault),
     /// It is a request of the compiler with a float: the node that has it, and the field or enumerant, if it isn't the node itself.
@@ -58,7 +61,8 @@ impl Display for SchemaTrouble {
     fn fmt<W: Write>(&self, f: &mut Formatter<W>) -> fmt::Result {
         match self {
             SchemaTrouble::Json(error) => write!(f, "no JSON: {error}"),
-            SchemaTrouble::Form => write!(
+            SchemaTrouble::Form(Some(error)) => write!(f, "no schema file: {error}"),
+            SchemaTrouble::Form(None) => write!(
                 f,
                 "JSON, but no array of nodes: compare it with docs/FILES.md"
             ),
@@ -83,7 +87,7 @@ impl Display for SchemaTrouble {
 /// Why bytes are no JSON of a schema's form.
 fn json_trouble(alloc: Global, bytes: &[u8]) -> SchemaTrouble {
     match Json::from_slice(alloc, bytes) {
-        Ok(_) => SchemaTrouble::Form,
+        Ok(_) => SchemaTrouble::Form(schema_form_fault(alloc, bytes)),
         Err(error) => SchemaTrouble::Json(error),
     }
 }
@@ -153,7 +157,31 @@ fn request_trouble(alloc: Global, bytes: &[u8], fault: RequestFault) -> SchemaTr
     }
 }
 
-/// The nodes that a file tells: a request of the compiler, which `capnp compile -o-` writes, or a JSON schema file.
+/// The nodes that a file tells: a request of the compiler, which `capnp compile -o-` writes, or a JSON schema file, whose ids are numbers or texts of their digits. The fields that are floats are those of a request.
+pub fn read_told(alloc: Global, bytes: &[u8], floats: Floats) -> Result<Requested, SchemaTrouble>
+    ensures nodes { IfOk result
+        (λ told. nodes_told floats bytes.now ≡ Some (map node_of told.nodes.items)) }
+    ensures floats { IfOk result
+        (λ told. floats_of_file bytes.now ≡ Some (map float_told told.floats.items)) }
+{
+    if is_request(bytes) {
+        return match request_file(alloc, bytes, floats) {
+            Ok(requested) => Ok(requested),
+            Err(fault) => Err(request_trouble(alloc, bytes, fault)),
+        };
+    }
+    let numbered = ids_as_numbers(alloc, bytes)?;
+    match schema_file(alloc, &numbered) {
+        Ok(nodes) => Ok(Requested {
+            nodes,
+            floats: Vec::new(alloc),
+        }),
+        Err(FileFault::Memory) => Err(SchemaTrouble::Memory),
+        Err(FileFault::Form) => Err(json_trouble(alloc, bytes)),
+    }
+}
+
+/// The nodes that a file tells, as `read_told` reads them.
 pub fn read_nodes(
     alloc: Global,
     bytes: &[u8],
@@ -161,17 +189,7 @@ pub fn read_nodes(
 ) -> Result<Vec<NodeRecord>, SchemaTrouble>
     ensures { IfOk result (λ nodes. nodes_told floats bytes.now ≡ Some (map node_of nodes.items)) }
 {
-    if is_request(bytes) {
-        return match request_file(alloc, bytes, floats) {
-            Ok(requested) => Ok(requested.nodes),
-            Err(fault) => Err(request_trouble(alloc, bytes, fault)),
-        };
-    }
-    match schema_file(alloc, bytes) {
-        Ok(nodes) => Ok(nodes),
-        Err(FileFault::Memory) => Err(SchemaTrouble::Memory),
-        Err(FileFault::Form) => Err(json_trouble(alloc, bytes)),
-    }
+    Ok(read_told(alloc, bytes, floats)?.nodes)
 }
 
 /// The name of the node of a place.
@@ -182,13 +200,26 @@ fn name_at(alloc: Global, nodes: &[NodeRecord], place: usize) -> Result<String, 
     }
 }
 
-/// The set of the nodes that a file tells, which keep all rules.
-pub fn read_set(alloc: Global, bytes: &[u8], floats: Floats) -> Result<SchemaSet, SchemaTrouble>
-    ensures { IfOk result (λ set. nodes_told floats bytes.now ≡ Some (nodes_of set)) }
+/// The nodes that a file tells, which keep all rules, and the fields that are floats there.
+#[derive(Drop)]
+pub struct CheckedSchema {
+    pub set: SchemaSet,
+    pub floats: Vec<FloatField>,
+}
+
+/// The set of the nodes that a file tells, which keep all rules, and the fields that are floats.
+pub fn read_set(alloc: Global, bytes: &[u8], floats: Floats) -> Result<CheckedSchema, SchemaTrouble>
+    ensures nodes { IfOk result (λ s. nodes_told floats bytes.now ≡ Some (nodes_of s.set)) }
+    ensures floats { IfOk result
+        (λ s. floats_of_file bytes.now ≡ Some (map float_told s.floats.items)) }
 {
-    let nodes = read_nodes(alloc, bytes, floats)?;
-    match SchemaSet::new(nodes) {
-        Ok(set) => Ok(set),
+    let told = read_told(alloc, bytes, floats)?;
+    let floats_told = told.floats;
+    match SchemaSet::new(told.nodes) {
+        Ok(set) => Ok(CheckedSchema {
+            set,
+            floats: floats_told,
+        }),
         Err(SchemaFault::Memory) => Err(SchemaTrouble::Memory),
         Err(SchemaFault::Rule { rule, node }) => {
             let again = read_nodes(alloc, bytes, floats)?;
@@ -242,6 +273,7 @@ fn id_of_name(nodes: &[NodeRecord], name: &str) -> Option<u64> {
 pub struct RootedSchema {
     set: SchemaSet,
     root: RawBrandedStructSchema,
+    floats: Vec<FloatField>,
     pub ghost known: { IsStructOf (nodes_of set) root },
 }
 
@@ -250,7 +282,8 @@ impl RootedSchema {
     ghost use Rattle.capnp_records.specs.Sets.{nodes_of};
     ghost use Rattle.capnp_values_queries.specs.Structs.{nodes_around};
     ghost use Rattle.capnp_calls.specs.Roots.{IsRoot};
-    ghost use Rattle.hagzimot_schemas.specs.SchemaForms.{nodes_told};
+    ghost use Rattle.capnp_relay_requests.specs.Floats.{float_told};
+    ghost use Rattle.hagzimot_schemas.specs.SchemaForms.{nodes_told, floats_of_file};
 
     /// The schema that a file tells, with the struct of this name, or of this id in decimal digits, as root.
     pub fn new(
@@ -259,9 +292,11 @@ impl RootedSchema {
         floats: Floats,
         root: &str,
     ) -> Result<RootedSchema, SchemaTrouble>
-        ensures { IfOk result (λ s. nodes_told floats bytes.now ≡ Some (nodes_of s.set)) }
+        ensures nodes { IfOk result (λ s. nodes_told floats bytes.now ≡ Some (nodes_of s.set)) }
+        ensures floats { IfOk result
+            (λ s. floats_of_file bytes.now ≡ Some (map float_told s.floats.items)) }
     {
-        let set = read_set(alloc, bytes, floats)?;
+        let CheckedSchema { set, floats } = read_set(alloc, bytes, floats)?;
         struct_is_named();
         let id = match id_of_name(set.nodes(), root) {
             Some(id) => Some(id),
@@ -272,7 +307,7 @@ impl RootedSchema {
             None => None,
         };
         match found {
-            Some(root) => Ok(RootedSchema { set, root }),
+            Some(root) => Ok(RootedSchema { set, root, floats }),
             None => Err(SchemaTrouble::NoRoot(String::from_str(alloc, root)?)),
         }
     }
@@ -296,6 +331,13 @@ impl RootedSchema {
         ensures { map node_of result.now ≡ nodes_of self.now.set }
     {
         self.set.nodes()
+    }
+
+    /// The fields that are floats in the compiler's request, whose bits they are here; none of a JSON file.
+    pub fn floats(&self) -> &[FloatField]
+        ensures { result.now ≡ self.now.floats.items }
+    {
+        &self.floats
     }
 
     /// The set of the nodes.
