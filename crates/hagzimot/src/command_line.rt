@@ -134,7 +134,7 @@ fn floats_as_bits<'a>(alloc: Global) -> Arg<'a> {
         .long("floats-as-bits")
         .action(ArgAction::SetTrue)
         .help(
-            "Takes fields of the types Float32 and Float64 in what the compiler wrote as the whole numbers of their bits",
+            "Takes fields of the types Float32 and Float64 in what the compiler wrote as the whole numbers of their bits, which are shown and set as decimal numbers",
         )
 }
 
@@ -198,6 +198,13 @@ fn show<'a>(alloc: Global) -> Result<Command<'a>, AllocError> {
                 .long("json")
                 .action(ArgAction::SetTrue)
                 .help("Prints each message as a JSON object, one a line"),
+        )?
+        .arg(
+            Arg::new(alloc, "pretty")
+                .long("pretty")
+                .action(ArgAction::SetTrue)
+                .help("Prints each field on a line of its own, indented")
+                .conflicts_with("json")?,
         )?
         .arg(limit_of_words(alloc))?
         .arg(nesting(alloc))?

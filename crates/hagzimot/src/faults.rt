@@ -84,6 +84,26 @@ impl Failure {
         Failure::about(alloc, name, why)
     }
 
+    /// The failure of a JSON file that isn't one of this sort, with what is wrong where a closer look finds it.
+    pub fn form(
+        alloc: Global,
+        name: &str,
+        sort: &str,
+        fault: Option<serde_json::Error>,
+    ) -> Failure {
+        let text = match fault {
+            Some(why) if why.is_memory() => return Failure::Memory,
+            Some(why) => format!(in alloc; "{name}: no {sort} file: {why}"),
+            None => format!(in alloc;
+                "{name}: JSON, but no {sort} file: compare it with docs/FILES.md"
+            ),
+        };
+        match text {
+            Ok(text) => Failure::Text(text),
+            Err(_) => Failure::Memory,
+        }
+    }
+
     /// The failure of the message of a number of an input, which begins behind so many bytes.
     pub fn stream(alloc: Global, name: &str, number: u64, start: u64, fault: Fault) -> Failure {
         let why = reason(fault);

@@ -4,6 +4,7 @@
 pub mod canonical;
 pub mod convert;
 mod copies;
+mod float_fields;
 pub mod log_lines;
 pub mod paths;
 pub mod strict;

@@ -6,7 +6,8 @@ ghost use Rattle.capnp_stream.specs.Writing.{AreWritable};
 ghost use Rattle.capnp_relay_show.specs.Answers.{shown_by};
 ghost use Rattle.hagzimot_show.specs.Shown.{IsNotShown};
 
-use crate::json_show::json_of_segments;
+use crate::laid_out::{Manner, laid_out};
+use crate::layout::Layout;
 use capnp_message::options::ReaderOptions;
 use capnp_relay_loop::ends::Fault;
 use capnp_relay_loop::pauses::Pause;
@@ -22,25 +23,15 @@ use capnp_values_queries::structs::StructSchema;
 use std::alloc::Global;
 use std::fmt::Write as _;
 
-/// How messages are shown.
-#[derive(Clone, Copy, Debug, PartialEq, Eq)]
-pub enum ShowForm {
-    /// As text.
-    Text,
-    /// As JSON.
-    Json,
-    /// They are counted alone.
-    Count,
-}
-
-/// Which messages of a stream are shown, counted from 1, and how.
+/// Which messages of a stream are shown, counted from 1.
 #[derive(Clone, Copy, Debug, PartialEq, Eq)]
 pub struct Chosen {
     /// The first that is shown.
     pub first: u64,
     /// The last that is read.
     pub last: u64,
-    pub form: ShowForm,
+    /// Whether they are counted alone.
+    pub is_count: bool,
 }
 
 /// How many messages were shown, or counted, and how many could not be shown.
@@ -109,8 +100,7 @@ fn read_fault(e: Error) -> Fault {
 #[derive(Drop)]
 struct Shower<'a> {
     alloc: Global,
-    root: StructSchema<'a>,
-    options: ReaderOptions,
+    manner: Manner<'a>,
     chosen: Chosen,
     counts: ShownCounts,
 }
@@ -120,11 +110,12 @@ impl Shower<'_> {
     fn text_of<S: ReaderSegments>(&self, segments: &S) -> Result<Vec<u8>, ShowFault>
         requires { AreWritable (S.segments segments.now) }
     {
-        if self.chosen.form == ShowForm::Json {
-            let json = json_of_segments(self.alloc, segments, self.root, self.options)?;
-            return Ok(json.into_bytes());
+        let manner = self.manner;
+        if manner.layout == Layout::Line && manner.floats.is_empty() {
+            return text_of_segments(self.alloc, segments, manner.root, manner.options());
         }
-        text_of_segments(self.alloc, segments, self.root, self.options)
+        let text = laid_out(self.alloc, segments, manner)?;
+        Ok(text.into_bytes())
     }
 
     /// Writes the text of a message of this number, and a line feed; or a line to the log, where it can't be shown.
@@ -163,7 +154,7 @@ impl Shower<'_> {
         out: &mut W,
         log: &mut L,
     ) -> Result<bool, Fault> {
-        let limit = self.options.traversal_limit_in_words;
+        let limit = Some(self.manner.limits.words as usize);
         let segments = match buffer.try_read_message::<I, R>(source, limit) {
             Ok(Some(segments)) => segments,
             Ok(None) => return Ok(false),
@@ -172,7 +163,7 @@ impl Shower<'_> {
         if number < self.chosen.first {
             return Ok(true);
         }
-        if self.chosen.form == ShowForm::Count {
+        if self.chosen.is_count {
             self.counts.shown = self.counts.shown.saturating_add(1);
             return Ok(true);
         }
@@ -181,7 +172,7 @@ impl Shower<'_> {
     }
 }
 
-/// Writes the texts of the chosen messages of the source, one a line, or counts these messages alone. A message that can't be shown is a line of the log, `message N not shown: WHY`. None behind the last that is chosen is read. Before each read there is a pause.
+/// Writes the texts of the chosen messages of the source, with a line feed behind each, or counts these messages alone. A message that can't be shown is a line of the log, `message N not shown: WHY`. None behind the last that is chosen is read. Before each read there is a pause.
 ///
 /// `Framing`: what is left of the source begins with no message. `Source`, `Out`, `Log`: the device failed, or a sink has no room. `Memory`: a growth was refused.
 pub fn show_all<I: MessageForm, R: BufRead, W: Write, L: Write, P: Pause<R, W, L>>(
@@ -189,8 +180,7 @@ pub fn show_all<I: MessageForm, R: BufRead, W: Write, L: Write, P: Pause<R, W, L
     source: &mut R,
     out: &mut W,
     log: &mut L,
-    root: StructSchema<'_>,
-    options: ReaderOptions,
+    manner: Manner<'_>,
     chosen: Chosen,
 ) -> Result<ShownCounts, StreamFault> {
     let mut buffer = MessageBuffer::new(alloc);
@@ -200,8 +190,7 @@ pub fn show_all<I: MessageForm, R: BufRead, W: Write, L: Write, P: Pause<R, W, L
     };
     let mut shower = Shower {
         alloc,
-        root,
-        options,
+        manner,
         chosen,
         counts,
     };

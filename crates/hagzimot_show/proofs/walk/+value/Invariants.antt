@@ -1,6 +1,6 @@
 -- structs and lists are nested less on the way down; within one level each calls the next
 use Rattle.std.proofs.Common.{◌+◌, ◌*◌}
-use Rattle.hagzimot_show.proofs.json_show.+json.Given as goal
+use Rattle.hagzimot_show.proofs.walk.+value.Given as goal
 
 abbrev pub decreases-put_value : goal.decreases-put_value
 decreases-put_value g l = 4 * l.left + 3
