@@ -134,7 +134,7 @@ fn floats_as_bits<'a>(alloc: Global) -> Arg<'a> {
         .long("floats-as-bits")
         .action(ArgAction::SetTrue)
         .help(
-            "Takes fields of the types Float32 and Float64 in what the compiler wrote as the whole numbers of their bits",
+            "Takes fields of the types Float32 and Float64 in what the compiler wrote as the whole numbers of their bits, which are shown and set as decimal numbers",
         )
 }
 
@@ -199,6 +199,13 @@ fn show<'a>(alloc: Global) -> Result<Command<'a>, AllocError> {
                 .action(ArgAction::SetTrue)
                 .help("Prints each message as a JSON object, one a line"),
         )?
+        .arg(
+            Arg::new(alloc, "pretty")
+                .long("pretty")
+                .action(ArgAction::SetTrue)
+                .help("Prints each field on a line of its own, indented")
+                .conflicts_with("json")?,
+        )?
         .arg(limit_of_words(alloc))?
         .arg(nesting(alloc))?
         .arg(files(alloc))
@@ -217,7 +224,13 @@ fn schema_file<'a>(alloc: Global) -> Result<Command<'a>, AllocError> {
     Command::new(alloc, "schema")
         .about("Prints a schema as a JSON file of nodes, which is taken wherever a schema is")
         .arg(file(alloc, "schema", "SCHEMA", SCHEMA_HELP))?
-        .arg(floats_as_bits(alloc))
+        .arg(floats_as_bits(alloc))?
+        .arg(
+            Arg::new(alloc, "ids-as-texts")
+                .long("ids-as-texts")
+                .action(ArgAction::SetTrue)
+                .help("Prints ids as texts, for readers of JSON that round long numbers"),
+        )
 }
 
 fn compatible<'a>(alloc: Global) -> Result<Command<'a>, AllocError> {

@@ -2,7 +2,7 @@
 
 use capnp_relay_loop::ends::Fault;
 use capnp_units::kinds::ErrorKind;
-use hagzimot_commands::schemas::SchemaTrouble;
+use hagzimot_schemas::schemas::SchemaTrouble;
 use std::alloc::{AllocError, AllocFailed, Global};
 use std::fmt::{Display, Formatter, Write};
 use std::{fmt, io};
@@ -82,6 +82,26 @@ impl Failure {
     /// The failure of a schema file.
     pub fn schema(alloc: Global, name: &str, why: &SchemaTrouble) -> Failure {
         Failure::about(alloc, name, why)
+    }
+
+    /// The failure of a JSON file that isn't one of this sort, with what is wrong where a closer look finds it.
+    pub fn form(
+        alloc: Global,
+        name: &str,
+        sort: &str,
+        fault: Option<serde_json::Error>,
+    ) -> Failure {
+        let text = match fault {
+            Some(why) if why.is_memory() => return Failure::Memory,
+            Some(why) => format!(in alloc; "{name}: no {sort} file: {why}"),
+            None => format!(in alloc;
+                "{name}: JSON, but no {sort} file: compare it with docs/FILES.md"
+            ),
+        };
+        match text {
+            Ok(text) => Failure::Text(text),
+            Err(_) => Failure::Memory,
+        }
     }
 
     /// The failure of the message of a number of an input, which begins behind so many bytes.

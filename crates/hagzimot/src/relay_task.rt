@@ -15,9 +15,10 @@ use capnp_relay_streams::options::{ReaderOptions, RelayOptions};
 use capnp_relay_streams::relay::relay_pausing;
 use capnp_stream_io::adapters::Source;
 use clap::ArgMatches;
-use hagzimot_commands::schemas::RootedSchema;
 use hagzimot_commands::strict::check_call;
 use hagzimot_commands::word_calls::{CallParts, WordVerb, call_of_words};
+use hagzimot_forms::calls_form::calls_form_fault;
+use hagzimot_schemas::schemas::RootedSchema;
 use std::alloc::Global;
 use std::fmt::Display;
 
@@ -107,8 +108,8 @@ fn named_calls(rt: &HostRuntime, matches: &ArgMatches<'_>) -> Result<Option<Call
         Ok(file) => Ok(Some(file)),
         Err(FileFault::Memory) => Err(Failure::Memory),
         Err(FileFault::Form) => {
-            let why = "no JSON of the form of calls files: compare it with docs/FILES.md";
-            Err(Failure::about(alloc, name, &why))
+            let fault = calls_form_fault(alloc, &bytes);
+            Err(Failure::form(alloc, name, "calls", fault))
         }
     }
 }
@@ -171,6 +172,7 @@ fn all_calls(
         let made = call_of_words(
             alloc,
             schema.nodes(),
+            schema.floats(),
             schema.root_id(),
             asked.verb,
             asked.text,

@@ -4,8 +4,8 @@ use crate::faults::Failure;
 use crate::files::read_file;
 use crate::words;
 use clap::ArgMatches;
-use hagzimot_commands::schema_text::schema_text;
-use hagzimot_commands::schemas::{read_nodes, read_set};
+use hagzimot_schemas::schema_text::{IdForm, schema_text};
+use hagzimot_schemas::schemas::{read_nodes, read_set};
 
 /// Prints a line.
 pub fn print_line(rt: &HostRuntime, line: &str) -> Result<(), Failure> {
@@ -29,7 +29,7 @@ pub fn check(rt: &HostRuntime, matches: &ArgMatches<'_>) -> Result<u8, Failure> 
     let name = words::text(matches, "schema");
     let bytes = read_file(rt, name)?;
     let set = match read_set(alloc, &bytes, words::floats(matches)) {
-        Ok(set) => set,
+        Ok(checked) => checked.set,
         Err(why) => return Err(Failure::schema(alloc, name, &why)),
     };
     let count = set.nodes().len();
@@ -47,7 +47,12 @@ pub fn schema(rt: &HostRuntime, matches: &ArgMatches<'_>) -> Result<u8, Failure>
         Ok(nodes) => nodes,
         Err(why) => return Err(Failure::schema(alloc, name, &why)),
     };
-    match schema_text(alloc, &nodes) {
+    let ids = if matches.get_flag("ids-as-texts") {
+        IdForm::Texts
+    } else {
+        IdForm::Numbers
+    };
+    match schema_text(alloc, &nodes, ids) {
         Ok(text) => print_text(rt, text.as_str()),
         Err(why) => Err(Failure::about(alloc, name, &why)),
     }

@@ -4,7 +4,6 @@ use crate::faults::Failure;
 use crate::files::{Input, OutSink, Output, open_sink, open_source};
 use crate::log::{Lines, Log, Refusals, TurnAndFlush};
 use crate::words;
-use capnp_message::options::ReaderOptions;
 use capnp_relay_program::ahead::BoundedForm;
 use capnp_relay_program::sinks::Flush;
 use capnp_relay_streams::options::Form;
@@ -12,16 +11,17 @@ use capnp_stream::forms::Framed;
 use capnp_stream_io::adapters::Source;
 use capnp_stream_io::traits::Write;
 use capnp_stream_packed::form::Packed;
-use capnp_values_queries::structs::StructSchema;
 use clap::ArgMatches;
-use hagzimot_commands::show::{Chosen, ShowForm, ShownCounts, StreamFault, show_all};
+use hagzimot_commands::canonical::Canonical;
+use hagzimot_show::laid_out::Manner;
+use hagzimot_show::layout::Layout;
+use hagzimot_show::show::{Chosen, ShownCounts, StreamFault, show_all};
 use std::alloc::Global;
 
 /// What is shown, and how.
 #[derive(Clone, Copy)]
 struct Showing<'a> {
-    root: StructSchema<'a>,
-    options: ReaderOptions,
+    manner: Manner<'a>,
     chosen: Chosen,
     form: Form,
 }
@@ -40,8 +40,7 @@ impl Showing<'_> {
             source,
             out,
             log,
-            self.root,
-            self.options,
+            self.manner,
             self.chosen,
         )
     }
@@ -81,15 +80,15 @@ fn put_number(alloc: Global, out: &mut OutSink, number: u64) -> Result<(), Failu
     Ok(())
 }
 
-/// How the words ask that messages are shown.
-fn show_form(matches: &ArgMatches<'_>) -> ShowForm {
-    if matches.get_flag("count") {
-        return ShowForm::Count;
-    }
+/// The layout that the words ask for.
+fn layout(matches: &ArgMatches<'_>) -> Layout {
     if matches.get_flag("json") {
-        ShowForm::Json
+        return Layout::Json;
+    }
+    if matches.get_flag("pretty") {
+        Layout::Pretty
     } else {
-        ShowForm::Text
+        Layout::Line
     }
 }
 
@@ -98,15 +97,19 @@ pub fn show(rt: &HostRuntime, matches: &ArgMatches<'_>) -> Result<u8, Failure> {
     let alloc = rt.alloc();
     let schema = words::rooted(rt, matches, "schema")?;
     let showing = Showing {
-        root: schema.root(),
-        options: ReaderOptions {
-            traversal_limit_in_words: Some(words::limit_of_words(matches) as usize),
-            nesting_limit: words::nesting_limit(matches),
+        manner: Manner {
+            root: schema.root(),
+            limits: Canonical {
+                words: words::limit_of_words(matches),
+                nesting: words::nesting(matches),
+            },
+            layout: layout(matches),
+            floats: schema.floats(),
         },
         chosen: Chosen {
             first: matches.get_one::<u64>("from").unwrap_or(1),
             last: matches.get_one::<u64>("to").unwrap_or(u64::MAX),
-            form: show_form(matches),
+            is_count: matches.get_flag("count"),
         },
         form: words::form(matches, "in"),
     };
@@ -120,7 +123,7 @@ pub fn show(rt: &HostRuntime, matches: &ArgMatches<'_>) -> Result<u8, Failure> {
         all_shown &= counts.not_shown == 0;
         shown = shown.saturating_add(counts.shown);
     }
-    if showing.chosen.form == ShowForm::Count {
+    if showing.chosen.is_count {
         put_number(alloc, &mut out, shown)?;
     }
     Ok(if all_shown { 0 } else { 3 })

@@ -6,8 +6,8 @@ use crate::words;
 use capnp_calls_versions::renamings::Renamings;
 use capnp_calls_versions::root::Root;
 use clap::ArgMatches;
-use hagzimot_commands::breaks::{Version, breaks_between, sentence};
-use hagzimot_commands::schemas::RootedSchema;
+use hagzimot_schemas::breaks::{Version, breaks_between, sentence};
+use hagzimot_schemas::schemas::RootedSchema;
 
 /// One of the two schemas, and its age: `older` or `newer`.
 #[derive(Clone, Copy)]

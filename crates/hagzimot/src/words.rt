@@ -8,7 +8,8 @@ use capnp_relay_files::renames_file::renames_file;
 use capnp_relay_requests::request::Floats;
 use capnp_relay_streams::options::Form;
 use clap::ArgMatches;
-use hagzimot_commands::schemas::RootedSchema;
+use hagzimot_forms::renames_form::renames_form_fault;
+use hagzimot_schemas::schemas::RootedSchema;
 use std::alloc::Global;
 
 /// The most words of a message, and the most that following it may cost, where no word says otherwise.
@@ -107,8 +108,8 @@ pub fn renamings(rt: &HostRuntime, words: &ArgMatches<'_>) -> Result<Renamings, 
         Ok(list) => list,
         Err(FileFault::Memory) => return Err(Failure::Memory),
         Err(FileFault::Form) => {
-            let why = "no JSON of the form of renames files: compare it with docs/FILES.md";
-            return Err(Failure::about(alloc, name, &why));
+            let fault = renames_form_fault(alloc, &bytes);
+            return Err(Failure::form(alloc, name, "renames", fault));
         }
     };
     match Renamings::new(list) {

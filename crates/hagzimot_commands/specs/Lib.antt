@@ -1,4 +1,2 @@
 pub mod Copies
 pub mod Answers
-pub mod Shown
-pub mod SchemaForms

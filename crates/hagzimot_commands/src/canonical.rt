@@ -66,7 +66,7 @@ fn write_within<M: ReaderArena>(
 }
 
 /// As `write_within`, but the buffer grows where it has no room: first to as many words as the message has, and where its pointers share words, to a word more than the limits allow. `OutOfMemory`: it can't grow. `BufferNotLargeEnough`: the canonical words are 2^29 or more.
-pub(crate) fn write_value<M: ReaderArena>(
+pub fn write_value<M: ReaderArena>(
     message: &M,
     limits: Canonical,
     words: &mut Vec<Word>,

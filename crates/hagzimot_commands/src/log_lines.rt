@@ -1,6 +1,6 @@
 //! Lines of the log as JSON.
 
-use crate::json_text::{Quoted, put_char};
+use hagzimot_schemas::json_text::{Quoted, put_char};
 use std::alloc::{AllocError, Global};
 use std::fmt;
 use std::fmt::{Display, Formatter, Write};

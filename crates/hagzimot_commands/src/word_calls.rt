@@ -1,9 +1,13 @@
 //! Calls that are given as words, as `customer.name=Ada`.
 
-use crate::paths::{Landing, Misstep, enumerants_of, landing_from, node_of_id};
+use crate::float_fields::is_float_at;
+use crate::paths::{Landing, Misstep, landing_from};
 use crate::strict::sort_of;
 use capnp_calls::{CallValue, Step, Verb};
 use capnp_records::node::{BaseType, NodeRecord, TypeRecord};
+use capnp_relay_requests::request::FloatField;
+use hagzimot_floats::float_bits::{float32_bits, float64_bits};
+use hagzimot_schemas::nodes::{enumerants_of, node_of_id};
 use std::alloc::{AllocError, Global};
 use std::fmt;
 use std::fmt::{Display, Formatter, Write};
@@ -157,10 +161,26 @@ fn value_of(
     }
 }
 
-/// What `Call::new` takes for the call that words make under a schema, from the struct of an id on.
+/// The bits of the float that a word spells, for a type of as many bits.
+fn float_value(ty: TypeRecord, word: &str) -> Result<CallValue, WordTrouble> {
+    if ty.list_count > 0 {
+        return Err(WordTrouble::NotByWords(sort_of(ty)));
+    }
+    let bits = match ty.base {
+        BaseType::UInt32 => float32_bits(word).map(|bits| bits as i128),
+        _ => float64_bits(word).map(|bits| bits as i128),
+    };
+    match bits {
+        Some(bits) => Ok(CallValue::Number(bits)),
+        None => Err(WordTrouble::Value("a float")),
+    }
+}
+
+/// What `Call::new` takes for the call that words make under a schema, from the struct of an id on. Values of these fields are given as floats, whose bits are set.
 pub fn call_of_words(
     alloc: Global,
     nodes: &[NodeRecord],
+    floats: &[FloatField],
     root: u64,
     verb: WordVerb,
     words: &str,
@@ -183,7 +203,11 @@ pub fn call_of_words(
     }
     match landing_from(alloc, nodes, root, &path)? {
         Landing::Value(ty) => {
-            let value = value_of(alloc, nodes, ty, word)?;
+            let value = if is_float_at(alloc, nodes, floats, root, &path)? {
+                float_value(ty, word)?
+            } else {
+                value_of(alloc, nodes, ty, word)?
+            };
             Ok((path, Verb::Set, Some(value)))
         }
         Landing::Group(_) => Err(WordTrouble::NotByWords("a group")),

@@ -1,0 +1,5 @@
+//! Floats as people read and write them, for the whole numbers of their bits.
+#![tactic(auto)]
+
+pub mod float_bits;
+pub mod float_text;

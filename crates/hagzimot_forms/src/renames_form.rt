@@ -1,0 +1,22 @@
+//! The form of renames files.
+
+use serde::Deserialize;
+use serde_json::Error;
+use std::alloc::Global;
+
+/// A field that has another name.
+#[derive(Drop, Deserialize)]
+#[serde(deny_unknown_fields)]
+struct Renaming {
+    #[serde(rename = "node")]
+    _node: u64,
+    #[serde(rename = "from")]
+    _from: String,
+    #[serde(rename = "to")]
+    _to: String,
+}
+
+/// What is wrong with the form of a renames file, with line and column; `None` where nothing of it is seen here.
+pub fn renames_form_fault(alloc: Global, bytes: &[u8]) -> Option<Error> {
+    serde_json::from_slice::<Vec<Renaming>>(alloc, bytes).err()
+}

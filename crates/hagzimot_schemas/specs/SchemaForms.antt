@@ -1,0 +1,45 @@
+-- The two forms of schema files.
+use Rattle.std.specs.Prelude.{ℕ, ◌==◌, Bool, false, if◌then◌else◌, Option, Some, List, [], ◌∷◌, map}
+use Rattle.std.specs.Result.{result_ok}
+use Rattle.capnp_model.specs.Schemas.{Enumerant, Field, StructNode, NodeKind, struct_node, enum_node, Node}
+use Rattle.capnp_relay_files.specs.SchemaFiles.{schema_nodes_in}
+use Rattle.capnp_relay_requests.specs.Requests.{records_told, floats_told}
+use Rattle.capnp_relay_requests.specs.declared.request.Floats.{Floats}
+use Rattle.hagzimot_forms.specs.Ids.{ids_as_numbers}
+use Rattle.hagzimot_schemas.specs.declared.schema_text.IdForm.{IdForm}
+use Rattle.hagzimot_schemas.specs.declared.schema_text.IdForm.TheVariants.{Numbers, Texts}
+
+-- Whether a file is a request of the compiler and no JSON. A frame has at most 511 segments, so the fourth byte of their count is zero; JSON has no zero byte. (Encoding, "Serialization Over a Stream")
+abbrev pub is_request : List ℕ → Bool
+is_request (a ∷ b ∷ c ∷ d ∷ rest) = d == 0
+is_request _ = false
+
+-- The nodes that a schema file of either form tells. In JSON an id is a number, or a text of its digits.
+abbrev pub nodes_told : Floats → List ℕ → Option (List Node)
+nodes_told floats bytes = if is_request bytes then result_ok (records_told floats bytes) else schema_nodes_in (ids_as_numbers bytes)
+
+-- The fields that are floats there, by their nodes' ids and their indices; JSON tells none.
+abbrev pub floats_of_file : List ℕ → Option (List (ℕ × ℕ))
+floats_of_file bytes = if is_request bytes then result_ok (floats_told bytes) else Some []
+
+-- What a reader that takes ids as numbers reads, by how they are written.
+abbrev pub readable : IdForm → List ℕ → List ℕ
+readable Numbers bytes = bytes
+readable Texts bytes = ids_as_numbers bytes
+
+-- A field, an enumerant and a node without annotations, which JSON files don't hold.
+abbrev pub bare_field : Field → Field
+bare_field f = record f { annotations = [] }
+
+abbrev pub bare_enumerant : Enumerant → Enumerant
+bare_enumerant e = record e { annotations = [] }
+
+abbrev pub bare_struct : StructNode → StructNode
+bare_struct s = record s { fields = map bare_field s.fields }
+
+abbrev pub bare_kind : NodeKind → NodeKind
+bare_kind (struct_node s) = struct_node (bare_struct s)
+bare_kind (enum_node es) = enum_node (map bare_enumerant es)
+
+abbrev pub bare_node : Node → Node
+bare_node n = record n { annotations = []; kind = bare_kind n.kind }

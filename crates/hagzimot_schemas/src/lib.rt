@@ -1,0 +1,10 @@
+//! Schemas as people give them: read from files, told, checked and compared in words.
+#![tactic(auto)]
+
+pub mod breaks;
+pub mod json_text;
+pub mod nodes;
+pub mod rules;
+mod same_nodes;
+pub mod schema_text;
+pub mod schemas;

@@ -1,0 +1,43 @@
+//! The nodes of a schema, their names and their members.
+ghost use Rattle.std.specs.Prelude.{◌≡◌, ◌≢◌, map, All, IfSome, IfNone};
+ghost use Rattle.capnp_model.specs.Accepted.{enumerants_of_kind, fields_of_kind};
+ghost use Rattle.capnp_records.specs.NodeViews.{enumerant_of, field_of, node_kind};
+
+use capnp_records::node::{EnumerantRecord, FieldRecord, NodeBody, NodeRecord};
+
+/// The node of an id.
+pub fn node_of_id(nodes: &[NodeRecord], id: u64) -> Option<&NodeRecord>
+    ensures found { IfSome result (λ node. node.now.id ≡ id) }
+    ensures none { IfNone result (All (λ node. node.id ≢ id) nodes.now) }
+{
+    nodes.iter().find(|node| node.id == id)
+}
+
+/// The name of a node, without what stands in front of its last colon.
+pub fn short_name(node: &NodeRecord) -> &str {
+    let whole = node.display_name.as_str();
+    match whole.rfind(':') {
+        Some(at) => &whole[at + 1..],
+        None => whole,
+    }
+}
+
+/// The fields of a node; none of an enum.
+pub fn fields_of(node: &NodeRecord) -> &[FieldRecord]
+    ensures { map field_of result.now ≡ fields_of_kind (node_kind node.now.body) }
+{
+    match &node.body {
+        NodeBody::Struct(body) => body.fields.as_slice(),
+        NodeBody::Enum(_) => &[],
+    }
+}
+
+/// The enumerants of a node; none of a struct.
+pub fn enumerants_of(node: &NodeRecord) -> &[EnumerantRecord]
+    ensures { map enumerant_of result.now ≡ enumerants_of_kind (node_kind node.now.body) }
+{
+    match &node.body {
+        NodeBody::Struct(_) => &[],
+        NodeBody::Enum(enumerants) => enumerants.as_slice(),
+    }
+}

@@ -1,0 +1,118 @@
+//! Messages in a layout.
+ghost use Rattle.std.specs.Prelude.{IfOk, IfErr};
+ghost use Rattle.capnp_units.specs.Segments.{words_in};
+ghost use Rattle.hagzimot_commands.specs.Answers.{canonical_limits};
+ghost use Rattle.hagzimot_show.specs.Shown.{HasValueWithin, IsRecordFault, IsLayoutFault};
+
+use crate::layout::{Layout, Style};
+use crate::walk::{MOST_LEVELS, put_value};
+use capnp_message::options::ReaderOptions;
+use capnp_relay_requests::request::FloatField;
+use capnp_relay_show::show::ShowFault;
+use capnp_units::errors::Error;
+use capnp_units::kinds::ErrorKind;
+use capnp_units::limiter::ReadLimiter;
+use capnp_units::segments::ReaderSegments;
+use capnp_units::sizes::words_as_bytes;
+use capnp_values::dynamic_struct;
+use capnp_values::dynamic_value::Reader;
+use capnp_values_queries::structs::StructSchema;
+use capnp_wire::pointer::PointerReader;
+use capnp_wire_objects::arena::{ReaderArena, ReaderArenaImpl};
+use hagzimot_commands::canonical::{Canonical, write_value};
+use std::alloc::Global;
+
+/// How messages are shown.
+#[derive(Clone, Copy)]
+pub struct Manner<'a> {
+    /// The struct at the root of messages.
+    pub root: StructSchema<'a>,
+    /// How far messages are followed.
+    pub limits: Canonical,
+    pub layout: Layout,
+    /// The fields that are floats: the whole numbers there are the bits of floats.
+    pub floats: &'a [FloatField],
+}
+
+impl Manner<'_> {
+    /// The limits as readers take them.
+    pub(crate) fn options(&self) -> ReaderOptions {
+        ReaderOptions {
+            traversal_limit_in_words: Some(self.limits.words as usize),
+            nesting_limit: self.nesting_limit(),
+        }
+    }
+
+    /// The limit of levels; more than 2^31 - 1 are as good as that many.
+    fn nesting_limit(&self) -> i32 {
+        i32::try_from(self.limits.nesting).unwrap_or(i32::MAX)
+    }
+}
+
+/// Why nothing is shown.
+fn fault_of(e: Error) -> ShowFault
+    ensures { IsRecordFault result }
+{
+    match e.kind {
+        ErrorKind::OutOfMemory => ShowFault::Memory,
+        _ => ShowFault::Unreadable,
+    }
+}
+
+/// The record of an arena's root, which has a value.
+fn text_of<'a, A: ReaderArena>(
+    alloc: Global,
+    arena: &'a A,
+    manner: Manner<'a>,
+) -> Result<String, ShowFault>
+    ensures { IfErr result IsRecordFault }
+{
+    let Ok(pointer) = PointerReader::get_root_from_arena(arena) else {
+        return Err(ShowFault::Unreadable);
+    };
+    let mut unlimited = ReadLimiter::new(None);
+    let Ok(value) = pointer.get_struct(&mut unlimited, None) else {
+        return Err(ShowFault::Root);
+    };
+    let value = Reader::Struct(dynamic_struct::Reader::new(value, manner.root));
+    let style = Style {
+        alloc,
+        layout: manner.layout,
+        floats: manner.floats,
+    };
+    let mut text = String::new(alloc);
+    match put_value(&mut text, style, value, false, MOST_LEVELS) {
+        Ok(()) => Ok(text),
+        Err(e) => Err(fault_of(e)),
+    }
+}
+
+/// The message of these segments in a layout: the record that its root has under a schema, with the fields that `show` prints, in the same order.
+///
+/// As text a float is a decimal number, `inf`, `-inf`, `nan`, or `nan:` with the hex of its bits, and all else is written as `show` writes it. In JSON a struct is an object; 64-bit numbers are texts, enum values names, data arrays of numbers, Void null, floats numbers or one of the texts `Infinity`, `-Infinity` and `NaN`.
+///
+/// - `Value`: it has no value within the limits, or one with a capability.
+/// - `Root`: its root is a list.
+/// - `Unreadable`: a field or an element can't be read as its type, or more than 2,048 structs, groups and lists lie within one another.
+/// - `Memory`: a growth was refused.
+pub fn laid_out<S: ReaderSegments>(
+    alloc: Global,
+    segments: &S,
+    manner: Manner<'_>,
+) -> Result<String, ShowFault>
+    ensures text { IfOk result (λ text. HasValueWithin (canonical_limits manner.entry.limits)
+        (words_in (S.segments segments.now))) }
+    ensures fault { IfErr result (IsLayoutFault (canonical_limits manner.entry.limits)
+        (words_in (S.segments segments.now))) }
+{
+    let message = ReaderArenaImpl::new(segments, i32::MAX);
+    let mut words = Vec::new(alloc);
+    let count = match write_value(&message, manner.limits, &mut words) {
+        Ok(Some(count)) => count,
+        Ok(None) => return Err(ShowFault::Value),
+        Err(_) => return Err(ShowFault::Memory),
+    };
+    let segments = [words_as_bytes(&words[..count])];
+    let arena = ReaderArenaImpl::new(segments.as_slice(), manner.nesting_limit());
+    text_of(alloc, &arena, manner)
+}

@@ -1,0 +1,96 @@
+//! How values are laid out.
+
+use capnp_relay_requests::request::FloatField;
+use capnp_units::errors::Error;
+use capnp_values_queries::fields::Field;
+use std::alloc::Global;
+use std::fmt::{Display, Write};
+
+/// How values are written.
+#[derive(Clone, Copy, Debug, PartialEq, Eq)]
+pub enum Layout {
+    /// As text, on one line.
+    Line,
+    /// As text, each item on a line of its own behind two blanks for each level.
+    Pretty,
+    /// As JSON, on one line.
+    Json,
+}
+
+/// Writes something behind the rest.
+pub(crate) fn put<T: Display + Drop>(out: &mut String, part: T) -> Result<(), Error> {
+    write!(out, "{part}")?;
+    Ok(())
+}
+
+/// A layout, and the fields that are floats.
+#[derive(Clone, Copy)]
+pub(crate) struct Style<'a> {
+    pub(crate) alloc: Global,
+    pub(crate) layout: Layout,
+    pub(crate) floats: &'a [FloatField],
+}
+
+/// The marks around the items of a struct or a list.
+#[derive(Clone, Copy)]
+pub(crate) struct Marks {
+    pub(crate) open: &'static str,
+    pub(crate) close: &'static str,
+}
+
+impl Style<'_> {
+    /// Whether a field is a float, or lists of floats.
+    pub(crate) fn is_float(&self, field: Field<'_>) -> bool {
+        let node = field.parent().get_proto().id;
+        let index = field.get_index() as u32;
+        self.floats
+            .iter()
+            .any(|float| float.node == node && float.index == index)
+    }
+
+    /// The marks of structs.
+    pub(crate) fn struct_marks(&self) -> Marks {
+        match self.layout {
+            Layout::Json => Marks {
+                open: "{",
+                close: "}",
+            },
+            Layout::Line | Layout::Pretty => Marks {
+                open: "(",
+                close: ")",
+            },
+        }
+    }
+
+    /// Begins a line of so many levels, where items have lines of their own.
+    pub(crate) fn put_line(&self, out: &mut String, level: u32) -> Result<(), Error> {
+        if self.layout != Layout::Pretty {
+            return Ok(());
+        }
+        put(out, '\n')?;
+        for _ in 0..level {
+            put(out, "  ")?;
+        }
+        Ok(())
+    }
+
+    /// Begins an item of so many levels, behind a comma where it isn't the first.
+    pub(crate) fn put_item(
+        &self,
+        out: &mut String,
+        is_first: bool,
+        level: u32,
+    ) -> Result<(), Error> {
+        if !is_first {
+            put(
+                out,
+                if self.layout == Layout::Line {
+                    ", "
+                } else {
+                    ","
+                },
+            )?;
+        }
+        self.put_line(out, level)
+    }
+}

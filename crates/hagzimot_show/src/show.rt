@@ -1,0 +1,208 @@
+//! Messages of a stream as text.
+ghost use Rattle.std.specs.Prelude.{◌≡◌, Ok, IfOk, IfErr};
+ghost use Rattle.capnp_model.specs.Messages.{frame};
+ghost use Rattle.capnp_units.specs.Segments.{words_in};
+ghost use Rattle.capnp_stream.specs.Writing.{AreWritable};
+ghost use Rattle.capnp_relay_show.specs.Answers.{shown_by};
+ghost use Rattle.hagzimot_show.specs.Shown.{IsNotShown};
+
+use crate::laid_out::{Manner, laid_out};
+use crate::layout::Layout;
+use capnp_message::options::ReaderOptions;
+use capnp_relay_loop::ends::Fault;
+use capnp_relay_loop::pauses::Pause;
+use capnp_relay_show::show::{ShowFault, show};
+use capnp_stream::forms::MessageForm;
+use capnp_stream::kept::MessageBuffer;
+use capnp_stream::messages::write_message_segments_to_words;
+use capnp_stream_io::traits::{BufRead, Read, Write};
+use capnp_units::errors::Error;
+use capnp_units::kinds::ErrorKind;
+use capnp_units::segments::ReaderSegments;
+use capnp_values_queries::structs::StructSchema;
+use std::alloc::Global;
+use std::fmt::Write as _;
+
+/// Which messages of a stream are shown, counted from 1.
+#[derive(Clone, Copy, Debug, PartialEq, Eq)]
+pub struct Chosen {
+    /// The first that is shown.
+    pub first: u64,
+    /// The last that is read.
+    pub last: u64,
+    /// Whether they are counted alone.
+    pub is_count: bool,
+}
+
+/// How many messages were shown, or counted, and how many could not be shown.
+#[derive(Clone, Copy, Debug, PartialEq, Eq)]
+pub struct ShownCounts {
+    pub shown: u64,
+    pub not_shown: u64,
+}
+
+/// Why a stream isn't shown to its end, and at which message, counted from 1.
+#[derive(Clone, Copy, Debug, PartialEq, Eq)]
+pub struct StreamFault {
+    pub fault: Fault,
+    pub number: u64,
+}
+
+/// The text of the message of these segments, on one line, as `show` gives it. `Memory`: a growth was refused.
+pub fn text_of_segments<S: ReaderSegments>(
+    alloc: Global,
+    segments: &S,
+    root: StructSchema<'_>,
+    options: ReaderOptions,
+) -> Result<Vec<u8>, ShowFault>
+    requires { AreWritable (S.segments segments.now) }
+    ensures text { IfOk result (λ text.
+        shown_by root.entry options (frame (words_in (S.segments segments.now))) ≡ Ok text.items) }
+    ensures fault { IfErr result
+        (IsNotShown root.entry options (words_in (S.segments segments.now))) }
+{
+    match write_message_segments_to_words(alloc, segments) {
+        Ok(bytes) => match show(alloc, &bytes, root, options) {
+            Ok(text) => Ok(text),
+            Err(fault) => Err(fault),
+        },
+        Err(_) => Err(ShowFault::Memory),
+    }
+}
+
+/// What the log says of a message that can't be shown.
+fn line_of(alloc: Global, number: u64, fault: ShowFault) -> Result<String, Fault> {
+    match format!(in alloc; "message {number} not shown: {fault}\n") {
+        Ok(line) => Ok(line),
+        Err(_) => Err(Fault::Memory),
+    }
+}
+
+/// Writes bytes to a sink.
+fn put<W: Write>(sink: &mut W, bytes: &[u8], fault: Fault) -> Result<(), Fault> {
+    match sink.write_all(bytes) {
+        Ok(()) => Ok(()),
+        Err(e) if e.kind == ErrorKind::OutOfMemory => Err(Fault::Memory),
+        Err(_) => Err(fault),
+    }
+}
+
+/// What a refused read is told as.
+fn read_fault(e: Error) -> Fault {
+    match e.kind {
+        ErrorKind::OutOfMemory => Fault::Memory,
+        ErrorKind::Device => Fault::Source,
+        kind => Fault::Framing(kind),
+    }
+}
+
+/// A reader of messages that are shown, and what it counted.
+#[derive(Drop)]
+struct Shower<'a> {
+    alloc: Global,
+    manner: Manner<'a>,
+    chosen: Chosen,
+    counts: ShownCounts,
+}
+
+impl Shower<'_> {
+    /// What a message is shown as.
+    fn text_of<S: ReaderSegments>(&self, segments: &S) -> Result<Vec<u8>, ShowFault>
+        requires { AreWritable (S.segments segments.now) }
+    {
+        let manner = self.manner;
+        if manner.layout == Layout::Line && manner.floats.is_empty() {
+            return text_of_segments(self.alloc, segments, manner.root, manner.options());
+        }
+        let text = laid_out(self.alloc, segments, manner)?;
+        Ok(text.into_bytes())
+    }
+
+    /// Writes the text of a message of this number, and a line feed; or a line to the log, where it can't be shown.
+    fn put_text<S: ReaderSegments, W: Write, L: Write>(
+        &mut self,
+        segments: &S,
+        number: u64,
+        out: &mut W,
+        log: &mut L,
+    ) -> Result<(), Fault>
+        requires { AreWritable (S.segments segments.now) }
+    {
+        match self.text_of(segments) {
+            Ok(text) => {
+                put(out, &text, Fault::Out)?;
+                put(out, b"\n", Fault::Out)?;
+                self.counts.shown = self.counts.shown.saturating_add(1);
+                Ok(())
+            }
+            Err(ShowFault::Memory) => Err(Fault::Memory),
+            Err(fault) => {
+                let line = line_of(self.alloc, number, fault)?;
+                put(log, line.as_bytes(), Fault::Log)?;
+                self.counts.not_shown = self.counts.not_shown.saturating_add(1);
+                Ok(())
+            }
+        }
+    }
+
+    /// Reads the message of a number, and writes its text where it is chosen; false where no byte is left.
+    fn show_next<I: MessageForm, R: BufRead, W: Write, L: Write>(
+        &mut self,
+        buffer: &mut MessageBuffer,
+        number: u64,
+        source: &mut R,
+        out: &mut W,
+        log: &mut L,
+    ) -> Result<bool, Fault> {
+        let limit = Some(self.manner.limits.words as usize);
+        let segments = match buffer.try_read_message::<I, R>(source, limit) {
+            Ok(Some(segments)) => segments,
+            Ok(None) => return Ok(false),
+            Err(e) => return Err(read_fault(e)),
+        };
+        if number < self.chosen.first {
+            return Ok(true);
+        }
+        if self.chosen.is_count {
+            self.counts.shown = self.counts.shown.saturating_add(1);
+            return Ok(true);
+        }
+        self.put_text(&segments, number, out, log)?;
+        Ok(true)
+    }
+}
+
+/// Writes the texts of the chosen messages of the source, with a line feed behind each, or counts these messages alone. A message that can't be shown is a line of the log, `message N not shown: WHY`. None behind the last that is chosen is read. Before each read there is a pause.
+///
+/// `Framing`: what is left of the source begins with no message. `Source`, `Out`, `Log`: the device failed, or a sink has no room. `Memory`: a growth was refused.
+pub fn show_all<I: MessageForm, R: BufRead, W: Write, L: Write, P: Pause<R, W, L>>(
+    alloc: Global,
+    source: &mut R,
+    out: &mut W,
+    log: &mut L,
+    manner: Manner<'_>,
+    chosen: Chosen,
+) -> Result<ShownCounts, StreamFault> {
+    let mut buffer = MessageBuffer::new(alloc);
+    let counts = ShownCounts {
+        shown: 0,
+        not_shown: 0,
+    };
+    let mut shower = Shower {
+        alloc,
+        manner,
+        chosen,
+        counts,
+    };
+    for number in 1..=chosen.last {
+        if let Err(fault) = P::pause(source, out, log) {
+            return Err(StreamFault { fault, number });
+        }
+        match shower.show_next::<I, R, W, L>(&mut buffer, number, source, out, log) {
+            Ok(true) => {}
+            Ok(false) => return Ok(shower.counts),
+            Err(fault) => return Err(StreamFault { fault, number }),
+        }
+    }
+    Ok(shower.counts)
+}
