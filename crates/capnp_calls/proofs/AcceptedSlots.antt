@@ -1,7 +1,7 @@
 -- What the rules of schemas give of the defaults of a struct's fields, and that a root is no group.
-use Rattle.std.proofs.Common.{◌≡◌, ℕ, zero, suc, Bool, true, false, not, ◌&&◌, ◌==◌, Option, Some, None, List, [], ◌∷◌, slice_get, refl, sym, ◌∙◌, ap, arith}
+use Rattle.std.proofs.Common.{◌≡◌, ℕ, zero, suc, Bool, true, false, ◌&&◌, ◌==◌, Option, Some, None, List, [], ◌∷◌, slice_get, refl, sym, ◌∙◌, ap}
 use Rattle.std.specs.List.{list_all}
-use Rattle.capnp_model.specs.Schemas.{Field as FieldNode, StructNode, NodeKind, struct_node, enum_node, Node}
+use Rattle.capnp_model.specs.Schemas.{Field as FieldNode, StructNode, Node}
 use Rattle.capnp_model.specs.Accepted.{find_node, fields_of_kind, is_group_node, is_struct_node, names_a, schema_of, has_good_default, default_reads, IsAccepted}
 use Rattle.capnp_model.proofs.lemmas.KeptRules.{found_passes, behind, no_break}
 use Rattle.capnp_model.proofs.lemmas.SoundRules.{rules_kept, no_group_kind}

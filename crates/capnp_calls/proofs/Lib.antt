@@ -1,5 +1,7 @@
 pub mod lemmas
 mod AcceptedSlots
 mod GivenCalls
+mod LongPuts
 mod MessageExamples
+mod PathEnds
 mod Walks

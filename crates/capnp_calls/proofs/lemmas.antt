@@ -6,4 +6,5 @@ pub mod FieldSlots
 pub mod NamedFields
 pub mod ClearedGroups
 pub mod EachWay
+pub mod ResolvedCalls
 pub mod Kept

@@ -10,6 +10,8 @@ pub mod LongLists
 pub mod Paths
 pub mod Steps
 pub mod Ways
+pub mod Ends
+pub mod Resolved
 pub mod Frames
 pub mod Messages
 pub mod Copied

@@ -1,9 +1,9 @@
 -- Calls at the root of a record that put lists which are too long for a message. (Encoding, "Lists")
-use Rattle.std.specs.Prelude.{◌≡◌, ◌^◌, ◌≤◌, List, ◌∷◌, ◌++◌}
+use Rattle.std.specs.Prelude.{◌≡◌, ◌^◌, ◌≤◌, Bool, true, false, List, ◌∷◌, ◌++◌}
 use Rattle.capnp_model.specs.Trees.{Tree}
 use Rattle.capnp_model.specs.Schemas.{struct}
 use Rattle.capnp_model.specs.Readings.{record_of}
-use Rattle.capnp_model.specs.Calls.{Call, Content}
+use Rattle.capnp_model.specs.Calls.{CallValue, whole_number, truth, enumerant, text_value, blob_value, message, Verb, get, set_to, init, initn, clear, Call, Content}
 use Rattle.capnp_model.specs.InKindCalls.{at_value, end_of}
 use Rattle.capnp_model.specs.Steps.{step}
 use Rattle.capnp_model.specs.Answers.{edits}
@@ -27,3 +27,20 @@ pub record LongInTurn (root : StructSchema) (calls : List Call) (t : Tree) : Typ
   pub behind : List Call
   pub split : calls ≡ before ++ call ∷ behind
   pub long : PutsLong root call (edits (schema_around root) (id_of root) before t)
+
+-- A value is a message's.
+abbrev pub is_message : CallValue → Bool
+is_message (whole_number z) = false
+is_message (truth b) = false
+is_message (enumerant n) = false
+is_message (text_value bs) = false
+is_message (blob_value bs) = false
+is_message (message t) = true
+
+-- A verb sets the value of a message.
+abbrev pub sets_message : Verb → Bool
+sets_message get = false
+sets_message (set_to v) = is_message v
+sets_message init = false
+sets_message (initn n) = false
+sets_message clear = false

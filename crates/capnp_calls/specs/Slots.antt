@@ -1,6 +1,6 @@
 -- The sizes of structs and the defaults of their fields, as contracts see them. (Encoding, "Structs")
-use Rattle.std.specs.Prelude.{ℕ, ◌≡◌, true, Option, Some, IsSome}
-use Rattle.capnp_model.specs.Schemas.{Ty, Value, text_bytes, blob_bytes, list_segment, struct_segment, Shape, shape}
+use Rattle.std.specs.Prelude.{◌≡◌, true, Option, Some, IsSome}
+use Rattle.capnp_model.specs.Schemas.{Ty, Value, text_bytes, blob_bytes, list_segment, struct_segment}
 use Rattle.capnp_model.specs.Decoding.{decode}
 use Rattle.capnp_model.specs.Accepted.{is_default_of, opens_as, is_good_value}
 

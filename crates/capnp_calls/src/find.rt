@@ -5,11 +5,19 @@ ghost use Rattle.capnp_values_queries.specs.Handles.{IsFieldAt};
 ghost use Rattle.capnp_values_queries.specs.Structs.{schema_around, id_of, index_named};
 ghost use Rattle.capnp_calls.specs.Ways.{Finds, FindsFirst, fields_behind_first};
 
-use crate::ways::FoundField;
 use capnp_units::errors::{Error, Result};
 use capnp_units::kinds::ErrorKind;
 use capnp_values_queries::fields::Field;
 use capnp_values_queries::structs::StructSchema;
+
+/// The field that a name of a path finds.
+#[derive(Clone, Copy, Debug, PartialEq, Eq, Drop)]
+pub struct FoundField {
+    /// The id of the node of the struct or the group under which it was found.
+    pub(crate) node: u64,
+    /// Its index there; `None` where that has no field of the name.
+    pub(crate) place: Option<u16>,
+}
 
 /// The first field of a way.
 #[inline]

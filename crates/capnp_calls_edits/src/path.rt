@@ -7,6 +7,7 @@ ghost use Rattle.capnp_records.specs.Sets.{nodes_of};
 ghost use Rattle.capnp_values_queries.specs.Structs.{schema_around, shape_of_struct, id_of};
 ghost use Rattle.capnp_values_queries.specs.Types.{ty_of, is_type_of};
 ghost use Rattle.capnp_calls.specs.CallViews.{step_view, action_view};
+ghost use Rattle.capnp_calls.specs.Resolved.{call_of, IsResolved};
 ghost use Rattle.capnp_calls.specs.Roots.{starts_with_name};
 ghost use Rattle.capnp_copy_arenas.specs.Refusals.{IsSizeOrRefusal};
 ghost use Rattle.capnp_copy_arenas.specs.States.{HasWords};
@@ -23,9 +24,9 @@ use crate::default::default_of;
 use crate::elements::write_element_end;
 use crate::end::write_end;
 use crate::lists::list_behind;
-use capnp_calls::find::{get_field, rest_of_way};
+use capnp_calls::find::{FoundField, get_field, rest_of_way};
+use capnp_calls::resolved::Resolved;
 use capnp_calls::steps::{begins_with_name, first_index, first_name};
-use capnp_calls::ways::FoundField;
 use capnp_calls::{Action, Step};
 use capnp_copy_arenas::arena::BuilderArena;
 use capnp_copy_arenas::fields::StructPlace;
@@ -52,8 +53,7 @@ use capnp_wire_objects::place::Place;
 /// struct. A narrower struct is widened to its schema's sizes, and a list whose elements' type is a
 /// struct becomes one of structs of its sizes, whatever its elements were.
 ///
-/// The way says what the names of the path find, as far as it is known: no name is compared where
-/// that was found under the struct that stands there.
+/// No name is compared where a field of the call was found under the struct that stands there.
 ///
 /// Whether the call is done isn't looked at: a caller tests that on a reader first. One that the
 /// record machine does is refused only by a size past a limit of the format, or by a refusal that
@@ -79,23 +79,28 @@ pub fn write_path<A: BuilderArena>(
     arena: &mut A,
     object: StructPlace,
     schema: StructSchema<'_>,
-    path: &[Step],
-    way: &[FoundField],
-    action: &Action,
+    call: &Resolved<'_>,
 ) -> Result<()>
     requires there { IsThere (words_in (A.segments arena.old)) object }
     requires wide { HoldsShape object (shape_of_struct schema) }
-    requires way { IsWay (schema_around schema) (map step_view path.now) way.now }
+    requires resolved { IsResolved schema call.now }
     ensures writes { OnOk result (WritesPath (words_in (A.segments arena.old))
-        (words_in (A.segments arena.new)) object schema.entry (map step_view path.now)
-        (action_view action.now)) }
+        (words_in (A.segments arena.new)) object schema.entry (call_of call.now).path
+        (call_of call.now).verb) }
     ensures grows { BytesGrowAround (A.segments arena.old) (A.segments arena.new) object }
     ensures cause { IfErr result (λ e. WhereDone (words_in (A.segments arena.old)) object
-        schema.entry (map step_view path.now) (action_view action.now)
+        schema.entry (call_of call.now).path (call_of call.now).verb
         (IsSizeOrRefusal A.refuses e)) }
     ensures books { A.books arena.new ≡ A.books arena.old }
 {
-    write_steps(arena, object, schema, path, way, action)
+    write_steps(
+        arena,
+        object,
+        schema,
+        call.path(),
+        call.fields(),
+        call.action(),
+    )
 }
 
 /// Writes a call along its path at a struct, as `write_path`, where the record machine does it as

@@ -12,7 +12,7 @@ use Rattle.capnp_model.specs.Schemas.{width}
 use Rattle.capnp_values.specs.ListSizes.{size_of}
 use Rattle.capnp_values.specs.Sources.{read_behind, default_pointer, masked_bits}
 use Rattle.capnp_values.specs.Shown.{Shown, a_text, a_blob, a_struct, a_list, number_shown, shown_behind, segment_opened, default_opened, slot_opened, slot_shown, kind_shown, element_shown}
-use Rattle.capnp_calls.specs.declared.ways.FoundField.{FoundField}
+use Rattle.capnp_calls.specs.declared.find.FoundField.{FoundField}
 use Rattle.capnp_calls.specs.Ways.{IsWay}
 use Rattle.capnp_calls_replies.specs.Parts.{IsWayIn}
 

@@ -18,7 +18,7 @@ use Rattle.capnp_values.specs.Shown.{Shown, a_number, an_enum, a_text, a_blob, a
 use Rattle.capnp_values.specs.Standing.{IsRecord, AreItems}
 use Rattle.capnp_model.specs.ActiveMembers.{element_of as reading_of}
 use Rattle.capnp_calls.specs.Ways.{IsWay}
-use Rattle.capnp_calls.specs.declared.ways.FoundField.{FoundField}
+use Rattle.capnp_calls.specs.declared.find.FoundField.{FoundField}
 
 -- The machine's reply along a path at a record.
 abbrev pub record_reply : Schema → Fields → List Step → Verb → Record → Reply

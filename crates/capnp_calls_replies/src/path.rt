@@ -14,10 +14,9 @@ ghost use Rattle.capnp_calls_replies.specs.Parts.{IsWayIn, RepliesBehind, Replie
 
 use crate::active::is_active;
 use crate::ends::{element_end, field_end};
-use capnp_calls::find::{find_field, rest_of_way};
+use capnp_calls::find::{FoundField, find_field, rest_of_way};
 use capnp_calls::reply::Reply;
 use capnp_calls::steps::{first_index, first_name};
-use capnp_calls::ways::FoundField;
 use capnp_calls::{Action, Step};
 use capnp_units::errors::Result;
 use capnp_units::kinds::ErrorKind;

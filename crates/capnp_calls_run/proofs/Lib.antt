@@ -1,10 +1,7 @@
-mod PathEnds
-mod LongPuts
 mod Standing
 mod OneCall
 mod Levels
 mod Tested
 mod InTurn
 mod AtRoot
-mod CallWays
 mod Stopped

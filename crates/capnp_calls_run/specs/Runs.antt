@@ -1,10 +1,10 @@
 -- Calls in turn at a struct of a message, where it lies. (Encoding, "Structs")
-use Rattle.std.specs.Prelude.{◌≡◌, ℕ, suc, ◌^◌, ◌<◌, ◌≤◌, ◌⊎◌, Bool, true, false, List, [], ◌∷◌, ◌++◌}
+use Rattle.std.specs.Prelude.{◌≡◌, ℕ, suc, ◌^◌, ◌<◌, ◌≤◌, ◌⊎◌, false, List, [], ◌∷◌, ◌++◌}
 use Rattle.capnp_model.specs.Segments.{Segments, root}
 use Rattle.capnp_model.specs.Coverage.{Grows}
 use Rattle.capnp_model.specs.Trees.{Tree, Trees, structure}
 use Rattle.capnp_model.specs.Schemas.{words_of_shape, pointers_of_shape}
-use Rattle.capnp_model.specs.Calls.{CallValue, whole_number, truth, enumerant, text_value, blob_value, message, Verb, get, set_to, init, initn, clear, Call}
+use Rattle.capnp_model.specs.Calls.{Call}
 use Rattle.capnp_model.specs.Steps.{step}
 use Rattle.capnp_model.specs.Edits.{edit}
 use Rattle.capnp_model.specs.CallRuns.{records_after}
@@ -20,7 +20,7 @@ use Rattle.capnp_values_queries.specs.declared.structs.StructSchema.{StructSchem
 use Rattle.capnp_units.specs.declared.errors.Error.{Error}
 use Rattle.capnp_units.specs.declared.kinds.ErrorKind.TheVariants.{OutOfMemory, SizeOverflow}
 use Rattle.capnp_copy_widening.specs.Widened.{WideStructRefused, IsStructOrNull}
-use Rattle.capnp_calls.specs.LongLists.{content_put, PutsLong, LongInTurn}
+use Rattle.capnp_calls.specs.LongLists.{content_put, sets_message, PutsLong, LongInTurn}
 use Rattle.capnp_calls.specs.Sizes.{content_len, IsDone}
 use Rattle.capnp_calls_run.specs.declared.fault.RunFault.{RunFault}
 use Rattle.capnp_calls_run.specs.declared.fault.RunFault.TheVariants as faults
@@ -82,23 +82,6 @@ EndsLongAt s p schema calls =
 abbrev pub EndsLongRoot : Segments → StructSchema → List Call → Type 0
 EndsLongRoot s schema calls =
     (n : ℕ) (t : Tree) → 2 ^ 29 ≤ n → Owns (suc n) s root t → LongInTurn schema calls (widened_root (shape_of_struct schema) t)
-
--- A value is a message's.
-abbrev pub is_message : CallValue → Bool
-is_message (whole_number z) = false
-is_message (truth b) = false
-is_message (enumerant n) = false
-is_message (text_value bs) = false
-is_message (blob_value bs) = false
-is_message (message t) = true
-
--- A verb sets the value of a message.
-abbrev pub sets_message : Verb → Bool
-sets_message get = false
-sets_message (set_to v) = is_message v
-sets_message init = false
-sets_message (initn n) = false
-sets_message clear = false
 
 -- No list that the call puts is too long; lists in values of messages aren't told.
 abbrev pub PutsShortList : StructSchema → Call → Type 0

@@ -14,14 +14,14 @@ use crate::fault::RunFault;
 use crate::run::run_at;
 use capnp_calls::Call;
 use capnp_calls::reply::Reply;
-use capnp_calls::ways::Ways;
+use capnp_calls::resolved::resolve;
 use capnp_copy_arenas::arena::BuilderArena;
 use capnp_schema_structs::dynamic_struct;
 use std::alloc::Global;
 
-/// Answers calls in turn at the struct of a builder, as `run_at` does, whose refusals it has, with
-/// ways that are found first. Memory for these that is refused is `Refused` too, before any call.
-/// The handle stays where it was.
+/// Answers calls in turn at the struct of a builder, as `run_at` does, whose refusals it has. The
+/// calls are resolved first, and memory for that which is refused is `Refused` too. The handle stays
+/// where it was.
 pub fn run<A: BuilderArena>(
     alloc: Global,
     root: &mut dynamic_struct::Builder<'_, A>,
@@ -41,6 +41,6 @@ pub fn run<A: BuilderArena>(
     ensures books { A.books root.new.memory.now.arena ≡ A.books root.old.memory.now.arena }
 {
     let (place, schema) = (root.place, root.schema);
-    let ways = Ways::new(alloc, schema, calls)?;
-    run_at(alloc, &mut root.memory.arena, place, schema, calls, &ways)
+    let resolved = resolve(alloc, schema, calls)?;
+    run_at(alloc, &mut root.memory.arena, place, schema, &resolved)
 }

@@ -4,6 +4,5 @@
 
 pub mod builder;
 pub mod fault;
-mod long;
 pub mod root;
 pub mod run;

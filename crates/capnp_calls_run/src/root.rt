@@ -5,19 +5,16 @@ ghost use Rattle.capnp_model.specs.Segments.{root, words_at};
 ghost use Rattle.capnp_units.specs.Segments.{words_in};
 ghost use Rattle.capnp_copy_arenas.specs.Deep.{IsDeep};
 ghost use Rattle.capnp_copy_arenas.specs.Refusals.{IsSizeOrRefusal};
-ghost use Rattle.capnp_values_queries.specs.Structs.{schema_around};
-ghost use Rattle.capnp_calls.specs.CallViews.{call_view};
 ghost use Rattle.capnp_calls.specs.Replies.{reply_view};
+ghost use Rattle.capnp_calls.specs.Resolved.{calls_of, AreResolved};
 ghost use Rattle.capnp_calls.specs.Roots.{IsRoot};
-ghost use Rattle.capnp_calls.specs.Ways.{AreWays};
 ghost use Rattle.capnp_calls_run.specs.declared.fault.RunFault.{RunFault};
 ghost use Rattle.capnp_calls_run.specs.Runs.{RunsRoot, EndsLongRoot, StopsRoot};
 
 use crate::fault::RunFault;
 use crate::run::run_at;
-use capnp_calls::Call;
 use capnp_calls::reply::Reply;
-use capnp_calls::ways::Ways;
+use capnp_calls::resolved::Resolved;
 use capnp_copy_arenas::arena::BuilderArena;
 use capnp_copy_widening::structs::get_struct;
 use capnp_model_writes::laws::{changes_of_values, objects_of_pointers};
@@ -36,21 +33,20 @@ pub fn run_root<A: BuilderArena>(
     alloc: Global,
     arena: &mut A,
     schema: StructSchema<'_>,
-    calls: &[Call],
-    ways: &Ways,
+    calls: &[Resolved<'_>],
 ) -> Result<Vec<Reply>, RunFault>
     requires arena { IsDeep A.segments A.nesting }
     requires there { is_some (words_at (words_in (A.segments arena.old)) root 1) ≡ true }
     requires root { IsRoot schema }
-    requires ways { AreWays (schema_around schema) (map call_view calls.now) ways.now }
+    requires resolved { AreResolved schema calls.now }
     ensures all { IfOk result (λ told. RunsRoot (words_in (A.segments arena.old))
-        (words_in (A.segments arena.new)) schema.entry (map call_view calls.now)
+        (words_in (A.segments arena.new)) schema.entry (calls_of calls.now)
         (map reply_view told.items)) }
     ensures size { result ≡ Err RunFault.Size → EndsLongRoot (words_in (A.segments arena.old))
-        schema.entry (map call_view calls.now) }
+        schema.entry (calls_of calls.now) }
     ensures stops { IfErr result (StopsRoot (IsSizeOrRefusal A.refuses)
         (words_in (A.segments arena.old)) (words_in (A.segments arena.new)) schema.entry
-        (map call_view calls.now)) }
+        (calls_of calls.now)) }
     ensures books { A.books arena.new ≡ A.books arena.old }
 {
     changes_of_values();
@@ -58,5 +54,5 @@ pub fn run_root<A: BuilderArena>(
     depths_of_owned_values();
     objects_of_pointers();
     let object = get_struct(arena, ROOT, struct_size(schema))?;
-    run_at(alloc, arena, object, schema, calls, ways)
+    run_at(alloc, arena, object, schema, calls)
 }

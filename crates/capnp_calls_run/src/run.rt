@@ -11,23 +11,21 @@ ghost use Rattle.capnp_copy_arenas.specs.Structs.{object_of_struct};
 ghost use Rattle.capnp_wire_objects.specs.Places.{place_view};
 ghost use Rattle.capnp_wire.specs.Views as views;
 ghost use Rattle.capnp_values.specs.Sources.{struct_seen};
-ghost use Rattle.capnp_values_queries.specs.Structs.{schema_around, shape_of_struct, id_of};
+ghost use Rattle.capnp_values_queries.specs.Structs.{shape_of_struct, id_of};
+ghost use Rattle.capnp_values_queries.specs.declared.structs.StructSchema.{StructSchema as AnySchema};
 ghost use Rattle.capnp_schema_structs.specs.Edits.{IsThere, HoldsShape};
-ghost use Rattle.capnp_calls.specs.CallViews.{call_view};
 ghost use Rattle.capnp_calls.specs.Replies.{reply_view};
+ghost use Rattle.capnp_calls.specs.Resolved.{call_of, calls_of, IsResolved, AreResolved};
 ghost use Rattle.capnp_calls.specs.Roots.{IsRoot};
 ghost use Rattle.capnp_model.specs.Printing.{as_it_is};
-ghost use Rattle.capnp_calls.specs.Ways.{IsWay, AreWays};
 ghost use Rattle.capnp_units.specs.declared.kinds.ErrorKind.{ErrorKind};
 ghost use Rattle.capnp_calls_run.specs.declared.fault.RunFault.{RunFault};
 ghost use Rattle.capnp_calls_run.specs.Runs.{TestsAt, AnswersAt, PutsLongAt, TellsWhy, FailsAt, RunsAt, EndsLongAt, StopsAt};
 
 use crate::fault::RunFault;
-use crate::long::puts_long;
-use capnp_calls::Call;
-use capnp_calls::laws::{calls_are_given, roots_are_no_groups};
+use capnp_calls::laws::roots_are_no_groups;
 use capnp_calls::reply::Reply;
-use capnp_calls::ways::{FoundField, Ways};
+use capnp_calls::resolved::Resolved;
 use capnp_calls_edits::path::write_path;
 use capnp_calls_replies::root::reply_to;
 use capnp_copy_arenas::arena::BuilderArena;
@@ -65,28 +63,28 @@ fn test<A: ReaderArena>(
     arena: &A,
     object: StructPlace,
     schema: StructSchema<'_>,
-    call: &Call,
-    way: &[FoundField],
+    call: &Resolved<'_>,
 ) -> errors::Result<Reply>
     requires arena { IsDeep A.segments A.nesting }
     requires there { IsThere (words_in (A.segments arena.now)) object }
-    requires way { IsWay (schema_around schema) (call_view call.now).path way.now }
+    requires resolved { IsResolved schema call.now }
     ensures replied { IfOk result (λ r.
-        TestsAt (words_in (A.segments arena.now)) object schema.entry (call_view call.now)
+        TestsAt (words_in (A.segments arena.now)) object schema.entry (call_of call.now)
         (reply_view r)) }
     ensures memory { IfErr result (λ e. e.kind ≡ ErrorKind.OutOfMemory) }
 {
     changes_with_fewer_levels();
     depths_of_owned_values();
-    reply_to(alloc, struct_of(arena, object, schema), call, way)
+    reply_to(alloc, struct_of(arena, object, schema), call)
 }
 
 /// Why a call that is done at the struct wasn't written there.
-fn fault_of(schema: StructSchema<'_>, call: &Call, error: Error) -> RunFault
-    ensures { TellsWhy schema.entry (call_view call.now) error result }
+fn fault_of(call: &Resolved<'_>, error: Error) -> RunFault
+    ensures { (schema : AnySchema) → IsResolved schema call.now
+        → TellsWhy schema (call_of call.now) error result }
 {
     match error.kind {
-        ErrorKind::SizeOverflow if puts_long(schema, call) => RunFault::Size,
+        ErrorKind::SizeOverflow if call.is_long() => RunFault::Size,
         _ => RunFault::Refused(error),
     }
 }
@@ -98,20 +96,19 @@ fn answer<A: BuilderArena>(
     arena: &mut A,
     object: StructPlace,
     schema: StructSchema<'_>,
-    call: &Call,
-    way: &[FoundField],
+    call: &Resolved<'_>,
 ) -> Result<Reply, RunFault>
     requires arena { IsDeep A.segments A.nesting }
     requires near { object.start.position + (object.data_words + object.pointers) < 2 ^ 61 }
     requires wide { HoldsShape object (shape_of_struct schema) }
-    requires way { IsWay (schema_around schema) (call_view call.now).path way.now }
+    requires resolved { IsResolved schema call.now }
     ensures answer { IfOk result (λ r. AnswersAt (words_in (A.segments arena.old))
-        (words_in (A.segments arena.new)) object schema.entry (call_view call.now)
+        (words_in (A.segments arena.new)) object schema.entry (call_of call.now)
         (reply_view r)) }
     ensures stops { IfErr result (FailsAt (IsSizeOrRefusal A.refuses) (words_in (A.segments arena.old))
-        (words_in (A.segments arena.new)) object schema.entry (call_view call.now)) }
+        (words_in (A.segments arena.new)) object schema.entry (call_of call.now)) }
     ensures size { result ≡ Err RunFault.Size
-        → PutsLongAt (words_in (A.segments arena.old)) object schema.entry (call_view call.now) }
+        → PutsLongAt (words_in (A.segments arena.old)) object schema.entry (call_of call.now) }
     ensures books { A.books arena.new ≡ A.books arena.old }
 {
     changes_of_objects();
@@ -121,11 +118,11 @@ fn answer<A: BuilderArena>(
     if !has_words(arena, object.start, words) {
         return Err(RunFault::Refused(Error::from(ErrorKind::OutOfBounds)));
     }
-    let reply = test(alloc, arena, object, schema, call, way)?;
+    let reply = test(alloc, arena, object, schema, call)?;
     match reply {
-        Reply::Done => match write_path(arena, object, schema, call.path(), way, call.action()) {
+        Reply::Done => match write_path(arena, object, schema, call) {
             Ok(()) => Ok(Reply::Done),
-            Err(error) => Err(fault_of(schema, call, error)),
+            Err(error) => Err(fault_of(call, error)),
         },
         other => Ok(other),
     }
@@ -135,9 +132,9 @@ fn answer<A: BuilderArena>(
 /// is that of the record machine, and the struct becomes what the edits make of it. A refused call
 /// and a `get` change nothing, and don't stop the next.
 ///
-/// The struct has at least its schema's two sizes. The ways say what the names of the calls' paths
-/// find under the schema, so that none is looked for here. `Size`: a call that is done puts a text
-/// or data of 2^29 bytes or more with its last zero, or a list of structs of 2^29 words or more.
+/// The struct has at least its schema's two sizes. The calls are resolved under the schema, so that
+/// no name is looked for here. `Size`: a call that is done puts a text or data of 2^29 bytes or more
+/// with its last zero, or a list of structs of 2^29 words or more.
 /// `Refused` is
 /// - `OutOfBounds`: the struct isn't there;
 /// - `SizeOverflow`, of the arena: the words of the message would pass 2^29 - 1;
@@ -149,31 +146,28 @@ pub fn run_at<A: BuilderArena>(
     arena: &mut A,
     object: StructPlace,
     schema: StructSchema<'_>,
-    calls: &[Call],
-    ways: &Ways,
+    calls: &[Resolved<'_>],
 ) -> Result<Vec<Reply>, RunFault>
     requires arena { IsDeep A.segments A.nesting }
     requires near { object.start.position + (object.data_words + object.pointers) < 2 ^ 61 }
     requires wide { HoldsShape object (shape_of_struct schema) }
     requires root { IsRoot schema }
-    requires ways { AreWays (schema_around schema) (map call_view calls.now) ways.now }
+    requires resolved { AreResolved schema calls.now }
     ensures all { IfOk result (λ told. RunsAt (words_in (A.segments arena.old))
-        (words_in (A.segments arena.new)) object schema.entry (map call_view calls.now)
+        (words_in (A.segments arena.new)) object schema.entry (calls_of calls.now)
         (map reply_view told.items)) }
     ensures stops { IfErr result (StopsAt (IsSizeOrRefusal A.refuses) (words_in (A.segments arena.old))
-        (words_in (A.segments arena.new)) object schema.entry (map call_view calls.now)) }
+        (words_in (A.segments arena.new)) object schema.entry (calls_of calls.now)) }
     ensures size { result ≡ Err RunFault.Size → EndsLongAt (words_in (A.segments arena.old))
-        object schema.entry (map call_view calls.now) }
+        object schema.entry (calls_of calls.now) }
     ensures books { A.books arena.new ≡ A.books arena.old }
 {
     records_after_calls();
-    calls_are_given();
     roots_are_no_groups();
     changes_of_objects();
     let mut replies = Vec::new(alloc);
     for call in calls {
-        let way = ways.of(replies.len());
-        replies.push(answer(alloc, arena, object, schema, call, way)?)?;
+        replies.push(answer(alloc, arena, object, schema, call)?)?;
     }
     Ok(replies)
 }

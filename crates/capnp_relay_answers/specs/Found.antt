@@ -1,16 +1,11 @@
 -- What is known, once, of what calls at the roots of messages put.
-use Rattle.std.specs.Prelude.{◌≡◌, ℕ, List, map, ⊤}
+use Rattle.std.specs.Prelude.{◌≡◌, ℕ, List, ⊤}
 use Rattle.capnp_model.specs.Trees.{Tree}
 use Rattle.capnp_model.specs.Fits.{Fits}
 use Rattle.capnp_model.specs.Trimming.{trim}
 use Rattle.capnp_model.specs.Encoding.{canonical_words}
 use Rattle.capnp_model.specs.Calls.{Call}
 use Rattle.capnp_values_queries.specs.declared.structs.StructSchema.{StructSchema}
-use Rattle.capnp_values_queries.specs.Structs.{schema_around}
-use Rattle.capnp_calls.specs.declared.call.Call.{Call as GivenCall}
-use Rattle.capnp_calls.specs.CallViews.{call_view}
-use Rattle.capnp_calls.specs.declared.ways.Ways.{Ways}
-use Rattle.capnp_calls.specs.Ways.{AreWays, AreWays-prop}
 use Rattle.capnp_wire_canonical.specs.Writes.{filled}
 use Rattle.capnp_calls_splice.specs.Splices.{StandsWithin}
 use Rattle.capnp_calls_in_place.specs.PlainSets.{ArePlain, SetsWords}
@@ -29,10 +24,3 @@ IsFound schema calls founds.Unknown = ⊤
 pub record SetsFront (schema : StructSchema) (calls : List Call) (old : List ℕ) (into : List (List ℕ)) (count : ℕ) : Type 0 where
   pub sets : (t : Tree) → Fits t → trim t ≡ t → old ≡ canonical_words t → SetsWords schema calls t (filled count into)
   pub stands : StandsWithin into count
-
--- The ways of calls, under the schema of a root; that they are has at most one proof.
-abbrev pub HasWays : StructSchema → List GivenCall → Ways → Type 0
-HasWays schema calls ways = AreWays (schema_around schema) (map call_view calls) ways
-
-pub HasWays-prop : (schema : StructSchema) (calls : List GivenCall) (ways : Ways) → IsProp (HasWays schema calls ways)
-HasWays-prop schema calls ways = AreWays-prop (schema_around schema) (map call_view calls) ways

@@ -1,7 +1,7 @@
 -- What a clause reads of calls at the roots of messages.
-use Rattle.std.specs.Prelude.{List, map}
+use Rattle.std.specs.Prelude.{List}
 use Rattle.capnp_model.specs.Calls.{Call}
-use Rattle.capnp_calls.specs.CallViews.{call_view}
+use Rattle.capnp_calls.specs.Resolved.{calls_of}
 use Rattle.capnp_values_queries.specs.declared.structs.StructSchema.{StructSchema}
 use Rattle.capnp_relay_answers.specs.declared.root_calls.RootCalls.{RootCalls}
 
@@ -11,4 +11,4 @@ root_schema c = c.schema
 
 -- The calls, in turn.
 abbrev pub root_calls : RootCalls → List Call
-root_calls c = map call_view c.calls.now
+root_calls c = calls_of c.calls.items

@@ -99,8 +99,7 @@ fn answer_over<L: Allocator, M: ReaderArena>(
         count,
         bounds.nesting,
         calls.schema,
-        calls.calls,
-        &calls.ways,
+        &calls.calls,
         words,
     );
     let _allocator = builder.into_allocator();

@@ -6,14 +6,12 @@ ghost use Rattle.capnp_model.specs.Segments.{root, words_at};
 ghost use Rattle.capnp_model.specs.Trees.{Tree, depth};
 ghost use Rattle.capnp_model.specs.Traversal.{tree_at};
 ghost use Rattle.capnp_units.specs.Segments.{words_in};
-ghost use Rattle.capnp_calls.specs.CallViews.{call_view};
+ghost use Rattle.capnp_calls.specs.Resolved.{calls_of, AreResolved};
 ghost use Rattle.capnp_calls.specs.Roots.{IsRoot};
 ghost use Rattle.capnp_wire_canonical.specs.Writes.{filled};
 ghost use Rattle.capnp_copy_arenas.specs.Deep.{IsDeep};
 ghost use Rattle.capnp_copy_arenas.specs.Memory.{AllZero};
 ghost use Rattle.capnp_message.specs.Built.{loans_held};
-ghost use Rattle.capnp_values_queries.specs.Structs.{schema_around};
-ghost use Rattle.capnp_calls.specs.Ways.{AreWays};
 ghost use Rattle.capnp_calls.specs.Replies.{reply_view};
 ghost use Rattle.capnp_relay_loop.specs.MessageAnswers.{each_segment_bytes};
 ghost use Rattle.capnp_relay_loop.specs.declared.answer.Want.{Want};
@@ -26,9 +24,8 @@ use crate::built::want_after;
 use crate::near::only_segment;
 use crate::reading::{STACK_LEVELS, copy_segment};
 use crate::root_calls::RootCalls;
-use capnp_calls::Call;
 use capnp_calls::reply::Reply;
-use capnp_calls::ways::Ways;
+use capnp_calls::resolved::Resolved;
 use capnp_calls_run::root::run_root;
 use capnp_copy_arenas::allocator::Allocator;
 use capnp_copy_arenas::arena::BuilderArena;
@@ -144,25 +141,24 @@ fn answer_plain_root<A: BuilderArena>(
     arena: &mut A,
     levels: u32,
     schema: StructSchema<'_>,
-    calls: &[Call],
-    ways: &Ways,
+    calls: &[Resolved<'_>],
     words: &mut Vec<Word>,
 ) -> Result<MessageAnswer, Want>
     requires arena { IsDeep A.segments A.nesting }
     requires there { is_some (words_at (words_in (A.segments arena.old)) root 1) ≡ true }
     requires root { IsRoot schema }
-    requires ways { AreWays (schema_around schema) (map call_view calls.now) ways.now }
+    requires resolved { AreResolved schema calls.now }
     ensures all { IfOk result (λ a. AtRoot schema.entry levels (words_in (A.segments arena.old))
-        (λ t. AnswersPlainStruct schema.entry (map call_view calls.now) levels words.new.items t a)) }
+        (λ t. AnswersPlainStruct schema.entry (calls_of calls.now) levels words.new.items t a)) }
     ensures size { result ≡ Err Want.Size → AtRoot schema.entry levels
-        (words_in (A.segments arena.old)) (IsLongPlain schema.entry (map call_view calls.now) levels) }
+        (words_in (A.segments arena.old)) (IsLongPlain schema.entry (calls_of calls.now) levels) }
     ensures books { A.books arena.new ≡ A.books arena.old }
 {
     changes_of_values();
     changes_with_fewer_levels();
     values_as_a_relation();
     values_that_are_read();
-    let replies = match run_root(alloc, arena, schema, calls, ways) {
+    let replies = match run_root(alloc, arena, schema, calls) {
         Ok(replies) => replies,
         Err(fault) => return Err(want_after(fault)),
     };
@@ -182,18 +178,17 @@ fn answer_plain_built<A: Allocator>(
     count: usize,
     levels: u32,
     schema: StructSchema<'_>,
-    calls: &[Call],
-    ways: &Ways,
+    calls: &[Resolved<'_>],
     words: &mut Vec<Word>,
 ) -> Result<MessageAnswer, Want>
     requires empty { builder.old.memory.arena.segments.items ≡ [] }
     requires count { (0 < count) × (count < 2 ^ 29) × (count ≤ length words.old.items) }
     requires root { IsRoot schema }
-    requires ways { AreWays (schema_around schema) (map call_view calls.now) ways.now }
+    requires resolved { AreResolved schema calls.now }
     ensures all { IfOk result (λ a. AtWords schema.entry levels (filled count words.old.items)
-        (λ t. AnswersPlainStruct schema.entry (map call_view calls.now) levels words.new.items t a)) }
+        (λ t. AnswersPlainStruct schema.entry (calls_of calls.now) levels words.new.items t a)) }
     ensures size { result ≡ Err Want.Size → AtWords schema.entry levels
-        (filled count words.old.items) (IsLongPlain schema.entry (map call_view calls.now) levels) }
+        (filled count words.old.items) (IsLongPlain schema.entry (calls_of calls.now) levels) }
     ensures place { A.place builder.new.memory.arena.allocator
         ≡ A.place builder.old.memory.arena.allocator }
     ensures loans { loans_held builder.new.memory.arena
@@ -208,7 +203,6 @@ fn answer_plain_built<A: Allocator>(
         levels,
         schema,
         calls,
-        ways,
         words,
     )
 }
@@ -243,8 +237,7 @@ fn answer_plain_over<L: Allocator, M: ReaderArena>(
         count,
         bounds.nesting,
         calls.schema,
-        calls.calls,
-        &calls.ways,
+        &calls.calls,
         words,
     );
     let _allocator = builder.into_allocator();

@@ -1,15 +1,13 @@
 //! The answer of calls to a value that is built.
-ghost use Rattle.std.specs.Prelude.{◌≡◌, ◌≤◌, ◌<◌, ◌^◌, true, map, length, Err, IfOk, ◌++◌, []};
+ghost use Rattle.std.specs.Prelude.{◌≡◌, ◌≤◌, ◌<◌, ◌^◌, true, length, Err, IfOk, ◌++◌, []};
 ghost use Rattle.std.specs.Option.{is_some};
 ghost use Rattle.std.specs.List.{flat_map};
 ghost use Rattle.capnp_model.specs.Segments.{root, words_at};
 ghost use Rattle.capnp_units.specs.Segments.{words_in};
-ghost use Rattle.capnp_calls.specs.CallViews.{call_view};
+ghost use Rattle.capnp_calls.specs.Resolved.{calls_of, AreResolved};
 ghost use Rattle.capnp_calls.specs.Roots.{IsRoot};
 ghost use Rattle.capnp_copy_arenas.specs.Deep.{IsDeep};
 ghost use Rattle.capnp_message.specs.Built.{loans_held};
-ghost use Rattle.capnp_values_queries.specs.Structs.{schema_around};
-ghost use Rattle.capnp_calls.specs.Ways.{AreWays};
 ghost use Rattle.capnp_calls_run.specs.Runs.{EndsLongRoot};
 ghost use Rattle.capnp_relay_loop.specs.declared.answer.Want.{Want};
 ghost use Rattle.capnp_relay_answers.specs.Answers.{AnswersRoot, AnswersWords, LongFromWords, want_of};
@@ -17,8 +15,7 @@ ghost use Rattle.capnp_wire_canonical.specs.Writes.{filled};
 
 use crate::answer::{MessageAnswer, Reason, Want};
 use crate::reading::{STACK_LEVELS, make_room};
-use capnp_calls::Call;
-use capnp_calls::ways::Ways;
+use capnp_calls::resolved::Resolved;
 use capnp_calls_run::fault::RunFault;
 use capnp_calls_run::root::run_root;
 use capnp_copy_arenas::allocator::Allocator;
@@ -62,18 +59,17 @@ fn answer_root<A: BuilderArena>(
     arena: &mut A,
     levels: u32,
     schema: StructSchema<'_>,
-    calls: &[Call],
-    ways: &Ways,
+    calls: &[Resolved<'_>],
     words: &mut Vec<Word>,
 ) -> Result<MessageAnswer, Want>
     requires arena { IsDeep A.segments A.nesting }
     requires there { is_some (words_at (words_in (A.segments arena.old)) root 1) ≡ true }
     requires root { IsRoot schema }
-    requires ways { AreWays (schema_around schema) (map call_view calls.now) ways.now }
-    ensures all { IfOk result (AnswersRoot schema.entry (map call_view calls.now) levels
+    requires resolved { AreResolved schema calls.now }
+    ensures all { IfOk result (AnswersRoot schema.entry (calls_of calls.now) levels
         (words_in (A.segments arena.old)) words.new.items) }
     ensures size { result ≡ Err Want.Size → EndsLongRoot (words_in (A.segments arena.old))
-        schema.entry (map call_view calls.now) }
+        schema.entry (calls_of calls.now) }
     ensures books { A.books arena.new ≡ A.books arena.old }
 {
     changes_of_values();
@@ -82,7 +78,7 @@ fn answer_root<A: BuilderArena>(
     values_that_are_read();
     trimmed_values();
     words_mean_their_value();
-    let replies = match run_root(alloc, arena, schema, calls, ways) {
+    let replies = match run_root(alloc, arena, schema, calls) {
         Ok(replies) => replies,
         Err(fault) => return Err(want_after(fault)),
     };
@@ -109,17 +105,16 @@ pub(crate) fn answer_built<A: Allocator>(
     count: usize,
     levels: u32,
     schema: StructSchema<'_>,
-    calls: &[Call],
-    ways: &Ways,
+    calls: &[Resolved<'_>],
     words: &mut Vec<Word>,
 ) -> Result<MessageAnswer, Want>
     requires empty { builder.old.memory.arena.segments.items ≡ [] }
     requires count { (0 < count) × (count < 2 ^ 29) × (count ≤ length words.old.items) }
     requires root { IsRoot schema }
-    requires ways { AreWays (schema_around schema) (map call_view calls.now) ways.now }
-    ensures all { IfOk result (AnswersWords schema.entry (map call_view calls.now) levels
+    requires resolved { AreResolved schema calls.now }
+    ensures all { IfOk result (AnswersWords schema.entry (calls_of calls.now) levels
         (filled count words.old.items) words.new.items) }
-    ensures size { result ≡ Err Want.Size → LongFromWords schema.entry (map call_view calls.now)
+    ensures size { result ≡ Err Want.Size → LongFromWords schema.entry (calls_of calls.now)
         levels (filled count words.old.items) }
     ensures place { A.place builder.new.memory.arena.allocator
         ≡ A.place builder.old.memory.arena.allocator }
@@ -135,7 +130,6 @@ pub(crate) fn answer_built<A: Allocator>(
         levels,
         schema,
         calls,
-        ways,
         words,
     )
 }

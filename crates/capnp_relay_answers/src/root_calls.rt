@@ -8,16 +8,17 @@ ghost use Rattle.capnp_model.specs.Encoding.{canonical_words};
 ghost use Rattle.capnp_model.specs.Calls.{Call as ModelCall};
 ghost use Rattle.capnp_values_queries.specs.declared.structs.StructSchema.{StructSchema as AnySchema};
 ghost use Rattle.capnp_calls.specs.CallViews.{call_view};
+ghost use Rattle.capnp_calls.specs.Resolved.{calls_of, AreResolved, AreResolved-prop};
 ghost use Rattle.capnp_calls.specs.Roots.{IsRoot};
 ghost use Rattle.capnp_wire_canonical.specs.Writes.{filled};
 ghost use Rattle.capnp_calls_in_place.specs.PlainSets.{ArePlain, SetsWords};
 ghost use Rattle.capnp_calls_in_place.specs.CallSplices.{AreCallSplices};
 ghost use Rattle.capnp_calls_splice.specs.Splices.{StandsWithin};
-ghost use Rattle.capnp_relay_answers.specs.Found.{IsFound, SetsFront, HasWays, HasWays-prop};
+ghost use Rattle.capnp_relay_answers.specs.Found.{IsFound, SetsFront};
 
 use crate::found::{Found, find_puts};
 use capnp_calls::Call;
-use capnp_calls::ways::Ways;
+use capnp_calls::resolved::{Resolved, resolve};
 use capnp_calls_in_place::sets::write_sets;
 use capnp_calls_in_place::splices::write_splices;
 use capnp_calls_splice::plain::PlainSet;
@@ -54,25 +55,22 @@ fn put_splices(words: &mut Vec<Word>, count: usize, splices: &[Splice]) -> Resul
 }
 
 /// Calls at the roots of messages, under the schema of a root. Where each sets a plain field, a
-/// text or data, what they put and where is found once, and not for each message. So is, of each
-/// call, what the names of its path find.
+/// text or data, what they put and where is found once, and not for each message.
 #[derive(Drop)]
 pub struct RootCalls<'a> {
     pub(crate) schema: StructSchema<'a>,
-    pub(crate) calls: &'a [Call],
+    pub(crate) calls: Vec<Resolved<'a>>,
     found: Found,
-    pub(crate) ways: Ways,
     pub ghost root: { IsRoot schema },
-    ghost known: { ∥ IsFound schema (map call_view calls.now) found ∥₁ },
-    pub ghost lead: { HasWays schema calls.now ways } by { HasWays-prop schema calls.now ways },
+    ghost known: { ∥ IsFound schema (calls_of calls.items) found ∥₁ },
+    pub ghost resolved: { AreResolved schema calls.items } by { AreResolved-prop schema calls.items },
 }
 
 impl<'a> RootCalls<'a> {
     ghost use Rattle.capnp_relay_answers.specs.RootCalls.{root_schema, root_calls};
 
-    /// These calls, at roots of this schema. What the names of their paths find is looked for here,
-    /// once, which takes stack for each step. `OutOfMemory`: memory for that, or for what they put,
-    /// was refused.
+    /// These calls, at roots of this schema, resolved here, once. `OutOfMemory`: memory for that was
+    /// refused.
     pub fn new(alloc: Global, schema: StructSchema<'a>, calls: &'a [Call]) -> Result<RootCalls<'a>>
         requires { IsRoot schema }
         ensures schema { IfOk result (λ c. root_schema c ≡ schema.entry) }
@@ -80,12 +78,11 @@ impl<'a> RootCalls<'a> {
         ensures kind { IfErr result (λ e. e.kind ≡ ErrorKind.OutOfMemory) }
     {
         let found = find_puts(alloc, schema, calls)?;
-        let ways = Ways::new(alloc, schema, calls)?;
+        let calls = resolve(alloc, schema, calls)?;
         Ok(RootCalls {
             schema,
             calls,
             found,
-            ways,
         })
     }
 

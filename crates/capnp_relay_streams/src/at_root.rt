@@ -1,7 +1,7 @@
 //! Calls at the roots of messages.
 
 use crate::message::{Message, indexed};
-use capnp_calls::laws::{calls_are_given, roots_are_no_groups};
+use capnp_calls::laws::roots_are_no_groups;
 use capnp_model::laws::records_of_trimmed_values;
 use capnp_model::laws_of_edits::{records_after_calls, records_of_written_values};
 use capnp_relay_answers::answer::{MessageAnswer, Want, answer_in_place};
@@ -38,7 +38,6 @@ impl<'a> Answers for CallsAtRoot<'a> {
         words: &mut Vec<Word>,
     ) -> Result<MessageAnswer, Want> {
         records_of_written_values();
-        calls_are_given();
         roots_are_no_groups();
         let indexed = indexed(alloc, message);
         let arena = Message {
@@ -76,7 +75,6 @@ impl<'a> Answers for PlainCallsAtRoot<'a> {
         records_of_written_values();
         records_after_calls();
         records_of_trimmed_values();
-        calls_are_given();
         roots_are_no_groups();
         let indexed = indexed(alloc, message);
         let arena = Message {

@@ -1,36 +1,24 @@
--- Ways that grow, and the way of a call.
-use Rattle.std.proofs.Common.{◌≡◌, ℕ, zero, suc, Some, List, [], ◌∷◌, ◌++◌, ◌<◌, refl, ap, sym, subst, ◌∙◌}
+-- Ways that grow, and what is known of a path's first step.
+use Rattle.std.proofs.Common.{◌≡◌, ◌≢◌, ℕ, Option, Some, None, IfSome, List, [], ◌∷◌, ◌++◌, ◌<◌, refl, ap, sym, subst, ◌∙◌}
 use Rattle.std.specs.Prelude.{slice_get}
-use Rattle.std.specs.Prelude.{Vec}
-use Rattle.std.specs.declared.alloc.Global.{Global}
 use Rattle.capnp_model.specs.Schemas.{Schema}
-use Rattle.capnp_model.specs.Calls.{Step, name, index, Call}
+use Rattle.capnp_model.specs.Calls.{Step, name, index}
+use Rattle.capnp_model.specs.InKindCalls.{PathEnd, nowhere, next_end}
 use Rattle.capnp_values_queries.specs.Fields.{field_count, place_of_name}
 use Rattle.capnp_values_queries.specs.Structs.{schema_around, id_of, fields_of_struct}
 use Rattle.capnp_values_queries.specs.declared.structs.StructSchema.{StructSchema}
 use Rattle.capnp_values_queries.proofs.lemmas.Places.{index_inside}
 use Rattle.std.specs.Str.{bytes_eq}
 use Rattle.capnp_model.specs.Printing.{fields_in}
-use Rattle.capnp_calls.specs.declared.ways.FoundField.{FoundField}
-use Rattle.capnp_calls.specs.Ways.{Finds, FindsFirst, fields_behind_first, IsWay, AddsWay, IsEachWay, way_among}
+use Rattle.capnp_calls.specs.declared.find.FoundField.{FoundField}
+use Rattle.capnp_calls.specs.Ends.{IsStepFound, found_fields}
+use Rattle.capnp_calls.specs.Ways.{Finds, FindsFirst, fields_behind_first, IsWay}
 
 -- Of no fields nothing is said.
 pub nothing_known : (s : Schema) (path : List Step) → IsWay s path []
 nothing_known s [] = tt
 nothing_known s (name n ∷ path) = (tt, nothing_known s path)
 nothing_known s (index i ∷ path) = nothing_known s path
-
-pub one_more : (s : Schema) (calls : List Call) (ways : List (Vec FoundField Global)) (call : Call) (way : Vec FoundField Global) → IsEachWay s calls ways → IsWay s call.path way.items → IsEachWay s (calls ++ call ∷ []) (ways ++ way ∷ [])
-one_more s [] [] call way each is = (is, tt)
-one_more s [] (w ∷ ways) call way each is = absurd each
-one_more s (c ∷ calls) [] call way each is = absurd each
-one_more s (c ∷ calls) (w ∷ ways) call way each is = (each.0, one_more s calls ways call way each.1 is)
-
-pub way_of_call : (s : Schema) (calls : List Call) (ways : List (Vec FoundField Global)) (i : ℕ) (call : Call) → IsEachWay s calls ways → slice_get calls i ≡ Some call → IsWay s call.path (way_among ways i)
-way_of_call s [] ways i call each at = absurd (cc at)
-way_of_call s (c ∷ calls) [] i call each at = absurd each
-way_of_call s (c ∷ calls) (w ∷ ways) zero call each at = let is : c ≡ call = cc at in subst (λ (x : Call). IsWay s x.path w.items) is each.0
-way_of_call s (c ∷ calls) (w ∷ ways) (suc i) call each at = way_of_call s calls ways i call each.1 at
 
 pub first_finds : (s : Schema) (n : List ℕ) (way : List FoundField) (found : FoundField) → FindsFirst s n way → slice_get way 0 ≡ Some found → Finds s n found
 first_finds s n [] found first at = absurd (cc at)
@@ -43,27 +31,37 @@ found_here g n found here finds = finds ∙ ap (λ id. place_of_name n (fields_i
 pub place_inside : (g : StructSchema) (n : List ℕ) (found : FoundField) (i : ℕ) → found.node ≡ id_of g → Finds (schema_around g) n found → found.place ≡ Some i → i < field_count (fields_of_struct g)
 place_inside g n found i here finds at = index_inside (λ m k. bytes_eq m n) (fields_of_struct g) i (sym (found_here g n found here finds) ∙ at)
 
--- The way of a path whose first step is a name, of one whose first step is an index, and of one that stops.
+-- ---- a way that is found step by step
+
 append_assoc : {A : Type 0} (xs : List A) (y : A) (ys : List A) → (xs ++ y ∷ []) ++ ys ≡ xs ++ y ∷ ys
 append_assoc [] y ys = refl
 append_assoc (x ∷ xs) y ys = ap (λ zs. x ∷ zs) (append_assoc xs y ys)
 
-nothing_more : (xs : List FoundField) → xs ≡ xs ++ []
+nothing_more : (xs : List FoundField) → xs ++ [] ≡ xs
 nothing_more [] = refl
 nothing_more (x ∷ xs) = ap (λ zs. x ∷ zs) (nothing_more xs)
 
-pub stops : (s : Schema) (path : List Step) (old : List FoundField) → AddsWay s path old old
-stops s path old = ([], nothing_more old, nothing_known s path)
+-- With the way of the rest of a path, what is found so far is that of the whole. Past nowhere there is no more to find.
+abbrev pub GrowsTo : Schema → List Step → List FoundField → List Step → PathEnd → Type 0
+GrowsTo s whole old rest at = (more : List FoundField) → (at ≡ nowhere → more ≡ []) → IsWay s rest more → IsWay s whole (old ++ more)
 
-pub name_noted : (s : Schema) (n : List ℕ) (path rest : List Step) (found : FoundField) (old middle new : List FoundField) → path ≡ name n ∷ rest → Finds s n found → middle ≡ old ++ found ∷ [] → AddsWay s rest middle new → AddsWay s path old new
-name_noted s n path rest found old middle new split finds pushed adds =
-    (found ∷ adds.0, adds.1 ∙ (ap (λ xs. xs ++ adds.0) pushed ∙ append_assoc old found adds.0), subst (λ q. IsWay s q (found ∷ adds.0)) (sym split) (finds, adds.2))
+pub way_at_first : (s : Schema) (path : List Step) (at : PathEnd) → GrowsTo s path [] path at
+way_at_first s path at more last is = is
 
-pub index_noted : (s : Schema) (i : ℕ) (path rest : List Step) (old new : List FoundField) → path ≡ index i ∷ rest → AddsWay s rest old new → AddsWay s path old new
-index_noted s i path rest old new split adds = (adds.0, adds.1, subst (λ q. IsWay s q adds.0) (sym split) adds.2)
+pub way_grown : (s : Schema) (whole rest : List Step) (st : Step) (before after : PathEnd) (found : Option FoundField) (old new : List FoundField) → new ≡ old ++ found_fields found → after ≡ next_end s st before → IsStepFound s st after found → IfSome found (λ f. before ≢ nowhere)
+    → GrowsTo s whole old (st ∷ rest) before → GrowsTo s whole new rest after
+way_grown s whole rest (name n) before after (Some f) old new pushed goes finds begun grows more last is =
+    subst (λ way. IsWay s whole way) (sym (ap (λ xs. xs ++ more) pushed ∙ append_assoc old f more)) (grows (f ∷ more) (λ gone. absurd (begun gone)) (finds, is))
+way_grown s whole rest (name n) before after None old new pushed goes gone begun grows more last is =
+    let same : new ++ more ≡ old ++ [] = ap (λ xs. new ++ xs) (last gone) ∙ nothing_more new ∙ pushed in
+    subst (λ way. IsWay s whole way) (sym same) (grows [] (λ at. refl) (tt, nothing_known s rest))
+way_grown s whole rest (index i) before after (Some f) old new pushed goes none begun grows more last is = absurd none
+way_grown s whole rest (index i) before after None old new pushed goes finds begun grows more last is =
+    let same : new ++ more ≡ old ++ more = ap (λ xs. xs ++ more) (pushed ∙ nothing_more old) in
+    subst (λ way. IsWay s whole way) (sym same) (grows more (λ gone. last (goes ∙ ap (next_end s (index i)) gone)) is)
 
-pub only_way : (s : Schema) (path : List Step) (new : List FoundField) → AddsWay s path [] new → IsWay s path new
-only_way s path new adds = subst (λ way. IsWay s path way) (sym adds.1) adds.2
+pub whole_way : (s : Schema) (path : List Step) (found : List FoundField) (at : PathEnd) → GrowsTo s path found [] at → IsWay s path found
+whole_way s path found at grows = subst (λ way. IsWay s path way) (nothing_more found) (grows [] (λ gone. refl) tt)
 
 -- The way behind the first step of a path: a name, or an index.
 pub way_behind_name : (s : Schema) (n : List ℕ) (path rest : List Step) (way : List FoundField) → path ≡ name n ∷ rest → IsWay s path way → FindsFirst s n way × IsWay s rest (fields_behind_first way)

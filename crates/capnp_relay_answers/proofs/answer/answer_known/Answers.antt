@@ -1,8 +1,8 @@
-use Rattle.std.proofs.Common.{length, IfSome, sym, subst}
+use Rattle.std.proofs.Common.{IfSome, sym, subst, ◌∙◌}
 use Rattle.std.proofs.lemmas.List.{length-map}
 use Rattle.capnp_model.specs.Trimming.{trim}
 use Rattle.capnp_units.specs.Segments.{words_in}
-use Rattle.capnp_calls.specs.CallViews.{call_view}
+use Rattle.capnp_calls.specs.Resolved.{call_of}
 use Rattle.capnp_wire_canonical.specs.Writes.{filled}
 use Rattle.capnp_relay_answers.specs.Answers.{ReadsRootValue}
 use Rattle.capnp_relay_answers.specs.Found.{SetsFront}
@@ -25,11 +25,11 @@ returns-clause-answer g c =
     let new = c.put.new.words.items in
     let schema = root_schema c.args.calls.now in
     let calls = root_calls c.args.calls.now in
-    let all = length c.args.calls.now.calls.now in
+    let all = c.len-calls.result in
     let a = answers.Done c.in-Some.after all in
     let read = subst (ReadsRootValue c.args.bounds s items) c.in-Ok.is c.in_ok-count.ensures.root in
     let r = read.0 in
     let put = subst (λ found. IfSome found (SetsFront schema calls (filled c.in-Ok.count items) new)) c.in-Some.is c.in_ok-after.ensures.front in
     let sets = put.sets (trim r.value) r.fits (c.trimmed_values.ensures.again r.value) r.words in
-    let made = done_struct c.words_mean_their_value.ensures.means c.trimmed_values.ensures.depth schema calls c.args.bounds.nesting c.in-Some.after all new (trim r.value) (sym (length-map c.args.calls.now.calls.now call_view)) r.deep put.stands.inside put.stands.few sets in
+    let made = done_struct c.words_mean_their_value.ensures.means c.trimmed_values.ensures.depth schema calls c.args.bounds.nesting c.in-Some.after all new (trim r.value) (c.len-calls.ensures ∙ c.args.calls.now.calls.ok.0 ∙ sym (length-map c.args.calls.now.calls.items call_of)) r.deep put.stands.inside put.stands.few sets in
     at_struct schema calls c.args.bounds s items new c.in-Ok.count a r read.1 made

@@ -1,6 +1,7 @@
 use Rattle.std.proofs.lemmas.Result.{IfOk-weaker}
 use Rattle.capnp_units.specs.Segments.{words_in}
 use Rattle.capnp_stream.specs.Buffers.{found_segments}
+use Rattle.capnp_calls.proofs.lemmas.ResolvedCalls.{given_resolved}
 use Rattle.capnp_relay_loop.specs.MessageAnswers.{answer_view}
 use Rattle.capnp_relay_answers.specs.RootCalls.{root_schema, root_calls}
 use Rattle.capnp_relay_streams.proofs.Reading.{PlainRecords, plain_reads}
@@ -13,7 +14,7 @@ returns-clause-value c =
     let s = words_in (found_segments c.args.message.now) in
     let into = c.answer_plain_in_place.new.words.items in
     let no_group = c.roots_are_no_groups.ensures root here.calls.root in
-    let given = c.calls_are_given.ensures root here.calls.calls.now in
+    let given = given_resolved here.calls.calls.items in
     let laws : PlainRecords = record { written_records = c.records_of_written_values.ensures.reads; start = c.records_of_written_values.ensures.start; next = c.records_after_calls.ensures.next; trimmed = c.records_of_trimmed_values.ensures } in
     IfOk-weaker c.answer_plain_in_place.result _ _ (λ a h. record {
       answers = h.answers;

@@ -7,10 +7,10 @@ use Rattle.capnp_records.specs.Sets.{nodes_of}
 use Rattle.capnp_values_queries.specs.Types.{ty_of}
 use Rattle.capnp_calls.specs.CallViews.{action_view, slot_value_view}
 use Rattle.capnp_calls.specs.Sizes.{content_len}
-use Rattle.capnp_calls_run.specs.Ends.{end_view}
-use Rattle.capnp_calls_run.specs.Runs.{sets_message}
-use Rattle.capnp_calls_run.proofs.LongPuts.{element_len, long_at}
-use Rattle.capnp_calls_run.proofs.long.puts_long_at.Goals as goal
+use Rattle.capnp_calls.specs.Ends.{end_view}
+use Rattle.capnp_calls.specs.LongLists.{sets_message}
+use Rattle.capnp_calls.proofs.LongPuts.{element_len, long_at}
+use Rattle.capnp_calls.proofs.long.puts_long_at.Goals as goal
 
 pub returns-in-Value-clause-long : goal.returns-in-Value-clause-long
 returns-in-Value-clause-long c h =

@@ -6,8 +6,8 @@ use Rattle.capnp_values_queries.specs.Handles.{body_of_place}
 use Rattle.capnp_values_queries.specs.Structs.{fields_of_struct}
 use Rattle.capnp_values_queries.specs.declared.structs.StructSchema.{StructSchema}
 use Rattle.capnp_calls.proofs.lemmas.NamedFields.{not_found}
-use Rattle.capnp_calls_run.proofs.PathEnds.{end_named}
-use Rattle.capnp_calls_run.proofs.long.field_named.Goals as goal
+use Rattle.capnp_calls.proofs.PathEnds.{end_named}
+use Rattle.capnp_calls.proofs.ends.field_named.Goals as goal
 
 pub returns-in-Ok-clause-end : goal.returns-in-Ok-clause-end
 returns-in-Ok-clause-end c =

@@ -1,0 +1,48 @@
+use Rattle.std.proofs.Common.{◌≡◌, ℕ, suc, ◌+◌, List, [], ◌∷◌, drop, ap, sym, subst, ◌∙◌, add-one}
+use Rattle.std.specs.Prelude.{map}
+use Rattle.std.proofs.Math.Seq.{drop-cons}
+use Rattle.std.proofs.lemmas.List.{drop_all}
+use Rattle.capnp_model.specs.Accepted.{schema_of}
+use Rattle.capnp_model.specs.InKindCalls.{next_end, end_of}
+use Rattle.capnp_model.specs.Schemas.{Node}
+use Rattle.capnp_values_queries.specs.Structs.{schema_around}
+use Rattle.capnp_calls.specs.CallViews.{step_view}
+use Rattle.capnp_calls.specs.Ends.{end_view, IsEndOf, IsStepFound}
+use Rattle.capnp_calls.proofs.PathEnds.{none_left, one_step}
+use Rattle.capnp_calls.proofs.lemmas.EachWay.{GrowsTo, way_grown, whole_way}
+use Rattle.capnp_calls.proofs.resolved.walk_path.Goals as goal
+
+pub loop-step-preserved : goal.loop-step-preserved
+loop-step-preserved c =
+    let s = schema_around c.args.root in
+    let path = c.args.path.now in
+    let whole = map step_view path in
+    let i : ℕ = c.loop-step.step-index in
+    let st = step_view c.step-item.result in
+    let rest = map step_view (drop (i + 1) path) in
+    let old = end_view c.loop-step.end in
+    let next = c.next_end-next.result in
+    let split : drop i path ≡ c.step-item.result ∷ drop (i + 1) path = drop-cons path i c.step-item.result c.loop-step-test.true ∙ ap (λ x. x ∷ drop (suc i) path) (sym c.step-item.is) ∙ ap (λ n. c.step-item.result ∷ drop n path) (sym (add-one i)) in
+    let goes : end_view next.end ≡ next_end s st old = c.next_end-next.ensures.end ∙ ap (λ ns. next_end (schema_of ns) st old) c.set.ensures in
+    let begins : GrowsTo s whole c.loop-step.fields.items (st ∷ rest) old = subst (λ xs. GrowsTo s whole c.loop-step.fields.items (map step_view xs) old) split c.loop-step.invariant.grows in
+    let finds : IsStepFound s st (end_view next.end) next.found = subst (λ (ns : List Node). IsStepFound (schema_of ns) st (end_view next.end) next.found) c.set.ensures c.next_end-next.ensures.found in
+    record {
+      ends = ap (end_of s rest) goes ∙ sym (one_step s st rest old) ∙ ap (λ xs. end_of s (map step_view xs) old) (sym split) ∙ c.loop-step.invariant.ends;
+      known = subst (λ ns. IsEndOf ns next.end) c.set.ensures c.next_end-next.ensures.of_set;
+      grows = way_grown s whole rest st old (end_view next.end) next.found c.loop-step.fields.items c.note.new.fields.items c.in_ok-note.ensures.items goes finds c.next_end-next.ensures.begun begins;
+    }
+
+pub returns-clause-end : goal.returns-clause-end
+returns-clause-end c =
+    let s = schema_around c.args.root in
+    let none : drop c.loop-step.step-index c.args.path.now ≡ [] = drop_all c.loop-step.step-index c.args.path.now c.loop-step-test.false in
+    sym (none_left s (end_view c.loop-step.end)) ∙ ap (λ xs. end_of s (map step_view xs) (end_view c.loop-step.end)) (sym none) ∙ c.loop-step.invariant.ends
+
+pub returns-clause-way : goal.returns-clause-way
+returns-clause-way c =
+    let s = schema_around c.args.root in
+    let whole = map step_view c.args.path.now in
+    let end = end_view c.loop-step.end in
+    let found = c.loop-step.fields.items in
+    let none : drop c.loop-step.step-index c.args.path.now ≡ [] = drop_all c.loop-step.step-index c.args.path.now c.loop-step-test.false in
+    whole_way s whole found end (subst (λ xs. GrowsTo s whole found (map step_view xs) end) none c.loop-step.invariant.grows)

@@ -1,0 +1,103 @@
+//! Steps of paths under a schema.
+ghost use Rattle.std.specs.Prelude.{◌≡◌, ◌≢◌, true, IfSome, IsSomeAnd};
+ghost use Rattle.capnp_model.specs.Accepted.{schema_of};
+ghost use Rattle.capnp_model.specs.InKindCalls.{nowhere, end_at, step_into, next_end};
+ghost use Rattle.capnp_model.specs.Steps.{target_of};
+ghost use Rattle.capnp_records.specs.Sets.{nodes_of};
+ghost use Rattle.capnp_values_queries.specs.Structs.{nodes_around, schema_around, fields_of_struct};
+ghost use Rattle.capnp_values_queries.specs.Types.{ty_of, is_type_of};
+ghost use Rattle.capnp_calls.specs.CallViews.{step_view};
+ghost use Rattle.capnp_calls.specs.Ends.{end_view, IsEndOf, IsStepFound};
+ghost use Rattle.capnp_calls.specs.Ways.{Finds};
+
+use crate::Step;
+use crate::find::FoundField;
+use capnp_records::set::SchemaSet;
+use capnp_values_queries::introspect::{Type, TypeVariant};
+use capnp_values_queries::slots::FieldPlace;
+use capnp_values_queries::structs::StructSchema;
+
+/// Where a path ends.
+#[derive(Clone, Copy)]
+pub(crate) enum End<'a> {
+    /// At a field.
+    Slot(FieldPlace<'a>),
+    /// At a value of a type: the root, or an element of a list.
+    Value(Type),
+    /// At nothing that it fits.
+    Nowhere,
+}
+
+/// Where a step leads.
+#[derive(Clone, Copy)]
+pub(crate) struct Next<'a> {
+    pub(crate) end: End<'a>,
+    /// What a name finds, where a struct or a group stands.
+    pub(crate) found: Option<FoundField>,
+}
+
+/// Where a name leads from a struct or a group.
+fn field_named<'a>(schema: StructSchema<'a>, name: &str) -> Next<'a>
+    ensures end { end_view result.end ≡ end_at (target_of name.now (fields_of_struct schema.entry)) }
+    ensures of_set { IsEndOf (nodes_around schema.entry) result.end }
+    ensures found { IsSomeAnd result.found (Finds (schema_around schema.entry) name.now) }
+{
+    let node = schema.raw().id;
+    match schema.get_field_by_name(name) {
+        Ok(field) => {
+            let place = Some(field.get_index());
+            Next {
+                end: End::Slot(field.place()),
+                found: Some(FoundField { node, place }),
+            }
+        }
+        Err(_) => Next {
+            end: End::Nowhere,
+            found: Some(FoundField { node, place: None }),
+        },
+    }
+}
+
+/// Where a step into a value of a type leads.
+fn step_into<'a>(set: &'a SchemaSet, step: &Step, ty: Type) -> Next<'a>
+    requires known { is_type_of (nodes_of set.now) ty ≡ true }
+    ensures end { end_view result.end
+        ≡ step_into (schema_of (nodes_of set.now)) (step_view step.now) (ty_of ty) }
+    ensures of_set { IsEndOf (nodes_of set.now) result.end }
+    ensures found { IsStepFound (schema_of (nodes_of set.now)) (step_view step.now)
+        (end_view result.end) result.found }
+{
+    match (step, ty.which()) {
+        (Step::Name(name), TypeVariant::Struct(raw)) => {
+            field_named(StructSchema::new(set, raw), name)
+        }
+        (Step::Index(_), TypeVariant::List(element)) => Next {
+            end: End::Value(element),
+            found: None,
+        },
+        _ => Next {
+            end: End::Nowhere,
+            found: None,
+        },
+    }
+}
+
+/// Where a step leads.
+pub(crate) fn next_end<'a>(set: &'a SchemaSet, step: &Step, end: End<'a>) -> Next<'a>
+    requires known { IsEndOf (nodes_of set.now) end }
+    ensures end { end_view result.end
+        ≡ next_end (schema_of (nodes_of set.now)) (step_view step.now) (end_view end.entry) }
+    ensures of_set { IsEndOf (nodes_of set.now) result.end }
+    ensures found { IsStepFound (schema_of (nodes_of set.now)) (step_view step.now)
+        (end_view result.end) result.found }
+    ensures begun { IfSome result.found (λ _. end_view end.entry ≢ nowhere) }
+{
+    match (step, end) {
+        (Step::Name(name), End::Slot(FieldPlace::Group { schema })) => field_named(schema, name),
+        (_, End::Slot(FieldPlace::Pointer { ty, .. }) | End::Value(ty)) => step_into(set, step, ty),
+        _ => Next {
+            end: End::Nowhere,
+            found: None,
+        },
+    }
+}

@@ -1,0 +1,135 @@
+//! Calls that are resolved under the schema of a root, once for all messages.
+ghost use Rattle.std.specs.Prelude.{◌≡◌, ◌++◌, map, IfOk, IfErr, OnOk};
+ghost use Rattle.capnp_units.specs.declared.kinds.ErrorKind.{ErrorKind};
+ghost use Rattle.capnp_model.specs.Schemas.{struct};
+ghost use Rattle.capnp_model.specs.InKindCalls.{at_value, end_of};
+ghost use Rattle.capnp_values_queries.specs.Structs.{nodes_around, schema_around, id_of};
+ghost use Rattle.capnp_calls.specs.CallViews.{step_view, action_view, call_view};
+ghost use Rattle.capnp_calls.specs.Ends.{end_view, IsEndOf, found_fields};
+ghost use Rattle.capnp_calls.specs.Ways.{IsWay};
+ghost use Rattle.capnp_calls.specs.Resolved.{calls_of, AreResolved};
+
+use crate::ends::{End, next_end};
+use crate::find::FoundField;
+use crate::long::puts_long_at;
+use crate::{Action, Call, Step};
+use capnp_units::errors::Result;
+use capnp_values_queries::introspect::{Type, TypeVariant};
+use capnp_values_queries::structs::StructSchema;
+use std::alloc::Global;
+
+/// What a path leads to from a struct.
+#[derive(Drop)]
+struct Walk<'a> {
+    /// What its names find, in turn.
+    fields: Vec<FoundField>,
+    end: End<'a>,
+}
+
+/// Adds what a step finds. `OutOfMemory`: the list can't grow.
+fn note(fields: &mut Vec<FoundField>, found: Option<FoundField>) -> Result<()>
+    ensures items { OnOk result (fields.new.items ≡ fields.old.items ++ found_fields found) }
+    ensures kind { IfErr result (λ e. e.kind ≡ ErrorKind.OutOfMemory) }
+{
+    if let Some(found) = found {
+        fields.push(found)?;
+    }
+    Ok(())
+}
+
+/// Goes along a path from a struct on. `OutOfMemory`: memory for what its names find was refused.
+fn walk_path<'a>(alloc: Global, root: StructSchema<'a>, path: &[Step]) -> Result<Walk<'a>>
+    ensures way { IfOk result (λ w.
+        IsWay (schema_around root.entry) (map step_view path.now) w.fields.items) }
+    ensures end { IfOk result (λ w. end_view w.end ≡ end_of (schema_around root.entry)
+        (map step_view path.now) (at_value (struct (id_of root.entry)))) }
+    ensures of_set { IfOk result (λ w. IsEndOf (nodes_around root.entry) w.end) }
+    ensures kind { IfErr result (λ e. e.kind ≡ ErrorKind.OutOfMemory) }
+{
+    let mut fields = Vec::new(alloc);
+    let mut end = End::Value(Type::from(TypeVariant::Struct(root.raw())));
+    for step in path {
+        let next = next_end(root.set(), step, end);
+        note(&mut fields, next.found)?;
+        end = next.end;
+    }
+    Ok(Walk { fields, end })
+}
+
+/// A call with all that the schema of a root tells of it.
+#[derive(Debug, Drop)]
+pub struct Resolved<'a> {
+    call: &'a Call,
+    fields: Vec<FoundField>,
+    is_long: bool,
+}
+
+impl<'a> Resolved<'a> {
+    ghost use Rattle.capnp_calls.specs.Resolved.{call_of, IsResolved};
+
+    /// A call from roots of this schema on. `OutOfMemory`: memory for what the names of its path
+    /// find was refused.
+    pub fn new(alloc: Global, root: StructSchema<'_>, call: &'a Call) -> Result<Resolved<'a>>
+        ensures resolved { IfOk result (IsResolved root.entry) }
+        ensures call { IfOk result (λ r. call_of r ≡ call_view call.now) }
+        ensures kind { IfErr result (λ e. e.kind ≡ ErrorKind.OutOfMemory) }
+    {
+        let Walk { fields, end } = walk_path(alloc, root, call.path())?;
+        let is_long = puts_long_at(root.set(), end, call.action());
+        Ok(Resolved {
+            call,
+            fields,
+            is_long,
+        })
+    }
+
+    /// The path, which has a step.
+    #[inline]
+    pub fn path(&self) -> &[Step]
+        ensures { map step_view result.now ≡ (call_of self.now).path }
+    {
+        self.call.path()
+    }
+
+    /// What is done at its end, with the value that it takes.
+    #[inline]
+    pub fn action(&self) -> &Action
+        ensures { action_view result.now ≡ (call_of self.now).verb }
+    {
+        self.call.action()
+    }
+
+    /// What the names of the path find, in turn.
+    #[inline]
+    pub fn fields(&self) -> &[FoundField]
+        ensures { result.now ≡ self.now.fields.items }
+    {
+        &self.fields
+    }
+
+    /// Whether the call, if it is done, puts a text or data of 2^29 bytes or more with its last
+    /// zero, or 2^29 words or more of structs. Values of messages aren't looked at.
+    #[inline]
+    pub fn is_long(&self) -> bool
+        ensures { result ≡ self.now.is_long }
+    {
+        self.is_long
+    }
+}
+
+/// Calls from roots of this schema on, in turn. `OutOfMemory`: memory for them was refused.
+pub fn resolve<'a>(
+    alloc: Global,
+    root: StructSchema<'_>,
+    calls: &'a [Call],
+) -> Result<Vec<Resolved<'a>>>
+    ensures resolved { IfOk result (λ found. AreResolved root.entry found.items) }
+    ensures calls { IfOk result (λ found. calls_of found.items ≡ map call_view calls.now) }
+    ensures kind { IfErr result (λ e. e.kind ≡ ErrorKind.OutOfMemory) }
+{
+    let mut found = Vec::new(alloc);
+    for call in calls {
+        found.push(Resolved::new(alloc, root, call)?)?;
+    }
+    Ok(found)
+}
