@@ -13,11 +13,12 @@ use capnp_stream::buffers::NoAllocSliceSegments;
 use capnp_units::sizes::Word;
 use std::alloc::Global;
 
-/// Calls at the roots of messages, and how far a message is followed.
+/// What `relay` answers messages by in the canonical form: calls at the roots of messages, and how
+/// far a message is followed. With it a loop of one's own over `Answers` answers as `relay` does.
 #[derive(Drop)]
-pub(crate) struct CallsAtRoot<'a> {
-    pub(crate) calls: RootCalls<'a>,
-    pub(crate) bounds: Bounds,
+pub struct CallsAtRoot<'a> {
+    pub calls: RootCalls<'a>,
+    pub bounds: Bounds,
 }
 
 impl<'a> Answers for CallsAtRoot<'a> {
@@ -49,11 +50,12 @@ impl<'a> Answers for CallsAtRoot<'a> {
     }
 }
 
-/// Calls at the roots of messages in the plain form: messages go out as they are built.
+/// What `relay` answers messages by in the plain form: the same calls, but messages go out as they
+/// are built.
 #[derive(Drop)]
-pub(crate) struct PlainCallsAtRoot<'a> {
-    pub(crate) calls: RootCalls<'a>,
-    pub(crate) bounds: Bounds,
+pub struct PlainCallsAtRoot<'a> {
+    pub calls: RootCalls<'a>,
+    pub bounds: Bounds,
 }
 
 impl<'a> Answers for PlainCallsAtRoot<'a> {

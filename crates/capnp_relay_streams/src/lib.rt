@@ -3,7 +3,7 @@
 //! one.
 #![tactic(auto)]
 
-mod at_root;
+pub mod at_root;
 pub mod between;
 pub mod laws;
 mod message;
