@@ -1,2 +1,6 @@
 mod Copied
 mod Within
+mod Names
+mod Missteps
+mod Walks
+mod Lasts

@@ -1,4 +1,8 @@
 pub mod Copies
 pub mod Answers
+pub mod Passing
+pub mod Paths
+pub mod Strict
 pub mod Shown
 pub mod SchemaForms
+pub mod Words

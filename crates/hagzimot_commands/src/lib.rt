@@ -8,6 +8,7 @@ mod copies;
 pub mod json_show;
 mod json_text;
 pub mod log_lines;
+pub mod passing;
 pub mod paths;
 pub mod rules;
 mod same_nodes;

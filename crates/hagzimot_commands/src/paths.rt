@@ -1,7 +1,11 @@
 //! Where paths lead under a schema, told before any message is read.
-ghost use Rattle.std.specs.Prelude.{◌≡◌, ◌≢◌, map, All, IfSome, IfNone};
+ghost use Rattle.std.specs.Prelude.{◌≡◌, ◌≢◌, ◌==◌, map, find, All, Some, None, IfOk, IfErr, IfSome, IfNone, option_copied, string_bytes};
+ghost use Rattle.std.specs.Str.{bytes_eq};
 ghost use Rattle.capnp_model.specs.Accepted.{enumerants_of_kind, fields_of_kind};
 ghost use Rattle.capnp_records.specs.NodeViews.{enumerant_of, field_of, node_kind};
+ghost use Rattle.capnp_calls.specs.CallViews.{step_view};
+ghost use Rattle.hagzimot_commands.specs.Words.{enumerants_of_body};
+ghost use Rattle.hagzimot_commands.specs.Paths.{behind_colons, struct_landing, id_at, element_landing, node_of_landing, fields_of_body, landing_of, field_named, stepped, walked, IsMisstep, TellsNoField, Misses};
 
 use capnp_calls::Step;
 use capnp_records::node::{
@@ -43,6 +47,10 @@ pub enum Misstep {
 }
 
 impl From<AllocError> for Misstep {
+    ghost use Rattle.hagzimot_commands.specs.declared.paths.Misstep.{Misstep};
+
+    ghost from_gives = { λ _ e. e ≡ Misstep.Memory };
+
     fn from(_e: AllocError) -> Misstep {
         Misstep::Memory
     }
@@ -79,6 +87,7 @@ impl Display for Misstep {
 
 /// The node of an id.
 pub fn node_of_id(nodes: &[NodeRecord], id: u64) -> Option<&NodeRecord>
+    ensures first { option_copied result ≡ find (λ n. n.id == id) nodes.now }
     ensures found { IfSome result (λ node. node.now.id ≡ id) }
     ensures none { IfNone result (All (λ node. node.id ≢ id) nodes.now) }
 {
@@ -86,17 +95,20 @@ pub fn node_of_id(nodes: &[NodeRecord], id: u64) -> Option<&NodeRecord>
 }
 
 /// The name of a node, without what stands in front of its last colon.
-pub fn short_name(node: &NodeRecord) -> &str {
-    let whole = node.display_name.as_str();
-    match whole.rfind(':') {
-        Some(at) => &whole[at + 1..],
-        None => whole,
+pub fn short_name(node: &NodeRecord) -> &str
+    ensures { result.now ≡ behind_colons (string_bytes node.now.display_name) }
+{
+    let mut name = node.display_name.as_str();
+    while let Some((_, behind)) = name.split_once(':') {
+        name = behind;
     }
+    name
 }
 
 /// The fields of a node; none of an enum.
 pub(crate) fn fields_of(node: &NodeRecord) -> &[FieldRecord]
-    ensures { map field_of result.now ≡ fields_of_kind (node_kind node.now.body) }
+    ensures records { result.now ≡ fields_of_body node.now.body }
+    ensures fields { map field_of result.now ≡ fields_of_kind (node_kind node.now.body) }
 {
     match &node.body {
         NodeBody::Struct(body) => body.fields.as_slice(),
@@ -106,17 +118,14 @@ pub(crate) fn fields_of(node: &NodeRecord) -> &[FieldRecord]
 
 /// The enumerants of a node; none of a struct.
 pub fn enumerants_of(node: &NodeRecord) -> &[EnumerantRecord]
-    ensures { map enumerant_of result.now ≡ enumerants_of_kind (node_kind node.now.body) }
+    ensures records { result.now ≡ enumerants_of_body node.now.body }
+    ensures enumerants { map enumerant_of result.now
+        ≡ enumerants_of_kind (node_kind node.now.body) }
 {
     match &node.body {
         NodeBody::Struct(_) => &[],
         NodeBody::Enum(enumerants) => enumerants.as_slice(),
     }
-}
-
-/// The field of a name.
-fn field_named<'n>(fields: &'n [FieldRecord], name: &str) -> Option<&'n FieldRecord> {
-    fields.iter().find(|field| field.name.as_str() == name)
 }
 
 /// The name among the fields' that is nearest to a name, where at most a third of its letters, and one, are otherwise.
@@ -140,35 +149,80 @@ fn nearest_name(
     }
 }
 
+/// The id of the struct or group that stands there.
+fn id_there(at: Landing) -> Option<u64>
+    ensures { result ≡ id_at at }
+{
+    match at {
+        Landing::Group(id) => Some(id),
+        Landing::Value(ty) if ty.list_count == 0 => match ty.base {
+            BaseType::Struct(id) => Some(id),
+            _ => None,
+        },
+        Landing::Value(_) => None,
+    }
+}
+
+/// An element of the list that stands there.
+fn element_there(at: Landing) -> Option<Landing>
+    ensures { result ≡ element_landing at }
+{
+    match at {
+        Landing::Value(TypeRecord { list_count, base }) if list_count > 0 => {
+            let list_count = list_count - 1;
+            Some(Landing::Value(TypeRecord { list_count, base }))
+        }
+        _ => None,
+    }
+}
+
+/// The node of what has fields there.
+fn node_there(nodes: &[NodeRecord], at: Landing) -> Option<&NodeRecord>
+    ensures { option_copied result ≡ node_of_landing nodes.now at }
+{
+    match id_there(at) {
+        Some(id) => node_of_id(nodes, id),
+        None => None,
+    }
+}
+
+/// The first field of a name.
+fn find_field<'n>(fields: &'n [FieldRecord], name: &str) -> Option<&'n FieldRecord>
+    ensures { option_copied result
+        ≡ find (λ f. bytes_eq (string_bytes f.name) name.now) fields.now }
+{
+    fields.iter().find(|field| field.name.as_str() == name)
+}
+
+/// What the first field of a name is.
+fn field_there(node: &NodeRecord, name: &str) -> Option<Landing>
+    ensures { result ≡ field_named node.now name.now }
+{
+    match find_field(fields_of(node), name) {
+        Some(field) => Some(landing_at(&field.body)),
+        None => None,
+    }
+}
+
 /// What a field is.
-fn landing_of(field: &FieldRecord) -> Landing {
-    match &field.body {
+fn landing_at(body: &FieldBody) -> Landing
+    ensures { result ≡ landing_of body.now }
+{
+    match body {
         FieldBody::Slot { ty, .. } => Landing::Value(*ty),
         FieldBody::Group { node } => Landing::Group(*node),
     }
 }
 
-/// What a name leads to from the struct or group of an id.
-fn into_field(
-    alloc: Global,
-    nodes: &[NodeRecord],
-    id: u64,
-    name: &str,
-) -> Result<Landing, Misstep> {
-    let Some(node) = node_of_id(nodes, id) else {
-        return Err(Misstep::NoStruct {
-            name: String::from_str(alloc, name)?,
-        });
-    };
-    let fields = fields_of(node);
-    match field_named(fields, name) {
-        Some(field) => Ok(landing_of(field)),
-        None => Err(Misstep::NoField {
-            name: String::from_str(alloc, name)?,
-            node: String::from_str(alloc, short_name(node))?,
-            nearest: nearest_name(alloc, fields, name)?,
-        }),
-    }
+/// Why a node has no field of a name.
+fn no_field(alloc: Global, node: &NodeRecord, name: &str) -> Result<Misstep, AllocError>
+    ensures { IfOk result (TellsNoField node.now name.now) }
+{
+    Ok(Misstep::NoField {
+        name: String::from_str(alloc, name)?,
+        node: String::from_str(alloc, short_name(node))?,
+        nearest: nearest_name(alloc, fields_of(node), name)?,
+    })
 }
 
 /// What a step leads to.
@@ -177,42 +231,55 @@ fn step_from(
     nodes: &[NodeRecord],
     at: Landing,
     step: &Step,
-) -> Result<Landing, Misstep> {
-    match (at, step) {
-        (Landing::Group(id), Step::Name(name)) => into_field(alloc, nodes, id, name.as_str()),
-        (
-            Landing::Value(
-                TypeRecord {
-                    list_count: 0,
-                    base: BaseType::Struct(id),
-                },
-            ),
-            Step::Name(name),
-        ) => { into_field(alloc, nodes, id, name.as_str()) }
-        (Landing::Value(TypeRecord { list_count, base }), Step::Index(_)) if list_count > 0 => {
-            let list_count = list_count - 1;
-            Ok(Landing::Value(TypeRecord { list_count, base }))
+) -> Result<Landing, Misstep>
+    ensures ok { IfOk result (λ to. stepped nodes.now at (step_view step.now) ≡ Some to) }
+    ensures none { IfErr result (λ e. stepped nodes.now at (step_view step.now) ≡ None) }
+    ensures err { IfErr result (IsMisstep nodes.now at (step_view step.now)) }
+{
+    let name = match step {
+        Step::Name(name) => name.as_str(),
+        Step::Index(index) => {
+            let index = *index;
+            return element_there(at).ok_or(Misstep::NoList { index });
         }
-        (_, Step::Name(name)) => Err(Misstep::NoStruct {
-            name: name.clone()?,
-        }),
-        (_, Step::Index(index)) => Err(Misstep::NoList { index: *index }),
+    };
+    let Some(node) = node_there(nodes, at) else {
+        return Err(Misstep::NoStruct {
+            name: String::from_str(alloc, name)?,
+        });
+    };
+    match field_there(node, name) {
+        Some(to) => Ok(to),
+        None => Err(no_field(alloc, node, name)?),
     }
 }
 
-/// What a path leads to from the struct of an id.
+/// What a path leads to from the struct of an id. A refusal is that of its first step that leads
+/// nowhere:
+/// - `NoField`, `NoStruct`: a name of no field, or at what has no fields;
+/// - `NoList`: an index at what has no elements;
+/// - `Memory`: a growth was refused while this was to be told.
 pub fn landing_from(
     alloc: Global,
     nodes: &[NodeRecord],
     root: u64,
     path: &[Step],
-) -> Result<Landing, Misstep> {
+) -> Result<Landing, Misstep>
+    ensures ok { IfOk result (λ at.
+        walked nodes.now (struct_landing root) (map step_view path.now) ≡ Some at) }
+    ensures err { IfErr result (Misses nodes.now (struct_landing root) (map step_view path.now)) }
+{
     let mut at = Landing::Value(TypeRecord {
         list_count: 0,
         base: BaseType::Struct(root),
     });
-    for step in path {
-        at = step_from(alloc, nodes, at, step)?;
+    let mut left = path;
+    while let Some((step, behind)) = left.split_first() {
+        at = match step_from(alloc, nodes, at, step) {
+            Ok(to) => to,
+            Err(e) => return Err(e),
+        };
+        left = behind;
     }
     Ok(at)
 }
