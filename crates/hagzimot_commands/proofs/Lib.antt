@@ -1,2 +1,5 @@
 mod Copied
 mod Within
+mod Missteps
+mod Walks
+mod Lasts

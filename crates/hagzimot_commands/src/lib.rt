@@ -6,6 +6,7 @@ pub mod convert;
 mod copies;
 mod float_fields;
 pub mod log_lines;
+pub mod passing;
 pub mod paths;
 pub mod strict;
 pub mod word_calls;

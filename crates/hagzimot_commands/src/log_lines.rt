@@ -1,9 +1,40 @@
-//! Lines of the log as JSON.
+//! Lines of the log: those of messages that are passed on unedited, and lines as JSON.
+ghost use Rattle.std.specs.Prelude.{◌≡◌, ◌++◌, ℕ, List, codes, IfOk};
+ghost use Rattle.capnp_model.specs.Runs.{answer_words};
+ghost use Rattle.capnp_relay_loop.specs.MessageAnswers.{refusal_view};
 
+use capnp_relay_loop::answer::Reason;
 use hagzimot_schemas::json_text::{Quoted, put_char};
 use std::alloc::{AllocError, Global};
 use std::fmt;
 use std::fmt::{Display, Formatter, Write};
+
+/// The word for a reason, as it stands behind `refused: `.
+fn reason_word(reason: Reason) -> &'static [u8]
+    ensures { codes "refused: " ++ result.now ≡ answer_words (refusal_view reason) }
+{
+    match reason {
+        Reason::Value => b"value",
+        Reason::Root => b"root",
+        Reason::Depth => b"depth",
+    }
+}
+
+/// The line of a message that is passed on, made of its line `message N written`: behind that it
+/// says that the message is unedited, and why it would be skipped. `message 2 written unedited:
+/// value` is such a line. An error where a growth was refused.
+pub fn unedited_line(alloc: Global, written: &[u8], reason: Reason) -> Result<Vec<u8>, AllocError>
+    ensures { (front : List ℕ) → written.now ≡ front ++ codes "\n" → IfOk result (λ line.
+        (word : List ℕ) → codes "refused: " ++ word ≡ answer_words (refusal_view reason)
+        → line.items ≡ front ++ codes " unedited: " ++ word ++ codes "\n") }
+{
+    let front = written.strip_suffix(b"\n").unwrap_or(written);
+    let mut line = front.to_vec(alloc)?;
+    line.extend_from_slice(b" unedited: ")?;
+    line.extend_from_slice(reason_word(reason))?;
+    line.push(b'\n')?;
+    Ok(line)
+}
 
 /// Where a character of replies stands.
 #[derive(Clone, Copy, Debug, PartialEq, Eq)]
@@ -65,6 +96,10 @@ struct Told<'a>(&'a str);
 
 impl Display for Told<'_> {
     fn fmt<W: Write>(&self, f: &mut Formatter<W>) -> fmt::Result {
+        if let Some(reason) = self.0.strip_prefix("written unedited: ") {
+            let reason = Quoted(reason);
+            return write!(f, "\"result\":\"written\",\"unedited\":{reason}");
+        }
         if let Some(replies) = self.0.strip_prefix("written") {
             return write!(f, "\"result\":\"written\",\"replies\":{}", Replies(replies));
         }

@@ -1,4 +1,8 @@
 //! Calls that no message could take, told before any is read.
+ghost use Rattle.std.specs.Prelude.{◌≡◌, true, IfErr, OnOk, map};
+ghost use Rattle.capnp_model.specs.Calls.{set_to};
+ghost use Rattle.capnp_calls.specs.CallViews.{step_view, slot_value_view, action_view, call_view};
+ghost use Rattle.hagzimot_commands.specs.Strict.{numbers_of, is_number_among, base_takes_number, base_takes, is_whole_message, has_sort_of, is_in_type, is_in_range_there, is_struct_there, is_many_there, is_index, ends_with_index, can_take, IsMisfitThere, CouldBeTaken, IsMisfit};
 
 use crate::paths::{Landing, Misstep, landing_from};
 use capnp_calls::{Action, Call, SlotValue, Step};
@@ -30,12 +34,6 @@ pub enum Misfit {
     },
     /// `clear` of an element.
     ClearsElement,
-}
-
-impl From<Misstep> for Misfit {
-    fn from(e: Misstep) -> Misfit {
-        Misfit::Path(e)
-    }
 }
 
 /// The name of a plain type, or of the sort of any other.
@@ -85,7 +83,9 @@ impl Display for Misfit {
 }
 
 /// The least and the greatest number of a whole number's type.
-fn range_of(base: BaseType) -> Option<(i128, i128)> {
+fn range_of(base: BaseType) -> Option<(i128, i128)>
+    ensures { result ≡ numbers_of base }
+{
     match base {
         BaseType::Int8 => Some((i8::MIN as i128, i8::MAX as i128)),
         BaseType::Int16 => Some((i16::MIN as i128, i16::MAX as i128)),
@@ -99,35 +99,18 @@ fn range_of(base: BaseType) -> Option<(i128, i128)> {
     }
 }
 
-/// Whether a number can be set where this type is.
-fn check_number(number: i128, ty: TypeRecord) -> Result<(), Misfit> {
-    let there = sort_of(ty);
-    if ty.list_count > 0 {
-        let given = "a number";
-        return Err(Misfit::Sort { given, there });
-    }
-    match range_of(ty.base) {
-        Some((least, greatest)) if number < least || number > greatest => {
-            Err(Misfit::Range { number, there })
-        }
-        Some(_) => Ok(()),
-        None if ty.base == BaseType::Void => Ok(()),
-        None => {
-            let given = "a number";
-            Err(Misfit::Sort { given, there })
-        }
-    }
-}
-
-/// Whether a value that isn't a number is of a base type. A Void field takes any plain value, an untyped pointer any other.
-fn is_of_base(value: &SlotValue, base: BaseType) -> bool {
-    match (value, base) {
-        (SlotValue::Bool(_), BaseType::Bool | BaseType::Void) => true,
-        (SlotValue::Enum(_), BaseType::Enum(_) | BaseType::Void) => true,
-        (SlotValue::Text(_), BaseType::Text | BaseType::AnyPointer) => true,
-        (SlotValue::Data(_), BaseType::Data | BaseType::AnyPointer) => true,
-        (SlotValue::Message(_), BaseType::Struct(_) | BaseType::AnyPointer) => true,
-        _ => false,
+/// Whether a value is of a base type. A Void field takes any plain value, an untyped pointer any
+/// other.
+fn is_of_base(value: &SlotValue, base: BaseType) -> bool
+    ensures { result ≡ base_takes (slot_value_view value.now) base }
+{
+    match value {
+        SlotValue::Number(_) => base == BaseType::Void || range_of(base).is_some(),
+        SlotValue::Bool(_) => matches!(base, BaseType::Bool | BaseType::Void),
+        SlotValue::Enum(_) => matches!(base, BaseType::Enum(_) | BaseType::Void),
+        SlotValue::Text(_) => matches!(base, BaseType::Text | BaseType::AnyPointer),
+        SlotValue::Data(_) => matches!(base, BaseType::Data | BaseType::AnyPointer),
+        SlotValue::Message(_) => matches!(base, BaseType::Struct(_) | BaseType::AnyPointer),
     }
 }
 
@@ -143,25 +126,6 @@ fn given_of(value: &SlotValue) -> &'static str {
     }
 }
 
-/// Whether a value can be set where this type is.
-fn check_value(value: &SlotValue, ty: TypeRecord) -> Result<(), Misfit> {
-    if let SlotValue::Number(number) = value {
-        return check_number(*number, ty);
-    }
-    let fits = if ty.list_count > 0 {
-        matches!(value, SlotValue::Message(_))
-    } else {
-        is_of_base(value, ty.base)
-    };
-    if fits {
-        return Ok(());
-    }
-    Err(Misfit::Sort {
-        given: given_of(value),
-        there: sort_of(ty),
-    })
-}
-
 /// What stands where a path leads.
 fn there_at(at: Landing) -> &'static str {
     match at {
@@ -170,8 +134,33 @@ fn there_at(at: Landing) -> &'static str {
     }
 }
 
+/// Whether a value is of the sort of what is there: a list and a group take a message.
+fn has_sort(value: &SlotValue, at: Landing) -> bool
+    ensures { result ≡ has_sort_of (slot_value_view value.now) at }
+{
+    match at {
+        Landing::Value(ty) if ty.list_count == 0 => is_of_base(value, ty.base),
+        _ => matches!(value, SlotValue::Message(_)),
+    }
+}
+
+/// Whether a number is one of the type that is there.
+fn has_number(number: i128, at: Landing) -> bool
+    ensures { result ≡ is_in_type number at }
+{
+    let Landing::Value(ty) = at else {
+        return true;
+    };
+    match range_of(ty.base) {
+        Some((least, greatest)) => !(number < least || number > greatest),
+        None => true,
+    }
+}
+
 /// Whether a struct or a group is there.
-fn is_struct(at: Landing) -> bool {
+fn is_struct(at: Landing) -> bool
+    ensures { result ≡ is_struct_there at }
+{
     match at {
         Landing::Value(ty) => ty.list_count == 0 && matches!(ty.base, BaseType::Struct(_)),
         Landing::Group(_) => true,
@@ -179,7 +168,9 @@ fn is_struct(at: Landing) -> bool {
 }
 
 /// Whether a list, a text or data is there.
-fn is_many(at: Landing) -> bool {
+fn is_many(at: Landing) -> bool
+    ensures { result ≡ is_many_there at }
+{
     match at {
         Landing::Value(ty) => ty.list_count > 0
             || matches!(ty.base, BaseType::Text | BaseType::Data),
@@ -187,46 +178,90 @@ fn is_many(at: Landing) -> bool {
     }
 }
 
-/// Whether a value can be set where a path leads.
-fn check_set(value: &SlotValue, at: Landing) -> Result<(), Misfit> {
-    match (at, value) {
-        (Landing::Value(ty), _) => check_value(value, ty),
-        (Landing::Group(_), SlotValue::Message(_)) => Ok(()),
-        (Landing::Group(_), _) => Err(Misfit::Sort {
-            given: given_of(value),
-            there: there_at(at),
-        }),
+/// Whether a step is an index.
+fn is_element(step: &Step) -> bool
+    ensures { result ≡ is_index (step_view step.now) }
+{
+    matches!(step, Step::Index(_))
+}
+
+/// Whether a path ends with an index.
+fn ends_at_element(path: &[Step]) -> bool
+    ensures { result ≡ ends_with_index (map step_view path.now) }
+{
+    match path.last() {
+        Some(step) => is_element(step),
+        None => false,
     }
 }
 
-/// Whether a call can be made of some message under a schema, from the struct of an id on: its path leads to a field or an element, and what it does there fits its type.
-pub fn check_call(
-    alloc: Global,
-    nodes: &[NodeRecord],
-    root: u64,
-    call: &Call,
-) -> Result<(), Misfit> {
-    let path = call.path();
-    let at = landing_from(alloc, nodes, root, path)?;
-    let there = there_at(at);
-    match call.action() {
+/// Whether a value can be set where a path leads.
+fn check_set(value: &SlotValue, at: Landing, path: &[Step]) -> Result<(), Misfit>
+    ensures ok { OnOk result (can_take at (map step_view path.now)
+        (set_to (slot_value_view value.now)) ≡ true) }
+    ensures err { IfErr result (IsMisfitThere at (map step_view path.now)
+        (set_to (slot_value_view value.now))) }
+{
+    if !has_sort(value, at) {
+        return Err(Misfit::Sort {
+            given: given_of(value),
+            there: there_at(at),
+        });
+    }
+    match value {
+        SlotValue::Number(number) if !has_number(*number, at) => Err(Misfit::Range {
+            number: *number,
+            there: there_at(at),
+        }),
+        _ => Ok(()),
+    }
+}
+
+/// Whether an action can be made where a path leads.
+fn check_there(action: &Action, at: Landing, path: &[Step]) -> Result<(), Misfit>
+    ensures ok { OnOk result
+        (can_take at (map step_view path.now) (action_view action.now) ≡ true) }
+    ensures err { IfErr result
+        (IsMisfitThere at (map step_view path.now) (action_view action.now)) }
+{
+    match action {
         Action::Get => Ok(()),
-        Action::Set(value) => check_set(value, at),
+        Action::Set(value) => check_set(value, at, path),
         Action::Init if is_struct(at) => Ok(()),
         Action::Init => Err(Misfit::NotMade {
             verb: "init",
             wanted: "a struct or a group",
-            there,
+            there: there_at(at),
         }),
         Action::Initn(_) if is_many(at) => Ok(()),
         Action::Initn(_) => Err(Misfit::NotMade {
             verb: "initn",
             wanted: "a list, a text or data",
-            there,
+            there: there_at(at),
         }),
-        Action::Clear => match path.last() {
-            Some(Step::Index(_)) => Err(Misfit::ClearsElement),
-            _ => Ok(()),
-        },
+        Action::Clear if ends_at_element(path) => Err(Misfit::ClearsElement),
+        Action::Clear => Ok(()),
     }
+}
+
+/// Whether some message could take a call under a schema, from the struct of an id on: its path
+/// leads to a field or an element, and what it does there fits the type. A refusal says what is
+/// wrong:
+/// - `Path`: a step of its path leads nowhere;
+/// - `Sort`: a value of another sort than what is there;
+/// - `Range`: a number that the type there doesn't have;
+/// - `NotMade`: `init` where no struct or group is, `initn` where no list, text or data is;
+/// - `ClearsElement`: `clear` of an element.
+pub fn check_call(alloc: Global, nodes: &[NodeRecord], root: u64, call: &Call) -> Result<(), Misfit>
+    ensures ok { OnOk result
+        (CouldBeTaken nodes.now root (call_view call.now).path (call_view call.now).verb) }
+    ensures err { IfErr result
+        (IsMisfit nodes.now root (call_view call.now).path (call_view call.now).verb) }
+{
+    let path = call.path();
+    let at = match landing_from(alloc, nodes, root, path) {
+        Ok(at) => at,
+        Err(misstep) => return Err(Misfit::Path(misstep)),
+    };
+    check_there(call.action(), at, path)
 }

@@ -1,10 +1,15 @@
 //! Calls that are given as words, as `customer.name=Ada`.
+ghost use Rattle.std.specs.Prelude.{◌≡◌, ◌++◌, true, IfOk, OnOk, List, []};
+ghost use Rattle.std.specs.List.{flat_map};
+ghost use Rattle.capnp_calls.specs.CallViews.{step_view};
+ghost use Rattle.capnp_relay_requests.specs.declared.request.FloatField.{FloatField};
+ghost use Rattle.hagzimot_commands.specs.Words.{step_text, enumerant_numbered, SpellsPath, SpellsEnumerant, SpellsValue, SpellsValueThere, MayBeBits, MakeCall};
 
 use crate::float_fields::is_float_at;
 use crate::paths::{Landing, Misstep, landing_from};
 use crate::strict::sort_of;
 use capnp_calls::{CallValue, Step, Verb};
-use capnp_records::node::{BaseType, NodeRecord, TypeRecord};
+use capnp_records::node::{BaseType, NodeRecord};
 use capnp_relay_requests::request::FloatField;
 use hagzimot_floats::float_bits::{float32_bits, float64_bits};
 use hagzimot_schemas::nodes::{enumerants_of, node_of_id};
@@ -92,8 +97,61 @@ fn push_indices(path: &mut Vec<Step>, text: &str) -> Result<(), WordTrouble> {
     Ok(())
 }
 
-/// The steps of a path, as `lines[0].count`.
-pub fn path_of(alloc: Global, text: &str) -> Result<Vec<Step>, WordTrouble> {
+/// Adds the text of a step: a name behind a point, an index in brackets.
+fn push_step(alloc: Global, text: &mut Vec<u8>, step: &Step) -> Result<(), AllocError>
+    ensures { OnOk result (text.new.items ≡ text.old.items ++ step_text (step_view step.now)) }
+{
+    match step {
+        Step::Name(name) => {
+            text.push(b'.')?;
+            text.extend_from_slice(name.as_bytes())?;
+        }
+        Step::Index(index) => {
+            let told = format!(in alloc; "[{index}]")?;
+            text.extend_from_slice(told.as_bytes())?;
+        }
+    }
+    Ok(())
+}
+
+/// Adds the text of each step.
+fn push_steps(alloc: Global, text: &mut Vec<u8>, path: &[Step]) -> Result<(), AllocError>
+    ensures { OnOk result (text.new.items
+        ≡ text.old.items ++ flat_map (λ s. step_text (step_view s)) path.now) }
+{
+    for step in path {
+        push_step(alloc, text, step)?;
+    }
+    Ok(())
+}
+
+/// Whether a text spells a path: it is the only text of these steps. An error where a growth was
+/// refused.
+fn spells(alloc: Global, text: &str, path: &[Step]) -> Result<bool, AllocError>
+    ensures { IfOk result (λ is. is ≡ true → SpellsPath text.now path.now) }
+{
+    let mut given = Vec::new(alloc);
+    given.push(b'.')?;
+    given.extend_from_slice(text.as_bytes())?;
+    let mut told = Vec::new(alloc);
+    push_steps(alloc, &mut told, path)?;
+    Ok(given.as_slice() == told.as_slice())
+}
+
+/// The steps of a path, as `lines[0].count`. `Path`: the text is no path, or its numbers have a sign
+/// or a zero in front. `Memory`: a growth was refused.
+pub fn path_of(alloc: Global, text: &str) -> Result<Vec<Step>, WordTrouble>
+    ensures { IfOk result (λ path. SpellsPath text.now path.items) }
+{
+    let path = steps_in(alloc, text)?;
+    if spells(alloc, text, &path)? {
+        return Ok(path);
+    }
+    Err(WordTrouble::Path)
+}
+
+/// The steps of a path, where numbers may have a sign or a zero in front.
+fn steps_in(alloc: Global, text: &str) -> Result<Vec<Step>, WordTrouble> {
     let mut path = Vec::new(alloc);
     for part in text.split('.') {
         let (name, indices) = match part.find('[') {
@@ -111,35 +169,45 @@ pub fn path_of(alloc: Global, text: &str) -> Result<Vec<Step>, WordTrouble> {
     Ok(path)
 }
 
+/// The number of the first enumerant of a name.
+fn enumerant_named(node: &NodeRecord, word: &str) -> Option<usize>
+    ensures { result ≡ enumerant_numbered node.now word.now }
+{
+    enumerants_of(node)
+        .iter()
+        .position(|enumerant| enumerant.name.as_str() == word)
+}
+
 /// The number of an enumerant, by its name or its number.
-fn enumerant_of(nodes: &[NodeRecord], id: u64, word: &str) -> Result<CallValue, WordTrouble> {
+fn enumerant_of(nodes: &[NodeRecord], id: u64, word: &str) -> Result<u16, WordTrouble>
+    ensures { IfOk result (SpellsEnumerant nodes.now id word.now) }
+{
     if let Some(node) = node_of_id(nodes, id) {
-        let mut number: u16 = 0;
-        for enumerant in enumerants_of(node) {
-            if enumerant.name.as_str() == word {
-                return Ok(CallValue::Enum(number));
-            }
-            number = number.saturating_add(1);
+        if let Some(number) = enumerant_named(node, word) {
+            return match u16::try_from(number) {
+                Ok(number) => Ok(number),
+                Err(_) => Err(WordTrouble::NoEnumerant),
+            };
         }
     }
     match word.parse::<u16>() {
-        Ok(number) => Ok(CallValue::Enum(number)),
+        Ok(number) => Ok(number),
         Err(_) => Err(WordTrouble::NoEnumerant),
     }
 }
 
-/// A value of a type that a word spells: a number in decimal digits, `true` or `false`, an enumerant's name or number, a text as it is, or data in hex.
+/// A value of a base type that a word spells: a number in decimal digits, `true` or `false`, an
+/// enumerant's name or number, a text as it is, or data in hex.
 fn value_of(
     alloc: Global,
     nodes: &[NodeRecord],
-    ty: TypeRecord,
+    base: BaseType,
+    there: &'static str,
     word: &str,
-) -> Result<CallValue, WordTrouble> {
-    let there = sort_of(ty);
-    if ty.list_count > 0 {
-        return Err(WordTrouble::NotByWords(there));
-    }
-    match ty.base {
+) -> Result<CallValue, WordTrouble>
+    ensures { IfOk result (SpellsValue nodes.now base word.now) }
+{
+    match base {
         BaseType::Text => Ok(CallValue::Text(String::from_str(alloc, word)?)),
         BaseType::Data => match hex::decode(alloc, word.as_bytes()) {
             Ok(bytes) => Ok(CallValue::Data(bytes)),
@@ -150,7 +218,10 @@ fn value_of(
             "false" => Ok(CallValue::Bool(false)),
             _ => Err(WordTrouble::Value(there)),
         },
-        BaseType::Enum(id) => enumerant_of(nodes, id, word),
+        BaseType::Enum(id) => match enumerant_of(nodes, id, word) {
+            Ok(number) => Ok(CallValue::Enum(number)),
+            Err(why) => Err(why),
+        },
         BaseType::Struct(_) | BaseType::AnyPointer | BaseType::Capability => {
             Err(WordTrouble::NotByWords(there))
         }
@@ -161,12 +232,11 @@ fn value_of(
     }
 }
 
-/// The bits of the float that a word spells, for a type of as many bits.
-fn float_value(ty: TypeRecord, word: &str) -> Result<CallValue, WordTrouble> {
-    if ty.list_count > 0 {
-        return Err(WordTrouble::NotByWords(sort_of(ty)));
-    }
-    let bits = match ty.base {
+/// The bits of the float that a word spells, for a base type of as many bits.
+fn float_value(base: BaseType, word: &str) -> Result<CallValue, WordTrouble>
+    ensures { (floats : List FloatField) → (floats ≡ [] → ⊥) → IfOk result (MayBeBits floats) }
+{
+    let bits = match base {
         BaseType::UInt32 => float32_bits(word).map(|bits| bits as i128),
         _ => float64_bits(word).map(|bits| bits as i128),
     };
@@ -176,7 +246,41 @@ fn float_value(ty: TypeRecord, word: &str) -> Result<CallValue, WordTrouble> {
     }
 }
 
-/// What `Call::new` takes for the call that words make under a schema, from the struct of an id on. Values of these fields are given as floats, whose bits are set.
+/// The value that a word spells where a path leads; a float's, where one of these fields stands there, is that of its bits.
+fn value_there(
+    alloc: Global,
+    nodes: &[NodeRecord],
+    floats: &[FloatField],
+    root: u64,
+    path: &[Step],
+    word: &str,
+) -> Result<CallValue, WordTrouble>
+    ensures { IfOk result (SpellsValueThere nodes.now floats.now root path.now word.now) }
+{
+    let ty = match landing_from(alloc, nodes, root, path) {
+        Ok(Landing::Value(ty)) => ty,
+        Ok(Landing::Group(_)) => return Err(WordTrouble::NotByWords("a group")),
+        Err(misstep) => return Err(WordTrouble::Step(misstep)),
+    };
+    let there = sort_of(ty);
+    if ty.list_count > 0 {
+        return Err(WordTrouble::NotByWords(there));
+    }
+    if !floats.is_empty() && is_float_at(alloc, nodes, floats, root, path)? {
+        return float_value(ty.base, word);
+    }
+    value_of(alloc, nodes, ty.base, there, word)
+}
+
+/// What `Call::new` takes for the call that words make under a schema, from the struct of an id on:
+/// a path, or for `Set` and `Initn` a path, `=` and a value. Values of these fields are given as
+/// floats, whose bits are set. A refusal says what is wrong:
+/// - `Path`: the path isn't one;
+/// - `Step`: it leads nowhere, where a value is set;
+/// - `NoValue`: there is no `=`;
+/// - `Value`, `NoEnumerant`: the word behind it spells no value of the type there, or no number;
+/// - `NotByWords`: values of what is there can't be spelled;
+/// - `Memory`: a growth was refused.
 pub fn call_of_words(
     alloc: Global,
     nodes: &[NodeRecord],
@@ -184,13 +288,15 @@ pub fn call_of_words(
     root: u64,
     verb: WordVerb,
     words: &str,
-) -> Result<CallParts, WordTrouble> {
-    let verb = match verb {
+) -> Result<CallParts, WordTrouble>
+    ensures { IfOk result (λ p. MakeCall nodes.now floats.now root verb words.now p.0.items p.1 p.2) }
+{
+    match verb {
         WordVerb::Get => return Ok((path_of(alloc, words)?, Verb::Get, None)),
         WordVerb::Init => return Ok((path_of(alloc, words)?, Verb::Init, None)),
         WordVerb::Clear => return Ok((path_of(alloc, words)?, Verb::Clear, None)),
-        other => other,
-    };
+        WordVerb::Set | WordVerb::Initn => {}
+    }
     let Some((path, word)) = words.split_once('=') else {
         return Err(WordTrouble::NoValue);
     };
@@ -201,15 +307,6 @@ pub fn call_of_words(
             Err(_) => Err(WordTrouble::Value("a size")),
         };
     }
-    match landing_from(alloc, nodes, root, &path)? {
-        Landing::Value(ty) => {
-            let value = if is_float_at(alloc, nodes, floats, root, &path)? {
-                float_value(ty, word)?
-            } else {
-                value_of(alloc, nodes, ty, word)?
-            };
-            Ok((path, Verb::Set, Some(value)))
-        }
-        Landing::Group(_) => Err(WordTrouble::NotByWords("a group")),
-    }
+    let value = value_there(alloc, nodes, floats, root, &path, word)?;
+    Ok((path, Verb::Set, Some(value)))
 }

@@ -1,1 +1,2 @@
 pub mod SchemaForms
+pub mod Nodes

@@ -1,0 +1,148 @@
+-- Calls that some message could take.
+use Rattle.std.specs.Prelude.{◌≡◌, ℕ, ◌-◌, ◌^◌, ◌==◌, ℤ, pos, negsuc, int_lt, Bool, true, false, not, ◌||◌, ◌&&◌, if◌then◌else◌, ◌⊎◌, Option, Some, None, is_some, List, length, slice_get}
+use Rattle.capnp_model.specs.Calls.{Step as ModelStep, name, index, CallValue as ModelValue, whole_number, truth, enumerant, text_value, blob_value, message, Verb as ModelVerb, get, set_to, init, initn, clear}
+use Rattle.capnp_records.specs.declared.node.BaseType.{BaseType}
+use Rattle.capnp_records.specs.declared.node.BaseType.TheVariants as base
+use Rattle.capnp_records.specs.declared.node.NodeRecord.{NodeRecord}
+use Rattle.hagzimot_commands.specs.declared.paths.Landing.{Landing}
+use Rattle.hagzimot_commands.specs.declared.paths.Landing.TheVariants as landing
+use Rattle.hagzimot_commands.specs.declared.strict.Misfit.{Misfit}
+use Rattle.hagzimot_commands.specs.declared.strict.Misfit.TheVariants as misfit
+use Rattle.hagzimot_commands.specs.Paths.{struct_landing, walked, Misses}
+
+-- The least and the greatest number of a whole number's type.
+abbrev pub numbers_of : BaseType → Option (ℤ × ℤ)
+numbers_of base.Int8 = Some (negsuc (2 ^ 7 - 1), pos (2 ^ 7 - 1))
+numbers_of base.Int16 = Some (negsuc (2 ^ 15 - 1), pos (2 ^ 15 - 1))
+numbers_of base.Int32 = Some (negsuc (2 ^ 31 - 1), pos (2 ^ 31 - 1))
+numbers_of base.Int64 = Some (negsuc (2 ^ 63 - 1), pos (2 ^ 63 - 1))
+numbers_of base.UInt8 = Some (pos 0, pos (2 ^ 8 - 1))
+numbers_of base.UInt16 = Some (pos 0, pos (2 ^ 16 - 1))
+numbers_of base.UInt32 = Some (pos 0, pos (2 ^ 32 - 1))
+numbers_of base.UInt64 = Some (pos 0, pos (2 ^ 64 - 1))
+numbers_of _ = None
+
+-- Whether a number is one of these; any is where they aren't told.
+abbrev pub is_number_among : ℤ → Option (ℤ × ℤ) → Bool
+is_number_among z None = true
+is_number_among z (Some (least, greatest)) = not (int_lt z least || int_lt greatest z)
+
+-- Which base types a value is of: a Void slot takes any plain value, an untyped pointer any other.
+abbrev pub base_takes_number : BaseType → Bool
+base_takes_number base.Void = true
+base_takes_number b = is_some (numbers_of b)
+
+abbrev pub base_takes_truth : BaseType → Bool
+base_takes_truth base.Bool = true
+base_takes_truth base.Void = true
+base_takes_truth _ = false
+
+abbrev pub base_takes_enumerant : BaseType → Bool
+base_takes_enumerant (base.Enum id) = true
+base_takes_enumerant base.Void = true
+base_takes_enumerant _ = false
+
+abbrev pub base_takes_text : BaseType → Bool
+base_takes_text base.Text = true
+base_takes_text base.AnyPointer = true
+base_takes_text _ = false
+
+abbrev pub base_takes_blob : BaseType → Bool
+base_takes_blob base.Data = true
+base_takes_blob base.AnyPointer = true
+base_takes_blob _ = false
+
+abbrev pub is_struct_base : BaseType → Bool
+is_struct_base (base.Struct id) = true
+is_struct_base _ = false
+
+abbrev pub base_takes_message : BaseType → Bool
+base_takes_message (base.Struct id) = true
+base_takes_message base.AnyPointer = true
+base_takes_message _ = false
+
+abbrev pub base_takes : ModelValue → BaseType → Bool
+base_takes (whole_number z) b = base_takes_number b
+base_takes (truth x) b = base_takes_truth b
+base_takes (enumerant n) b = base_takes_enumerant b
+base_takes (text_value bytes) b = base_takes_text b
+base_takes (blob_value bytes) b = base_takes_blob b
+base_takes (message t) b = base_takes_message b
+
+abbrev pub is_whole_message : ModelValue → Bool
+is_whole_message (whole_number z) = false
+is_whole_message (truth x) = false
+is_whole_message (enumerant n) = false
+is_whole_message (text_value bytes) = false
+is_whole_message (blob_value bytes) = false
+is_whole_message (message t) = true
+
+-- Whether a value is of the sort of what stands there: a list and a group take a message.
+abbrev pub has_sort_of : ModelValue → Landing → Bool
+has_sort_of v (landing.Group id) = is_whole_message v
+has_sort_of v (landing.Value ty) = if ty.list_count == 0 then base_takes v ty.base else is_whole_message v
+
+-- Whether a number is one of the type that stands there.
+abbrev pub is_in_type : ℤ → Landing → Bool
+is_in_type z (landing.Group id) = true
+is_in_type z (landing.Value ty) = is_number_among z (numbers_of ty.base)
+
+abbrev pub is_in_range_there : ModelValue → Landing → Bool
+is_in_range_there (whole_number z) at = is_in_type z at
+is_in_range_there (truth x) at = true
+is_in_range_there (enumerant n) at = true
+is_in_range_there (text_value bytes) at = true
+is_in_range_there (blob_value bytes) at = true
+is_in_range_there (message t) at = true
+
+-- Whether a struct or a group stands there.
+abbrev pub is_struct_there : Landing → Bool
+is_struct_there (landing.Group id) = true
+is_struct_there (landing.Value ty) = if ty.list_count == 0 then is_struct_base ty.base else false
+
+abbrev pub is_blob_base : BaseType → Bool
+is_blob_base base.Text = true
+is_blob_base base.Data = true
+is_blob_base _ = false
+
+-- Whether a list, a text or data stands there.
+abbrev pub is_many_there : Landing → Bool
+is_many_there (landing.Group id) = false
+is_many_there (landing.Value ty) = if ty.list_count == 0 then is_blob_base ty.base else true
+
+-- Whether a path ends with an index.
+abbrev pub is_index : ModelStep → Bool
+is_index (name text) = false
+is_index (index i) = true
+
+abbrev pub is_found_index : Option ModelStep → Bool
+is_found_index None = false
+is_found_index (Some s) = is_index s
+
+abbrev pub ends_with_index : List ModelStep → Bool
+ends_with_index path = is_found_index (slice_get path (length path - 1))
+
+-- Whether a call can be made where its path leads.
+abbrev pub can_take : Landing → List ModelStep → ModelVerb → Bool
+can_take at path get = true
+can_take at path (set_to v) = has_sort_of v at && is_in_range_there v at
+can_take at path init = is_struct_there at
+can_take at path (initn n) = is_many_there at
+can_take at path clear = not (ends_with_index path)
+
+-- What is wrong with a call where its path leads.
+abbrev pub IsMisfitThere : Landing → List ModelStep → ModelVerb → Misfit → Type 0
+IsMisfitThere at path verb (misfit.Path m) = ⊥
+IsMisfitThere at path verb (misfit.Sort given there) = (v : ModelValue) × (verb ≡ set_to v) × (has_sort_of v at ≡ false)
+IsMisfitThere at path verb (misfit.Range z there) = (verb ≡ set_to (whole_number z)) × (has_sort_of (whole_number z) at ≡ true) × (is_in_type z at ≡ false)
+IsMisfitThere at path verb (misfit.NotMade told wanted there) = ((verb ≡ init) × (is_struct_there at ≡ false)) ⊎ ((n : ℕ) × (verb ≡ initn n) × (is_many_there at ≡ false))
+IsMisfitThere at path verb misfit.ClearsElement = (verb ≡ clear) × (ends_with_index path ≡ true)
+
+-- Some message could take the call: its path leads somewhere, and the call can be made there.
+abbrev pub CouldBeTaken : List NodeRecord → ℕ → List ModelStep → ModelVerb → Type 0
+CouldBeTaken nodes root path verb = (at : Landing) × (walked nodes (struct_landing root) path ≡ Some at) × (can_take at path verb ≡ true)
+
+-- Why no message could take it.
+abbrev pub IsMisfit : List NodeRecord → ℕ → List ModelStep → ModelVerb → Misfit → Type 0
+IsMisfit nodes root path verb (misfit.Path m) = Misses nodes (struct_landing root) path m
+IsMisfit nodes root path verb e = (at : Landing) × (walked nodes (struct_landing root) path ≡ Some at) × IsMisfitThere at path verb e
