@@ -68,7 +68,7 @@ fn log<'a>(alloc: Global) -> Arg<'a> {
 
 static LOGS: [&str; 4] = ["lines", "refused", "json", "none"];
 
-/// What is done at a message that is skipped.
+/// What is done at a message that is refused.
 fn on_refused<'a>(alloc: Global) -> Arg<'a> {
     Arg::new(alloc, "on-refused")
         .long("on-refused")
@@ -76,18 +76,28 @@ fn on_refused<'a>(alloc: Global) -> Arg<'a> {
         .value_parser(ON_REFUSED.as_slice())
         .default_value("skip")
         .help(
-            "Goes on behind a message that is skipped, or stops there: what was written before stands, and the status is 3",
+            "What is done at a message that is refused: it is skipped, it is skipped and the run stops there, or it is passed on unedited; the status is 3",
         )
 }
 
-static ON_REFUSED: [&str; 2] = ["skip", "stop"];
+static ON_REFUSED: [&str; 3] = ["skip", "stop", "pass"];
 
-/// The file of messages that are skipped.
+/// Whether messages are counted.
+fn stats<'a>(alloc: Global) -> Arg<'a> {
+    Arg::new(alloc, "stats")
+        .long("stats")
+        .action(ArgAction::SetTrue)
+        .help(
+            "Tells at the end how many messages and bytes there were, and once a second where standard error is a terminal",
+        )
+}
+
+/// The file of messages that are refused.
 fn refused<'a>(alloc: Global) -> Arg<'a> {
     Arg::new(alloc, "refused")
         .long("refused")
         .value_name("FILE")
-        .help("Writes the messages that are skipped to FILE, as they came")
+        .help("Writes the messages that are refused to FILE, as they came")
 }
 
 fn convert<'a>(alloc: Global) -> Result<Command<'a>, AllocError> {
@@ -336,20 +346,48 @@ fn relay<'a>(alloc: Global) -> Result<Command<'a>, AllocError> {
         .arg(on_refused(alloc))?
         .arg(refused(alloc))?
         .arg(log(alloc).default_value("lines"))?
+        .arg(stats(alloc))?
         .arg(output(alloc))?
         .arg(files(alloc))
 }
 
-/// The command with its subcommands.
-pub fn command_line<'a>(alloc: Global) -> Result<Command<'a>, AllocError> {
-    Command::new(alloc, "hagzimot")
+/// The command without its subcommands.
+fn bare_command<'a>(alloc: Global) -> Result<Command<'a>, AllocError> {
+    let command = Command::new(alloc, "hagzimot")
         .bin_name("hagzimot")?
         .version("0.1.0")
         .about("Reads, checks and edits streams of Cap'n Proto messages")
         .after_help(
-            "Status: 0 all was done and written, 3 messages were skipped, 1 a fault, 2 wrong words",
+            "Status: 0 all was done and written, 3 messages were skipped or passed on unedited, 1 a fault, 2 wrong words",
         )
-        .subcommand_required(true)
+        .subcommand_required(true);
+    Ok(command)
+}
+
+/// The words of the subcommand of a name.
+fn subcommand<'a>(alloc: Global, name: &str) -> Option<Result<Command<'a>, AllocError>> {
+    match name {
+        "show" => Some(show(alloc)),
+        "relay" => Some(relay(alloc)),
+        "check" => Some(check(alloc)),
+        "schema" => Some(schema_file(alloc)),
+        "compatible" => Some(compatible(alloc)),
+        "canonical" => Some(canonical(alloc)),
+        "convert" => Some(convert(alloc)),
+        _ => None,
+    }
+}
+
+/// The command with the subcommand that the first word names, or else with each.
+// The words of the others would be made at each start, and never be read.
+pub fn command_line<'a>(alloc: Global, first: Option<&str>) -> Result<Command<'a>, AllocError> {
+    let command = bare_command(alloc)?;
+    if let Some(name) = first {
+        if let Some(called) = subcommand(alloc, name) {
+            return command.subcommand(called?);
+        }
+    }
+    command
         .subcommand(show(alloc)?)?
         .subcommand(relay(alloc)?)?
         .subcommand(check(alloc)?)?

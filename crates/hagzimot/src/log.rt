@@ -1,13 +1,19 @@
 //! The log of a run.
-ghost use Rattle.std.specs.Prelude.{◌≡◌, OnOk, OnErr, ⊤};
+ghost use Rattle.std.specs.Prelude.{◌≡◌, OnOk, OnErr, IfErr, ⊤};
 ghost use Rattle.std.specs.Io.Buffered.{writer_buffer};
 ghost use Rattle.capnp_stream_io.specs.Adapters.{sink_inner};
 ghost use Rattle.capnp_stream_io.specs.Counting.{Rose};
+ghost use Rattle.capnp_relay_loop.specs.Streams.{sink_of};
+ghost use Rattle.capnp_relay_loop.specs.Pauses.{SinkRests, FailsInPause};
 ghost use Rattle.capnp_units.specs.declared.kinds.ErrorKind.{ErrorKind};
 
 use crate::faults::Failure;
-use crate::files::{Input, OutSink, Output, open_sink};
+use crate::files::{Input, OutSink, Output, open_output, open_sink};
+pub use crate::log_words::{Lines, Refusals};
+use crate::log_words::{LogWords, Noted, OnRefused, is_refusal};
+use crate::stats::Stats;
 use crate::tape::Tape;
+use capnp_relay_loop::answer::Reason;
 use capnp_relay_loop::ends::Fault;
 use capnp_relay_loop::pauses::Pause;
 use capnp_relay_program::ahead::BoundedForm;
@@ -17,83 +23,62 @@ use capnp_stream_io::adapters::Source;
 use capnp_stream_io::traits::Write;
 use capnp_units::errors::Error;
 use capnp_units::kinds::ErrorKind;
-use hagzimot_commands::log_lines::json_line;
-use std::alloc::Global;
+use hagzimot_commands::log_lines::{json_line, unedited_line};
+use std::alloc::{AllocError, Global};
+use std::cell::Cell;
 use std::marker::PhantomData;
 use std::rc::Rc;
-
-/// Which lines are kept.
-#[derive(Clone, Copy, Debug, PartialEq, Eq)]
-pub enum Lines {
-    All,
-    /// Those of messages that are skipped.
-    Refused,
-    None,
-    /// All, as JSON.
-    Json,
-}
-
-impl Lines {
-    /// The lines that a word names.
-    pub fn named(word: &str) -> Lines {
-        match word {
-            "lines" => Lines::All,
-            "none" => Lines::None,
-            "json" => Lines::Json,
-            _ => Lines::Refused,
-        }
-    }
-
-    /// Whether a line is kept.
-    fn keep(self, line: &[u8]) -> bool {
-        match self {
-            Lines::All | Lines::Json => true,
-            Lines::Refused => is_refusal(line),
-            Lines::None => false,
-        }
-    }
-}
-
-/// Whether a line tells of a message that is skipped: its third word is `refused:`.
-fn is_refusal(line: &[u8]) -> bool {
-    let mut words = line.split(|b| *b == b' ');
-    words.nth(2) == Some(b"refused:".as_slice())
-}
-
-/// What is done about messages that are skipped, beside their lines.
-#[derive(Drop)]
-pub struct Refusals {
-    /// Where they are written as they came.
-    pub sink: Option<OutSink>,
-    /// Whether the first one ends the run.
-    pub stop: bool,
-}
-
-impl Refusals {
-    /// Nothing is done about them.
-    pub fn unseen() -> Refusals {
-        Refusals {
-            sink: None,
-            stop: false,
-        }
-    }
-
-    /// Whether something is done about them.
-    fn are_seen(&self) -> bool {
-        self.stop || self.sink.is_some()
-    }
-}
 
 /// What ended a run that the log ended.
 #[derive(Clone, Copy, Debug, PartialEq, Eq)]
 pub enum LogEnd {
     /// A message was skipped, and the run was to stop there.
     Stopped,
-    /// A message that was skipped can't be written as it came.
+    /// A message that was refused can't be written as it came.
     Unwritten,
 }
 
-/// A log on standard error that keeps some of the lines that it is given, each by one call, and sees to the messages that are skipped.
+/// A log that is told where inputs and messages begin.
+pub trait RunLog: Flush + Drop {
+    /// The log on standard error.
+    fn open(rt: &HostRuntime, words: LogWords<'_>) -> Result<Self, Failure>;
+
+    /// Begins with another input, and returns its tape.
+    fn begin(&mut self) -> Result<Rc<Tape>, Failure>;
+
+    /// Sees to the message that was read last, before the next one, and flushes both sinks where the
+    /// source may wait. `Out`, `Log`: the sink's device failed. `Log` too: the run has to end, `end`
+    /// says why.
+    fn turn_and_flush<F: BoundedForm>(
+        &mut self,
+        source: &Source<Input>,
+        out: &mut OutSink,
+    ) -> Result<(), Fault>
+        ensures ok { let sink = sink_of ⟦<OutSink as Write>⟧ in
+            let line = sink_of ⟦<Self as Write>⟧ in
+            OnOk result (SinkRests (sink out.old) (sink out.new)
+            × SinkRests (line self.old) (line self.new)) }
+        ensures err { let sink = sink_of ⟦<OutSink as Write>⟧ in
+            let line = sink_of ⟦<Self as Write>⟧ in
+            IfErr result (λ f. FailsInPause f (sink out.old) (sink out.new)
+            (line self.old) (line self.new)) };
+
+    /// Hands on what the log's sinks hold at the end of an input. False where the messages that
+    /// were refused can't be written.
+    fn finish(&mut self) -> bool;
+
+    /// What ended the run, where the log did.
+    fn end(&self) -> Option<LogEnd>;
+
+    /// Whether messages were passed on unedited.
+    fn has_unedited(&self) -> bool;
+
+    /// Tells what was counted, at the end of all inputs.
+    fn sum_up(&mut self);
+}
+
+/// A log on standard error that keeps some of the lines that it is given, each by one call, and
+/// sees to the messages that are refused.
 #[derive(Drop)]
 pub struct Log {
     alloc: Global,
@@ -102,8 +87,11 @@ pub struct Log {
     refusals: Refusals,
     /// The tape of the input that is read.
     tape: Rc<Tape>,
-    /// Whether the last line was that of a message that is skipped.
+    noted: Noted,
+    stats: Option<Stats>,
+    /// Whether the last line was that of a message that is refused.
     at_refusal: bool,
+    has_unedited: bool,
     end: Option<LogEnd>,
     failures: u64,
 }
@@ -120,7 +108,10 @@ impl Log {
             lines,
             refusals,
             tape,
+            noted: Rc::new(alloc, Cell::new(None))?,
+            stats: None,
             at_refusal: false,
+            has_unedited: false,
             end: None,
             failures: 0,
         })
@@ -128,17 +119,15 @@ impl Log {
 
     /// Begins with another input, and returns its tape.
     pub fn begin_input(&mut self) -> Result<Rc<Tape>, Failure> {
+        if let Some(stats) = &mut self.stats {
+            stats.pass_over(self.tape.start());
+        }
         let tape = Tape::new(self.alloc, self.refusals.sink.is_some());
         self.tape = Rc::new(self.alloc, tape)?;
         Ok(Rc::clone(&self.tape)?)
     }
 
-    /// What ended the run, where the log did.
-    pub fn end(&self) -> Option<LogEnd> {
-        self.end
-    }
-
-    /// Writes the message that was skipped, as it came. So many bytes behind it were given too.
+    /// Writes the message that was refused, as it came. So many bytes behind it were given too.
     fn put_refused(&mut self, ahead: usize) -> Result<(), LogEnd>
         ensures { self.new.failures ≡ self.old.failures }
     {
@@ -155,7 +144,8 @@ impl Log {
         }
     }
 
-    /// Sees to the message that was read last, where it is skipped. So many bytes behind it were given too.
+    /// Sees to the message that was read last, where it is refused. So many bytes behind it were
+    /// given too.
     fn see_to_refusal(&mut self, ahead: usize) -> Result<(), LogEnd>
         ensures { self.new.failures ≡ self.old.failures }
     {
@@ -170,23 +160,24 @@ impl Log {
         Ok(())
     }
 
-    /// Sees to the message that was read last, before the next one; so many bytes behind it were given. `Device`: the run has to end, `end` says why.
-    pub fn turn(&mut self, ahead: usize) -> Result<(), Error>
+    /// Sees to the message that was read last, before the next one; so many bytes behind it were
+    /// given. `Device`: the run has to end, `end` says why.
+    fn turn(&mut self, ahead: usize) -> Result<(), Error>
         ensures ok { OnOk result (self.new.failures ≡ self.old.failures) }
         ensures err { OnErr result (Rose self.old.failures self.new.failures) }
     {
         let seen = self.see_to_refusal(ahead);
         self.tape.turn(ahead);
-        match seen {
-            Ok(()) => Ok(()),
-            Err(end) => {
-                self.end = Some(end);
-                Err(self.failure())
-            }
+        if let Err(end) = seen {
+            self.end = Some(end);
+            return Err(self.failure());
         }
+        self.put_progress();
+        Ok(())
     }
 
-    /// Hands on what the sinks hold: the log's own, and the one of skipped messages. False where they can't be written.
+    /// Hands on what the sinks hold: the log's own, and the one of refused messages. False where
+    /// they can't be written.
     pub fn finish(&mut self) -> bool {
         // A log that fails now has nowhere to say so.
         let _flushed = self.inner.flush();
@@ -196,7 +187,7 @@ impl Log {
         }
     }
 
-    /// Writes a line, in the form that is asked for.
+    /// Writes a line of the log, in the form that is asked for.
     fn put_line(&mut self, line: &[u8]) -> Result<(), Error>
         ensures { self.new.failures ≡ self.old.failures }
     {
@@ -210,6 +201,50 @@ impl Log {
         match json {
             Ok(json) => self.inner.write_all(json.as_bytes()),
             Err(_) => Err(Error::from(ErrorKind::OutOfMemory)),
+        }
+    }
+
+    /// Writes the line of a message, which is passed on unedited where a reason is given.
+    fn put_told(&mut self, line: &[u8], unedited: Option<Reason>) -> Result<(), Error>
+        ensures { self.new.failures ≡ self.old.failures }
+    {
+        let Some(reason) = unedited else {
+            return self.put_line(line);
+        };
+        match unedited_line(self.alloc, line, reason) {
+            Ok(line) => self.put_line(&line),
+            Err(_) => Err(Error::from(ErrorKind::OutOfMemory)),
+        }
+    }
+
+    /// Whether a line is that of a message that is skipped, where that is asked for at all.
+    fn tells_refusal(&self, line: &[u8]) -> bool {
+        let is_asked = self.refusals.are_seen()
+            || self.lines == Lines::Refused
+            || self.stats.is_some();
+        is_asked && is_refusal(line)
+    }
+
+    /// Writes how many messages there were, where it is time for that.
+    fn put_progress(&mut self)
+        ensures { self.new.failures ≡ self.old.failures }
+    {
+        let Some(stats) = &mut self.stats else {
+            return;
+        };
+        if stats.is_time() {
+            let told = stats.line(self.alloc, self.tape.start(), self.lines == Lines::Json);
+            self.put_stats(told);
+        }
+    }
+
+    /// Writes a line of counts, and hands it on. Where it can't be written the run goes on.
+    fn put_stats(&mut self, told: Result<String, AllocError>)
+        ensures { self.new.failures ≡ self.old.failures }
+    {
+        if let Ok(line) = told {
+            let _written = self.inner.write_all(line.as_bytes());
+            let _flushed = self.inner.flush();
         }
     }
 
@@ -227,11 +262,17 @@ impl Write for Log {
     ghost failures = { λ l. l.failures };
 
     fn write_all(&mut self, buf: &[u8]) -> Result<(), Error> {
-        self.at_refusal = self.refusals.are_seen() && is_refusal(buf);
-        if !self.lines.keep(buf) {
+        let unedited = self.noted.take();
+        let is_refused = unedited.is_some() || self.tells_refusal(buf);
+        self.has_unedited |= unedited.is_some();
+        self.at_refusal = is_refused && self.refusals.are_seen();
+        if let Some(stats) = &mut self.stats {
+            stats.count(is_refused, unedited.is_some());
+        }
+        if !self.lines.keep(is_refused) {
             return Ok(());
         }
-        match self.put_line(buf) {
+        match self.put_told(buf, unedited) {
             Ok(()) => Ok(()),
             Err(_) => Err(self.failure()),
         }
@@ -253,19 +294,71 @@ impl Flush for Log {
     }
 }
 
-/// Before a message is read the log sees to the one before it, and both sinks are flushed where the source may wait.
+impl RunLog for Log {
+    fn open(rt: &HostRuntime, words: LogWords<'_>) -> Result<Log, Failure> {
+        let sink = match words.refused {
+            Some(name) => Some(open_sink(rt.alloc(), open_output(rt, Some(name))?)?),
+            None => None,
+        };
+        let refusals = Refusals {
+            sink,
+            stop: words.on_refused == OnRefused::Stop,
+        };
+        let mut log = Log::new(rt, words.lines, refusals)?;
+        log.noted = words.noted;
+        if words.stats {
+            log.stats = Some(Stats::new(rt));
+        }
+        Ok(log)
+    }
+
+    fn begin(&mut self) -> Result<Rc<Tape>, Failure> {
+        self.begin_input()
+    }
+
+    fn turn_and_flush<F: BoundedForm>(
+        &mut self,
+        source: &Source<Input>,
+        out: &mut OutSink,
+    ) -> Result<(), Fault> {
+        if self.turn(source.buffered()).is_err() {
+            return Err(Fault::Log);
+        }
+        flush_before_wait::<F, Source<Input>, OutSink, Log>(source, out, self)
+    }
+
+    fn finish(&mut self) -> bool {
+        Log::finish(self)
+    }
+
+    fn end(&self) -> Option<LogEnd> {
+        self.end
+    }
+
+    fn has_unedited(&self) -> bool {
+        self.has_unedited
+    }
+
+    fn sum_up(&mut self) {
+        if let Some(stats) = &self.stats {
+            let told = stats.line(self.alloc, self.tape.start(), self.lines == Lines::Json);
+            self.put_stats(told);
+        }
+    }
+}
+
+/// Before a message is read the log sees to the one before it, and both sinks are flushed where the
+/// source may wait.
 #[derive(Clone, Copy, Debug)]
 pub struct TurnAndFlush<F> {
     form: PhantomData<F>,
 }
 
-impl<F: BoundedForm> Pause<Source<Input>, OutSink, Log> for TurnAndFlush<F> {
+impl<F: BoundedForm, L: RunLog> Pause<Source<Input>, OutSink, L> for TurnAndFlush<F> {
     ghost may_fail = { ⊤ };
 
-    fn pause(source: &Source<Input>, out: &mut OutSink, log: &mut Log) -> Result<(), Fault> {
-        if log.turn(source.buffered()).is_err() {
-            return Err(Fault::Log);
-        }
-        flush_before_wait::<F, Source<Input>, OutSink, Log>(source, out, log)
+    #[inline(always)]
+    fn pause(source: &Source<Input>, out: &mut OutSink, log: &mut L) -> Result<(), Fault> {
+        log.turn_and_flush::<F>(source, out)
     }
 }

@@ -1,16 +1,19 @@
 //! The command `hagzimot`: messages of files and pipes converted, made canonical, shown, checked and edited.
 //!
-//! `hagzimot --help` says more. The status is 0 where all was done and written, 3 where messages were skipped, 1 at a fault, 2 where the words are wrong.
+//! `hagzimot --help` says more. The status is 0 where all was done and written, 3 where messages were skipped or passed on unedited, 1 at a fault, 2 where the words are wrong.
 #![tactic(auto)]
 
 mod command_line;
 mod faults;
 mod files;
 mod log;
+mod log_words;
 mod passes;
+mod plain_log;
 mod relay_task;
 mod reports;
 mod shows;
+mod stats;
 mod tape;
 mod versions;
 mod words;
@@ -47,7 +50,8 @@ fn run(rt: &HostRuntime) -> io::Result<u8> {
         given => given?,
     };
     let words: Vec<String> = given.collect(rt.alloc())?;
-    let command = command_line::command_line(rt.alloc())?;
+    let called = words.get(1).map(|word| word.as_str());
+    let command = command_line::command_line(rt.alloc(), called)?;
     let matches = match command.try_get_matches_from(words.as_slice()) {
         Ok(matches) => matches,
         Err(error) => {

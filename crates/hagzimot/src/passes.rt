@@ -1,13 +1,14 @@
 //! Subcommands that read streams of messages and write streams of messages.
 
 use crate::faults::Failure;
-use crate::files::{Input, OutSink, Output, open_sink};
-use crate::log::{Lines, Log, LogEnd, Refusals, TurnAndFlush};
+use crate::files::{Input, OutSink, open_sink};
+use crate::log::{Log, LogEnd, RunLog, TurnAndFlush};
+use crate::log_words::{Lines, LogWords, Noted, OnRefused};
+use crate::plain_log::PlainLog;
 use crate::relay_task::RelayTask;
 use crate::{files, words};
 use capnp_relay_loop::ends::Counts;
 use capnp_relay_program::ahead::BoundedForm;
-use capnp_relay_program::sinks::Flush;
 use capnp_relay_streams::between::BetweenFault;
 use capnp_relay_streams::options::Form;
 use capnp_stream::forms::{Framed, MessageForm};
@@ -16,73 +17,142 @@ use capnp_stream_packed::form::Packed;
 use clap::ArgMatches;
 use hagzimot_commands::canonical::{Canonical, canonicalize_all};
 use hagzimot_commands::convert::convert_all;
+use hagzimot_commands::passing::pass_on_all;
 use std::alloc::Global;
+use std::cell::Cell;
+use std::rc::Rc;
 
 /// The status where all was done and written.
 const DONE: u8 = 0;
 
-/// The status where messages were skipped.
+/// The status where messages were skipped, or passed on unedited.
 const SKIPPED: u8 = 3;
 
-/// What is done with each message.
-#[derive(Clone, Copy)]
-enum Task<'a> {
-    Convert { words: u32 },
-    Canonical(Canonical),
-    Relay(&'a RelayTask),
+/// What is done with each message of an input.
+trait Task {
+    /// Passes the messages of a source on, from one form to another.
+    fn run_in<I: BoundedForm, O: MessageForm, L: RunLog>(
+        &self,
+        alloc: Global,
+        source: &mut Source<Input>,
+        out: &mut OutSink,
+        log: &mut L,
+    ) -> Result<Counts, BetweenFault>;
 }
 
-impl Task<'_> {
-    /// Passes the messages of a source on, from one form to another.
-    fn run_in<I: BoundedForm, O: MessageForm>(
-        self,
+/// Each message is written in another form.
+#[derive(Drop)]
+struct Conversion {
+    words: u32,
+}
+
+impl Task for Conversion {
+    fn run_in<I: BoundedForm, O: MessageForm, L: RunLog>(
+        &self,
         alloc: Global,
         source: &mut Source<Input>,
         out: &mut OutSink,
-        log: &mut Log,
+        log: &mut L,
     ) -> Result<Counts, BetweenFault> {
-        let end = match self {
-            Task::Convert { words } => {
-                convert_all::<I, O, Source<Input>, OutSink, Log, TurnAndFlush<I>>(
-                    alloc,
-                    source,
-                    out,
-                    log,
-                    words as usize,
-                )
-            }
-            Task::Canonical(limits) => {
-                canonicalize_all::<I, O, Source<Input>, OutSink, Log, TurnAndFlush<I>>(
-                    alloc, source, out, log, limits,
-                )
-            }
-            Task::Relay(task) => return task.run::<I>(alloc, source, out, log),
-        };
+        let words = self.words as usize;
+        let end = convert_all::<I, O, Source<Input>, OutSink, L, TurnAndFlush<I>>(
+            alloc, source, out, log, words,
+        );
         end.map_err(BetweenFault::Relay)
     }
+}
 
-    /// The same in these forms.
-    fn run(
-        self,
+impl Task for Canonical {
+    fn run_in<I: BoundedForm, O: MessageForm, L: RunLog>(
+        &self,
         alloc: Global,
-        forms: Forms,
         source: &mut Source<Input>,
         out: &mut OutSink,
-        log: &mut Log,
+        log: &mut L,
     ) -> Result<Counts, BetweenFault> {
-        match (forms.input, forms.output) {
-            (Form::Framed, Form::Framed) => {
-                self.run_in::<Framed, Framed>(alloc, source, out, log)
-            }
-            (Form::Framed, Form::Packed) => {
-                self.run_in::<Framed, Packed>(alloc, source, out, log)
-            }
-            (Form::Packed, Form::Framed) => {
-                self.run_in::<Packed, Framed>(alloc, source, out, log)
-            }
-            (Form::Packed, Form::Packed) => {
-                self.run_in::<Packed, Packed>(alloc, source, out, log)
-            }
+        let end = canonicalize_all::<I, O, Source<Input>, OutSink, L, TurnAndFlush<I>>(
+            alloc, source, out, log, *self,
+        );
+        end.map_err(BetweenFault::Relay)
+    }
+}
+
+impl Task for RelayTask {
+    fn run_in<I: BoundedForm, O: MessageForm, L: RunLog>(
+        &self,
+        alloc: Global,
+        source: &mut Source<Input>,
+        out: &mut OutSink,
+        log: &mut L,
+    ) -> Result<Counts, BetweenFault> {
+        self.run::<I, L>(alloc, source, out, log)
+    }
+}
+
+/// A task that passes messages on which it can't answer, and notes why.
+#[derive(Drop)]
+struct PassingOn<T> {
+    task: T,
+    noted: Noted,
+}
+
+impl Task for PassingOn<Canonical> {
+    fn run_in<I: BoundedForm, O: MessageForm, L: RunLog>(
+        &self,
+        alloc: Global,
+        source: &mut Source<Input>,
+        out: &mut OutSink,
+        log: &mut L,
+    ) -> Result<Counts, BetweenFault> {
+        let mut region = [0u8; 8];
+        let end = pass_on_all::<I, O, Source<Input>, OutSink, L, Canonical, TurnAndFlush<I>>(
+            alloc,
+            source,
+            out,
+            log,
+            &self.task,
+            &self.noted,
+            self.task.words as usize,
+            &mut region,
+        );
+        end.map_err(BetweenFault::Relay)
+    }
+}
+
+impl Task for PassingOn<&RelayTask> {
+    fn run_in<I: BoundedForm, O: MessageForm, L: RunLog>(
+        &self,
+        alloc: Global,
+        source: &mut Source<Input>,
+        out: &mut OutSink,
+        log: &mut L,
+    ) -> Result<Counts, BetweenFault> {
+        self.task
+            .run_passing::<I, O, L>(alloc, source, out, log, &self.noted)
+    }
+}
+
+/// Passes the messages of a source on in these forms.
+fn run<T: Task, L: RunLog>(
+    task: &T,
+    alloc: Global,
+    forms: Forms,
+    source: &mut Source<Input>,
+    out: &mut OutSink,
+    log: &mut L,
+) -> Result<Counts, BetweenFault> {
+    match (forms.input, forms.output) {
+        (Form::Framed, Form::Framed) => {
+            task.run_in::<Framed, Framed, L>(alloc, source, out, log)
+        }
+        (Form::Framed, Form::Packed) => {
+            task.run_in::<Framed, Packed, L>(alloc, source, out, log)
+        }
+        (Form::Packed, Form::Framed) => {
+            task.run_in::<Packed, Framed, L>(alloc, source, out, log)
+        }
+        (Form::Packed, Form::Packed) => {
+            task.run_in::<Packed, Packed, L>(alloc, source, out, log)
         }
     }
 }
@@ -97,7 +167,7 @@ struct Forms {
 /// How the messages of an input ended that is no failure.
 #[derive(Clone, Copy, Debug, PartialEq, Eq)]
 struct Ended {
-    /// Whether messages were skipped.
+    /// Whether messages were skipped, or passed on unedited.
     skipped: bool,
     /// Whether the first one that was skipped ended the run.
     stopped: bool,
@@ -116,18 +186,18 @@ fn end_failure(alloc: Global, name: &str, start: u64, fault: BetweenFault) -> Fa
 }
 
 /// Passes the messages of one input on, and flushes the sinks.
-fn pass_one(
+fn pass_one<T: Task, L: RunLog>(
     rt: &HostRuntime,
-    task: Task<'_>,
+    task: &T,
     forms: Forms,
     name: &str,
     out: &mut OutSink,
-    log: &mut Log,
+    log: &mut L,
 ) -> Result<Ended, Failure> {
     let alloc = rt.alloc();
-    let tape = log.begin_input()?;
+    let tape = log.begin()?;
     let mut source = files::open_source(rt, name, &tape)?;
-    let end = task.run(alloc, forms, &mut source, out, log);
+    let end = run::<T, L>(task, alloc, forms, &mut source, out, log);
     let flushed = out.flush();
     let all_kept = log.finish();
     let stopped = log.end() == Some(LogEnd::Stopped);
@@ -142,37 +212,25 @@ fn pass_one(
         (Err(fault), _) => Err(end_failure(alloc, name, tape.start(), fault)),
         (Ok(_), Err(_)) => Err(Failure::Output),
         (Ok(counts), Ok(())) => Ok(Ended {
-            skipped: counts.refused > 0,
+            skipped: counts.refused > 0 || log.has_unedited(),
             stopped: false,
         }),
     }
 }
 
-/// Where messages go, and what is done about those that are skipped.
-#[derive(Drop)]
-struct Sinks {
-    out: OutSink,
-    log: Log,
-}
-
-/// Passes the messages of all inputs on, and returns whether some were skipped.
-fn pass_each(
+/// Passes the messages of all inputs on, and returns whether some were skipped, or passed on
+/// unedited.
+fn pass_each<T: Task, L: RunLog>(
     rt: &HostRuntime,
-    task: Task<'_>,
+    task: &T,
     forms: Forms,
     names: &[String],
-    mut sinks: Sinks,
+    out: &mut OutSink,
+    log: &mut L,
 ) -> Result<bool, Failure> {
     let mut skipped = false;
     for name in names {
-        let ended = pass_one(
-            rt,
-            task,
-            forms,
-            name.as_str(),
-            &mut sinks.out,
-            &mut sinks.log,
-        )?;
+        let ended = pass_one::<T, L>(rt, task, forms, name.as_str(), out, log)?;
         skipped |= ended.skipped;
         if ended.stopped {
             break;
@@ -181,57 +239,41 @@ fn pass_each(
     Ok(skipped)
 }
 
-/// The sinks that the words name.
-fn open_sinks(rt: &HostRuntime, matches: &ArgMatches<'_>, lines: Lines) -> Result<Sinks, Failure> {
-    let alloc = rt.alloc();
-    let output = files::open_output(rt, matches.get_str("output"))?;
-    let refused = match words::refused_name(matches) {
-        Some(name) => {
-            let output = files::open_output(rt, Some(name))?;
-            Some(open_sink(alloc, output)?)
-        }
-        None => None,
-    };
-    let refusals = Refusals {
-        sink: refused,
-        stop: words::stops(matches),
-    };
-    Ok(Sinks {
-        out: open_sink(alloc, output)?,
-        log: Log::new(rt, lines, refusals)?,
-    })
-}
-
-/// Passes the messages of the inputs that the words name on to the sinks that they name, and returns whether some were skipped.
-fn pass_inputs(
+/// Passes the messages of the inputs that the words name on to the sinks that they name, and
+/// returns whether some were skipped, or passed on unedited.
+fn pass_inputs<T: Task, L: RunLog>(
     rt: &HostRuntime,
     matches: &ArgMatches<'_>,
-    task: Task<'_>,
-    lines: Lines,
+    task: &T,
+    asked: LogWords<'_>,
 ) -> Result<bool, Failure> {
+    let alloc = rt.alloc();
     let forms = Forms {
         input: words::form(matches, "in"),
         output: words::form(matches, "out"),
     };
-    let names = words::inputs(rt.alloc(), matches)?;
-    let sinks = open_sinks(rt, matches, lines)?;
-    pass_each(rt, task, forms, &names, sinks)
+    let names = words::inputs(alloc, matches)?;
+    let mut out = open_sink(alloc, files::open_output(rt, matches.get_str("output"))?)?;
+    let mut log = L::open(rt, asked)?;
+    let skipped = pass_each::<T, L>(rt, task, forms, &names, &mut out, &mut log);
+    log.sum_up();
+    skipped
 }
 
 /// The same, and returns the status; the files that were written get their names, or are removed.
-fn pass_all(
+fn pass_all<T: Task, L: RunLog>(
     rt: &HostRuntime,
     matches: &ArgMatches<'_>,
-    task: Task<'_>,
-    lines: Lines,
+    task: &T,
+    asked: LogWords<'_>,
 ) -> Result<u8, Failure> {
     let named = matches.get_str("output");
-    let refused = words::refused_name(matches);
+    let refused = asked.refused;
     if refused.is_some() && refused == named {
         let why = "the output has this name too";
         return Err(Failure::about(rt.alloc(), "--refused", &why));
     }
-    match pass_inputs(rt, matches, task, lines) {
+    match pass_inputs::<T, L>(rt, matches, task, asked) {
         Ok(skipped) => {
             files::keep(rt, refused)?;
             files::keep(rt, named)?;
@@ -245,6 +287,21 @@ fn pass_all(
     }
 }
 
+/// A log of these lines, which does what the words say of messages that are refused.
+fn asked<'a>(
+    rt: &HostRuntime,
+    matches: &ArgMatches<'a>,
+    lines: Lines,
+) -> Result<LogWords<'a>, Failure> {
+    Ok(LogWords {
+        lines,
+        on_refused: words::on_refused(matches),
+        refused: words::refused_name(matches),
+        stats: words::has_stats(matches),
+        noted: Rc::new(rt.alloc(), Cell::new(None))?,
+    })
+}
+
 /// The lines of the log that the words name.
 fn lines(matches: &ArgMatches<'_>) -> Lines {
     Lines::named(words::text(matches, "log"))
@@ -253,20 +310,36 @@ fn lines(matches: &ArgMatches<'_>) -> Lines {
 /// `hagzimot convert`.
 pub fn convert(rt: &HostRuntime, matches: &ArgMatches<'_>) -> Result<u8, Failure> {
     let words = words::limit_of_words(matches);
-    pass_all(rt, matches, Task::Convert { words }, Lines::None)
+    let asked = asked(rt, matches, Lines::None)?;
+    pass_all::<Conversion, Log>(rt, matches, &Conversion { words }, asked)
 }
 
 /// `hagzimot canonical`.
 pub fn canonical(rt: &HostRuntime, matches: &ArgMatches<'_>) -> Result<u8, Failure> {
-    let limits = Canonical {
+    let task = Canonical {
         words: words::limit_of_words(matches),
         nesting: words::nesting(matches),
     };
-    pass_all(rt, matches, Task::Canonical(limits), lines(matches))
+    let asked = asked(rt, matches, lines(matches))?;
+    if asked.on_refused != OnRefused::Pass {
+        return pass_all::<Canonical, Log>(rt, matches, &task, asked);
+    }
+    let noted = Rc::clone(&asked.noted)?;
+    let task = PassingOn { task, noted };
+    pass_all::<PassingOn<Canonical>, Log>(rt, matches, &task, asked)
 }
 
 /// `hagzimot relay`.
 pub fn relay(rt: &HostRuntime, matches: &ArgMatches<'_>) -> Result<u8, Failure> {
     let task = RelayTask::new(rt, matches)?;
-    pass_all(rt, matches, Task::Relay(&task), lines(matches))
+    let asked = asked(rt, matches, lines(matches))?;
+    if asked.are_plain() {
+        return pass_all::<RelayTask, PlainLog>(rt, matches, &task, asked);
+    }
+    if asked.on_refused != OnRefused::Pass {
+        return pass_all::<RelayTask, Log>(rt, matches, &task, asked);
+    }
+    let noted = Rc::clone(&asked.noted)?;
+    let task = PassingOn { task: &task, noted };
+    pass_all::<PassingOn<&RelayTask>, Log>(rt, matches, &task, asked)
 }

@@ -2,19 +2,29 @@
 
 use crate::faults::Failure;
 use crate::files::{Input, OutSink, read_file};
-use crate::log::{Log, TurnAndFlush};
+use crate::log::{RunLog, TurnAndFlush};
+use crate::log_words::Noted;
 use crate::words;
 use capnp_calls::{Call, CallFault};
+use capnp_calls_versions::admitted::{Admission, admitted_with};
+use capnp_calls_versions::compatible::compatible_with;
 use capnp_calls_versions::renamings::Renamings;
+use capnp_calls_versions::root::Root;
+use capnp_relay_answers::bounds::Bounds;
+use capnp_relay_answers::root_calls::RootCalls;
 use capnp_relay_files::calls_file::{CallsFile, calls_file};
 use capnp_relay_files::fault::FileFault;
+use capnp_relay_loop::answers::Answers;
 use capnp_relay_loop::ends::Counts;
 use capnp_relay_program::ahead::BoundedForm;
+use capnp_relay_streams::at_root::{CallsAtRoot, PlainCallsAtRoot};
 use capnp_relay_streams::between::{BetweenFault, relay_between_pausing};
 use capnp_relay_streams::options::{ReaderOptions, RelayOptions};
 use capnp_relay_streams::relay::relay_pausing;
+use capnp_stream::forms::MessageForm;
 use capnp_stream_io::adapters::Source;
 use clap::ArgMatches;
+use hagzimot_commands::passing::pass_on_all;
 use hagzimot_commands::strict::check_call;
 use hagzimot_commands::word_calls::{CallParts, WordVerb, call_of_words};
 use hagzimot_forms::calls_form::calls_form_fault;
@@ -32,6 +42,8 @@ pub struct RelayTask {
     newer: Option<RootedSchema>,
     renamings: Renamings,
     calls: Vec<Call>,
+    limits: ReaderOptions,
+    is_plain: bool,
     options: RelayOptions,
 }
 
@@ -232,7 +244,8 @@ impl RelayTask {
         };
         let renamings = words::renamings(rt, matches)?;
         let file = named_calls(rt, matches)?;
-        let options = options(alloc, matches, limits(matches, file.as_ref()))?;
+        let limits = limits(matches, file.as_ref());
+        let options = options(alloc, matches, limits)?;
         let parts = match file {
             Some(file) => file.calls,
             None => Vec::new(alloc),
@@ -243,25 +256,25 @@ impl RelayTask {
             newer,
             renamings,
             calls,
+            limits,
+            is_plain: matches.get_flag("plain"),
             options,
         })
     }
 
     /// Relays the messages of a source in this form.
-    pub fn run<I: BoundedForm>(
+    pub fn run<I: BoundedForm, L: RunLog>(
         &self,
         alloc: Global,
         source: &mut Source<Input>,
         out: &mut OutSink,
-        log: &mut Log,
+        log: &mut L,
     ) -> Result<Counts, BetweenFault> {
-        let Ok(mut region) = vec![in alloc; 0u8; REGION_LEN] else {
-            return Err(BetweenFault::Memory);
-        };
+        let mut region = region(alloc)?;
         let root = self.schema.root();
         let calls = self.calls.as_slice();
         let Some(newer) = &self.newer else {
-            let end = relay_pausing::<Source<Input>, OutSink, Log, TurnAndFlush<I>>(
+            let end = relay_pausing::<Source<Input>, OutSink, L, TurnAndFlush<I>>(
                 alloc,
                 source,
                 out,
@@ -273,7 +286,7 @@ impl RelayTask {
             );
             return end.map_err(BetweenFault::Relay);
         };
-        relay_between_pausing::<Source<Input>, OutSink, Log, TurnAndFlush<I>>(
+        relay_between_pausing::<Source<Input>, OutSink, L, TurnAndFlush<I>>(
             alloc,
             source,
             out,
@@ -286,4 +299,96 @@ impl RelayTask {
             &mut region,
         )
     }
+
+    /// Whether the calls may be relayed beside the newer schema, if there is one.
+    fn check_newer(&self, alloc: Global) -> Result<(), BetweenFault> {
+        let Some(newer) = &self.newer else {
+            return Ok(());
+        };
+        let (newer, older) = (newer.root(), self.schema.root());
+        let newer = Root {
+            set: newer.set(),
+            id: newer.raw().id,
+        };
+        let older = Root {
+            set: older.set(),
+            id: older.raw().id,
+        };
+        match compatible_with(alloc, older, newer, &self.renamings) {
+            Ok(true) => {}
+            Ok(false) => return Err(BetweenFault::NotCompatible),
+            Err(_) => return Err(BetweenFault::Memory),
+        }
+        match admitted_with(alloc, &self.calls, older, newer, &self.renamings) {
+            Ok(Admission::Admitted) => Ok(()),
+            Ok(Admission::Refused(number)) => Err(BetweenFault::NotAdmitted(number)),
+            Err(_) => Err(BetweenFault::Memory),
+        }
+    }
+
+    /// How far messages are followed; `RelayOptions` has taken these limits.
+    fn bounds(&self) -> Bounds {
+        let words = self.limits.traversal_limit_in_words.unwrap_or(0);
+        Bounds {
+            words: u32::try_from(words).unwrap_or(u32::MAX),
+            nesting: u32::try_from(self.limits.nesting_limit).unwrap_or(0),
+        }
+    }
+
+    /// Relays the messages of a source from one form to another. One that would be skipped is
+    /// passed on unedited, and why is noted.
+    pub fn run_passing<I: BoundedForm, O: MessageForm, L: RunLog>(
+        &self,
+        alloc: Global,
+        source: &mut Source<Input>,
+        out: &mut OutSink,
+        log: &mut L,
+        noted: &Noted,
+    ) -> Result<Counts, BetweenFault> {
+        self.check_newer(alloc)?;
+        let bounds = self.bounds();
+        let Ok(calls) = RootCalls::new(alloc, self.schema.root(), &self.calls) else {
+            return Err(BetweenFault::Memory);
+        };
+        if self.is_plain {
+            let answers = PlainCallsAtRoot { calls, bounds };
+            return pass_on::<I, O, L, PlainCallsAtRoot<'_>>(
+                alloc, source, out, log, &answers, bounds, noted,
+            );
+        }
+        let answers = CallsAtRoot { calls, bounds };
+        pass_on::<I, O, L, CallsAtRoot<'_>>(alloc, source, out, log, &answers, bounds, noted)
+    }
+}
+
+/// The memory in which messages are edited.
+fn region(alloc: Global) -> Result<Vec<u8>, BetweenFault> {
+    match vec![in alloc; 0u8; REGION_LEN] {
+        Ok(region) => Ok(region),
+        Err(_) => Err(BetweenFault::Memory),
+    }
+}
+
+/// Answers the messages of a source; one that would be skipped is passed on, and why is noted.
+fn pass_on<I: BoundedForm, O: MessageForm, L: RunLog, A: Answers>(
+    alloc: Global,
+    source: &mut Source<Input>,
+    out: &mut OutSink,
+    log: &mut L,
+    answers: &A,
+    bounds: Bounds,
+    noted: &Noted,
+) -> Result<Counts, BetweenFault> {
+    let mut region = region(alloc)?;
+    let end = pass_on_all::<I, O, Source<Input>, OutSink, L, A, TurnAndFlush<I>>(
+        alloc,
+        source,
+        out,
+        log,
+        answers,
+        noted,
+        bounds.words as usize,
+        &mut region,
+    );
+    end.map_err(BetweenFault::Relay)
 }

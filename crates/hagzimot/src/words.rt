@@ -2,6 +2,7 @@
 
 use crate::faults::Failure;
 use crate::files::read_file;
+use crate::log_words::OnRefused;
 use capnp_calls_versions::renamings::{RenamingFault, Renamings};
 use capnp_relay_files::fault::FileFault;
 use capnp_relay_files::renames_file::renames_file;
@@ -63,7 +64,7 @@ pub fn inputs(alloc: Global, words: &ArgMatches<'_>) -> Result<Vec<String>, Fail
     Ok(names)
 }
 
-/// The name of the file of messages that are skipped.
+/// The name of the file of messages that are refused.
 pub fn refused_name<'a>(words: &ArgMatches<'a>) -> Option<&'a str> {
     if words.contains_id("refused") {
         words.get_str("refused")
@@ -72,9 +73,21 @@ pub fn refused_name<'a>(words: &ArgMatches<'a>) -> Option<&'a str> {
     }
 }
 
-/// Whether the first message that is skipped ends the run.
-pub fn stops(words: &ArgMatches<'_>) -> bool {
-    words.contains_id("on-refused") && words.get_str("on-refused") == Some("stop")
+/// What is done at a message that is refused.
+pub fn on_refused(words: &ArgMatches<'_>) -> OnRefused {
+    if !words.contains_id("on-refused") {
+        return OnRefused::Skip;
+    }
+    match words.get_str("on-refused") {
+        Some("stop") => OnRefused::Stop,
+        Some("pass") => OnRefused::Pass,
+        _ => OnRefused::Skip,
+    }
+}
+
+/// Whether messages and bytes are counted and told.
+pub fn has_stats(words: &ArgMatches<'_>) -> bool {
+    words.contains_id("stats") && words.get_flag("stats")
 }
 
 /// What becomes of floats in what the compiler wrote.

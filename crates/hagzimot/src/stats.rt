@@ -1,0 +1,90 @@
+//! How many messages and bytes a run has seen.
+
+use std::alloc::{AllocError, Global};
+use std::io::IsTerminal;
+use std::time::Instant;
+
+/// How many seconds there are between two lines of counts.
+const BETWEEN: u64 = 1;
+
+/// The counts of a run, which are told once a second where standard error is a terminal.
+#[derive(Drop)]
+pub struct Stats {
+    rt: HostRuntime,
+    written: u64,
+    /// How many of those that were written are unedited.
+    unedited: u64,
+    refused: u64,
+    /// How many bytes the inputs before this one gave.
+    bytes: u64,
+    /// When counts were last told; `None` where they are told at the end alone.
+    told: Option<Instant>,
+}
+
+impl Stats {
+    /// Nothing is counted yet. Where there is no clock counts are told at the end alone.
+    pub fn new(rt: &HostRuntime) -> Stats {
+        let told = if rt.stderr().is_terminal() {
+            Instant::now(rt).ok()
+        } else {
+            None
+        };
+        Stats {
+            rt: *rt,
+            written: 0,
+            unedited: 0,
+            refused: 0,
+            bytes: 0,
+            told,
+        }
+    }
+
+    /// Counts a message, which is refused or not; one that is refused and unedited is written.
+    pub fn count(&mut self, is_refused: bool, is_unedited: bool) {
+        if is_refused && !is_unedited {
+            self.refused = self.refused.saturating_add(1);
+            return;
+        }
+        self.written = self.written.saturating_add(1);
+        if is_unedited {
+            self.unedited = self.unedited.saturating_add(1);
+        }
+    }
+
+    /// Counts the bytes of an input that has ended.
+    pub fn pass_over(&mut self, bytes: u64) {
+        self.bytes = self.bytes.saturating_add(bytes);
+    }
+
+    /// Whether counts are to be told again, and notes that they are.
+    pub fn is_time(&mut self) -> bool {
+        let Some(told) = self.told else {
+            return false;
+        };
+        let Ok(now) = Instant::now(&self.rt) else {
+            return false;
+        };
+        if now.duration_since(told).as_secs() < BETWEEN {
+            return false;
+        }
+        self.told = Some(now);
+        true
+    }
+
+    /// The line of the counts, where the input gave so many bytes, as text or as JSON. An error
+    /// where a growth was refused.
+    pub fn line(&self, alloc: Global, given: u64, as_json: bool) -> Result<String, AllocError> {
+        let written = self.written;
+        let unedited = self.unedited;
+        let refused = self.refused;
+        let bytes = self.bytes.saturating_add(given);
+        if as_json {
+            return format!(in alloc;
+                "{{\"written\":{written},\"unedited\":{unedited},\"refused\":{refused},\"bytes\":{bytes}}}\n"
+            );
+        }
+        format!(in alloc;
+            "{written} written, {unedited} of them unedited, {refused} refused, {bytes} bytes read\n"
+        )
+    }
+}
