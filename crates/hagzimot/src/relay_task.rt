@@ -1,4 +1,5 @@
 //! What `hagzimot relay` is asked to do.
+ghost use Rattle.std.specs.Prelude.{◌≡◌, length, replicate, IfOk};
 
 use crate::faults::Failure;
 use crate::files::{Input, OutSink, read_file};
@@ -270,7 +271,7 @@ impl RelayTask {
         out: &mut OutSink,
         log: &mut L,
     ) -> Result<Counts, BetweenFault> {
-        let mut region = region(alloc)?;
+        let mut region = region(alloc, REGION_LEN)?;
         let root = self.schema.root();
         let calls = self.calls.as_slice();
         let Some(newer) = &self.newer else {
@@ -361,9 +362,11 @@ impl RelayTask {
     }
 }
 
-/// The memory in which messages are edited.
-fn region(alloc: Global) -> Result<Vec<u8>, BetweenFault> {
-    match vec![in alloc; 0u8; REGION_LEN] {
+/// Memory of so many bytes in which messages are edited, all zeros.
+fn region(alloc: Global, len: usize) -> Result<Vec<u8>, BetweenFault>
+    ensures { IfOk result (λ bytes. bytes.items ≡ replicate (length bytes.items) 0) }
+{
+    match vec![in alloc; 0u8; len] {
         Ok(region) => Ok(region),
         Err(_) => Err(BetweenFault::Memory),
     }
@@ -379,7 +382,7 @@ fn pass_on<I: BoundedForm, O: MessageForm, L: RunLog, A: Answers>(
     bounds: Bounds,
     noted: &Noted,
 ) -> Result<Counts, BetweenFault> {
-    let mut region = region(alloc)?;
+    let mut region = region(alloc, REGION_LEN)?;
     let end = pass_on_all::<I, O, Source<Input>, OutSink, L, A, TurnAndFlush<I>>(
         alloc,
         source,
