@@ -7,7 +7,7 @@ use Rattle.capnp_wire_objects.specs.Places.{place_view}
 use Rattle.capnp_wire.specs.Views.{backing_bytes, is_paid, seen_struct}
 use Rattle.capnp_copy_values.specs.Copies.{StructSource, struct_source}
 use Rattle.capnp_copy_values.specs.Contents.{CopiesContent}
-use Rattle.capnp_layout_builders.specs.Copied.{Walk, Charged, IsTold, WithoutLevels, IsSourceOf}
+use Rattle.capnp_layout_builders.specs.Copied.{Walk, Charged, IsTold, TakesDataAlone, IsSourceOf}
 use Rattle.capnp_layout_builders.proofs.lemmas.Charging.{matched, in_arena, in_default}
 use Rattle.capnp_model.specs.Coverage.{from_each}
 use Rattle.capnp_model.specs.Sizes.{each_object_words}
@@ -27,7 +27,7 @@ returns-in-Arena-clause-content g c =
     let x = struct_source c.section-section.result.now c.first_pointer-first.result c.pointers-pointers.result in
     let parts : IsSourceOf v x = record { section = c.section-section.ensures.section; data_words = ap words_for c.section-section.ensures.bits; first = c.first_pointer-first.ensures.place; pointers = c.pointers-pointers.ensures } in
     let W : ℕ → Segments → Walk = λ n q l r m. (y : StructSource) × IsSourceOf v y × CopiesContent n q y s u c.args.object l r m in
-    matched v.levels (WithoutLevels s u c.args.limiter.now c.copy_content_from.result c.copy_content_from.new.limiter) (λ n. Charged v.basis.paid (W n v.basis.segments) c.args.limiter.now c.copy_content_from.result c.copy_content_from.new.limiter) c.in-Some.levels ((sym c.levels.ensures) ∙ c.in-Some.is)
+    matched v.levels (TakesDataAlone v s u c.args.object c.args.limiter.now c.copy_content_from.result c.copy_content_from.new.limiter) (λ n. Charged v.basis.paid (W n v.basis.segments) c.args.limiter.now c.copy_content_from.result c.copy_content_from.new.limiter) c.in-Some.levels ((sym c.levels.ensures) ∙ c.in-Some.is)
     (in_arena bytes (W c.in-Some.levels) c.backing.result v.basis (bytes c.in-Arena.source.now) c.args.limiter.now c.copy_content_from.new.limiter c.copy_content_from.result c.backing.ensures (ap is_paid c.in-Arena.is) (ap (backing_bytes bytes) c.in-Arena.is) (x, parts, c.copy_content_from.ensures.content))
 
 pub returns-in-Default-clause-content : goal.returns-in-Default-clause-content
@@ -39,7 +39,7 @@ returns-in-Default-clause-content g c =
     let x = struct_source c.section-section.result.now c.first_pointer-first.result c.pointers-pointers.result in
     let parts : IsSourceOf v x = record { section = c.section-section.ensures.section; data_words = ap words_for c.section-section.ensures.bits; first = c.first_pointer-first.ensures.place; pointers = c.pointers-pointers.ensures } in
     let W : ℕ → Segments → Walk = λ n q l r m. (y : StructSource) × IsSourceOf v y × CopiesContent n q y s u c.args.object l r m in
-    matched v.levels (WithoutLevels s u c.args.limiter.now c.copy_content_from-in-Default.result c.args.limiter.now) (λ n. Charged v.basis.paid (W n v.basis.segments) c.args.limiter.now c.copy_content_from-in-Default.result c.args.limiter.now) c.in-Some.levels ((sym c.levels.ensures) ∙ c.in-Some.is)
+    matched v.levels (TakesDataAlone v s u c.args.object c.args.limiter.now c.copy_content_from-in-Default.result c.args.limiter.now) (λ n. Charged v.basis.paid (W n v.basis.segments) c.args.limiter.now c.copy_content_from-in-Default.result c.args.limiter.now) c.in-Some.levels ((sym c.levels.ensures) ∙ c.in-Some.is)
     (in_default bytes (W c.in-Some.levels) c.backing.result c.backing-source.result v.basis c.new-unlimited.result c.copy_content_from-in-Default.new.limiter c.args.limiter.now c.copy_content_from-in-Default.result c.backing.ensures (ap is_paid c.in-Default.is) c.backing-source.ensures c.new-unlimited.ensures.limit (x, parts, c.copy_content_from-in-Default.ensures.content))
 
 pub returns-in-Arena-clause-told : goal.returns-in-Arena-clause-told
