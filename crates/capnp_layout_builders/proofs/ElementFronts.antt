@@ -39,16 +39,15 @@ few_bits (suc (suc (suc (suc zero)))) = omega arith
 few_bits (suc (suc (suc (suc (suc n))))) = omega arith
 
 -- a plain element that has bits is a number
-pub numbers_alone : (z d w : ℕ) → z ≢ 7 → 0 < w → w ≤ element_bits z d → (w ≤ size_bits z) × (z < 6)
-numbers_alone zero d w not some h = absurd (omega (arith, some, h))
-numbers_alone (suc zero) d w not some h = (h, omega arith)
-numbers_alone (suc (suc zero)) d w not some h = (h, omega arith)
-numbers_alone (suc (suc (suc zero))) d w not some h = (h, omega arith)
-numbers_alone (suc (suc (suc (suc zero)))) d w not some h = (h, omega arith)
-numbers_alone (suc (suc (suc (suc (suc zero))))) d w not some h = (h, omega arith)
-numbers_alone (suc (suc (suc (suc (suc (suc zero)))))) d w not some h = absurd (omega (arith, some, h))
-numbers_alone (suc (suc (suc (suc (suc (suc (suc zero))))))) d w not some h = absurd (not refl)
-numbers_alone (suc (suc (suc (suc (suc (suc (suc (suc n)))))))) d w not some h = absurd (omega (arith, some, h))
+pub numbers_alone : (z : ElementSize) (d w : ℕ) → z ≢ InlineComposite → 0 < w → w ≤ element_bits (size_number z) d → (w ≤ size_bits (size_number z)) × (size_number z < 6)
+numbers_alone Void d w not some h = absurd (omega (arith, some, h))
+numbers_alone Bit d w not some h = (h, omega arith)
+numbers_alone Byte d w not some h = (h, omega arith)
+numbers_alone TwoBytes d w not some h = (h, omega arith)
+numbers_alone FourBytes d w not some h = (h, omega arith)
+numbers_alone EightBytes d w not some h = (h, omega arith)
+numbers_alone Pointer d w not some h = absurd (omega (arith, some, h))
+numbers_alone InlineComposite d w not some h = absurd (not refl)
 
 -- what is written as it was
 pub element_same : (d i section : ℕ) (kids : Trees) (es : Elements) → element_at d es i ≡ structure d section kids → with_element es i section kids ≡ es

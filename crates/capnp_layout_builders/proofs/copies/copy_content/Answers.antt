@@ -1,14 +1,14 @@
 -- A struct is copied by its parts.
-use Rattle.std.proofs.Common.{ℕ, min, ap, sym, ◌∙◌}
+use Rattle.std.proofs.Common.{◌≡◌, ℕ, min, None, Err, refl, ap, sym, ◌∙◌, subst, rules}
 use Rattle.capnp_model.specs.Sections.{words_for}
 use Rattle.capnp_model.specs.Segments.{Segments}
 use Rattle.capnp_units.specs.Segments.{words_in}
 use Rattle.capnp_wire_objects.specs.Places.{place_view}
 use Rattle.capnp_wire.specs.Views.{backing_bytes, is_paid, seen_struct}
 use Rattle.capnp_copy_values.specs.Copies.{StructSource, struct_source}
-use Rattle.capnp_copy_values.specs.Contents.{CopiesContent}
+use Rattle.capnp_copy_values.specs.Contents.{CopiesContent, SetsSection, fitting}
 use Rattle.capnp_layout_builders.specs.Copied.{Walk, Charged, IsTold, TakesDataAlone, IsSourceOf}
-use Rattle.capnp_layout_builders.proofs.lemmas.Charging.{matched, in_arena, in_default}
+use Rattle.capnp_layout_builders.proofs.lemmas.Charging.{matched, unmatched, in_arena, in_default}
 use Rattle.capnp_model.specs.Coverage.{from_each}
 use Rattle.capnp_model.specs.Sizes.{each_object_words}
 use Rattle.capnp_model.specs.Traversal.{tree_at, each}
@@ -17,6 +17,21 @@ use Rattle.capnp_copy_arenas.specs.Refusals.{IsSizeOrRefusal}
 use Rattle.capnp_copy_arenas.specs.States.{state_in}
 use Rattle.capnp_copy_values.specs.Fits.{HasLongList}
 use Rattle.capnp_layout_builders.proofs.copies.copy_content.Goals as goal
+
+pub returns-in_default-clause-content : goal.returns-in_default-clause-content
+returns-in_default-clause-content g c =
+    let v = seen_struct g.B.ReaderArena.segments c.args.other in
+    let s = words_in (g.A.ReaderArena.segments c.args.arena.now) in
+    let u = words_in (g.A.ReaderArena.segments c.copy_data_from.new.arena) in
+    let o = c.args.object in
+    let l = c.args.limiter.now in
+    let none : v.levels ≡ None = search rules in
+    unmatched v.levels (TakesDataAlone v s u o l (Err c.from.result) l) (λ n. Charged v.basis.paid (λ q r m. (x : StructSource) × IsSourceOf v x × CopiesContent n v.basis.segments x s u o q r m) l (Err c.from.result) l) none (record {
+      refused = search rules;
+      unread = refl;
+      sizes = c.copy_data_from.ensures.sizes;
+      section = subst (λ (x : ℕ). SetsSection s u o (fitting o.data_words x)) c.section-section.ensures.section c.copy_data_from.ensures.section;
+    })
 
 pub returns-in-Arena-clause-content : goal.returns-in-Arena-clause-content
 returns-in-Arena-clause-content g c =

@@ -47,14 +47,14 @@ pub get_element-requires : goal.get_element-requires
 get_element-requires g c =
     let some : 0 < c.args.width = search rules in
     let near = c.requires.inside.near in
-    let x = numbers_alone (size_number c.args.list.size) c.args.list.data_words c.args.width (λ e. c.in_default.not-InlineComposite (composite_by_number c.args.list.size e)) some c.requires.inside.wide in
+    let x = numbers_alone c.args.list.size c.args.list.data_words c.args.width c.in_default.not-InlineComposite some c.requires.inside.wide in
     record { near = omega (arith, near); inside = (c.requires.inside.inside, x.0, x.1) }
 
 pub returns-in_default : goal.returns-in_default
 returns-in_default g c =
     let some : 0 < c.args.width = search rules in
     let other : size_number c.args.list.size ≢ 7 = λ e. c.in_default.not-InlineComposite (composite_by_number c.args.list.size e) in
-    let x = numbers_alone (size_number c.args.list.size) c.args.list.data_words c.args.width other some c.requires.inside.wide in
+    let x = numbers_alone c.args.list.size c.args.list.data_words c.args.width c.in_default.not-InlineComposite some c.requires.inside.wide in
     record {
       plain = λ lt. c.get_element.ensures;
       pointers = λ six. absurd (let less = x.1 in omega (arith, six, less));

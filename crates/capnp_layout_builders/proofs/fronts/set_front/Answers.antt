@@ -68,14 +68,14 @@ pub set_element-requires : goal.set_element-requires
 set_element-requires g c =
     let some : 0 < c.args.width = search rules in
     let near = c.requires.inside.near in
-    let x = numbers_alone (size_number c.args.list.size) c.args.list.data_words c.args.width (λ e. c.in_default.not-InlineComposite (composite_by_number c.args.list.size e)) some c.requires.inside.wide in
+    let x = numbers_alone c.args.list.size c.args.list.data_words c.args.width c.in_default.not-InlineComposite some c.requires.inside.wide in
     record { near = omega (arith, near); inside = (c.requires.inside.inside, x.0, x.1); fits = c.requires.fits }
 
 pub returns-in_default-clause-sets : goal.returns-in_default-clause-sets
 returns-in_default-clause-sets g c =
     let some : 0 < c.args.width = search rules in
     let other : size_number c.args.list.size ≢ 7 = λ e. c.in_default.not-InlineComposite (composite_by_number c.args.list.size e) in
-    let x = numbers_alone (size_number c.args.list.size) c.args.list.data_words c.args.width other some c.requires.inside.wide in
+    let x = numbers_alone c.args.list.size c.args.list.data_words c.args.width c.in_default.not-InlineComposite some c.requires.inside.wide in
     record {
       plain = λ lt. c.set_element.ensures.sets;
       pointers = λ six. absurd (let less = x.1 in omega (arith, six, less));
