@@ -29,6 +29,8 @@ loop-step-preserved c =
     record {
       ends = ap (end_of s rest) goes ∙ sym (one_step s st rest old) ∙ ap (λ xs. end_of s (map step_view xs) old) (sym split) ∙ c.loop-step.invariant.ends;
       known = subst (λ ns. IsEndOf ns next.end) c.set.ensures c.next_end-next.ensures.of_set;
+      small = c.next_end-next.ensures.small;
+      straight = λ on. straight on;
       grows = way_grown s whole rest st old (end_view next.end) next.found c.loop-step.fields.items c.note.new.fields.items c.in_ok-note.ensures.items goes finds c.next_end-next.ensures.begun begins;
     }
 
