@@ -6,7 +6,7 @@ use capnp_layout::{
 };
 use capnp_message::message::{Builder, HeapAllocator, with_message};
 use capnp_schema::dynamic_struct::{begun, get_named, has_sizes, initn, value};
-use capnp_schema::dynamic_value::{Capability, DowncastReader, Reader};
+use capnp_schema::dynamic_value::Reader;
 use capnp_schema::schema::StructSchema;
 use capnp_schema::{dynamic_list, dynamic_struct, dynamic_value};
 use std::alloc::Global;
@@ -32,8 +32,8 @@ fn write_ho<A: BuilderArena>(mut text: TextBuilder<'_, A>) -> Result<()> {
     Ok(())
 }
 
-/// Begins a list of two elements in a field of R, and sets its last text, a number of its last
-/// struct, or its first capability.
+/// Begins a list of two elements in a field of R, and sets its last text or a number of its last
+/// struct.
 fn begin_field<A: BuilderArena>(
     memory: &mut Memory<A>,
     place: StructPlace,
@@ -55,14 +55,11 @@ fn begin_field<A: BuilderArena>(
     if list.len() != 2 {
         return missing();
     }
-    match name {
-        "words" => list.set(1, Given::from("hi")),
-        "items" => {
-            let part = list.struct_at(1)?;
-            list.part(part).set_named("a", Given::UInt16(3))
-        }
-        _ => list.set(0, Given::Capability(Capability)),
+    if name == "words" {
+        return list.set(1, Given::from("hi"));
     }
+    let part = list.struct_at(1)?;
+    list.part(part).set_named("a", Given::UInt16(3))
 }
 
 /// Gets a list of R, and begins its first text, or sets the text of its first struct, which is got.
@@ -186,34 +183,5 @@ fn lists_and_pointers_are_written(rt: HostRuntime) -> std::result::Result<(), Fa
         let is = with_message(alloc, |message| written(alloc, message, schema, name))?;
         assert!(rt; is.as_str() == text, "{name}");
     }
-    Ok(())
-}
-
-#[test]
-fn a_list_of_capabilities_takes_none(rt: HostRuntime) -> std::result::Result<(), Fail> {
-    let alloc = rt.alloc();
-    let set = set_of(alloc, SCHEMAS)?;
-    let schema = schema_of(&set, 2)?;
-    match with_message(alloc, |message| written(alloc, message, schema, "caps")) {
-        Ok(_) => Err(Fail::from("a capability is set")),
-        Err(error) => {
-            assert!(rt; error.kind == ErrorKind::ListCapabilityNotSupported);
-            Ok(())
-        }
-    }
-}
-
-/// The number of an element, if it is one of 16 bits.
-fn number(value: Reader<'_, NullArena>) -> Option<u16> {
-    if !u16::fits(&value) {
-        return None;
-    }
-    Some(value.downcast::<u16>())
-}
-
-#[test]
-fn values_are_downcast(rt: HostRuntime) -> std::result::Result<(), Fail> {
-    assert!(rt; number(Reader::from(7u16)) == Some(7));
-    assert!(rt; number(Reader::from(7u32)).is_none());
     Ok(())
 }
