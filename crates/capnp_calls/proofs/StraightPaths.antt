@@ -80,7 +80,8 @@ module _ (s : Schema) (v : CallValue) (put : Put) (way : List Hop) (rest : List 
   goes ways.Here nowhere st h on alone leads = absurd h
   goes (ways.Behind hop) (at_slot (void_slot j)) st h on alone leads = absurd h
   goes (ways.Behind hop) (at_slot (plain_slot q at d)) st h on alone leads = absurd h
-  goes (ways.Behind hop) (at_slot (pointer_slot i ty d)) st h on alone leads = behind hop i d ty st h alone leads
+  goes (ways.Behind hop) (at_slot (pointer_slot i ty d)) (name n) h on alone leads = behind hop i d ty (name n) h alone leads
+  goes (ways.Behind hop) (at_slot (pointer_slot i ty d)) (index k) h on alone leads = behind hop i d ty (index k) h alone leads
   goes (ways.Behind hop) (at_slot (group_slot g)) st h on alone leads = absurd h
   goes (ways.Behind hop) (at_value ty) st h on alone leads = absurd h
   goes (ways.Behind hop) nowhere st h on alone leads = absurd h

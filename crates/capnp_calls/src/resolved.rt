@@ -65,8 +65,7 @@ fn walk_path<'a>(alloc: Global, root: StructSchema<'a>, path: &[Step]) -> Result
     for step in path {
         let next = next_end(root.set(), step, end);
         note(&mut fields, next.found)?;
-        let goes_on = note_hop(&mut hops, next_hop(end, step))?;
-        is_straight = is_straight && goes_on && next.is_alone;
+        is_straight = note_hop(&mut hops, is_straight, next_hop(end, step), next.is_alone)?;
         end = next.end;
     }
     Ok(Walk {

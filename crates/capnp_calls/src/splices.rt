@@ -12,12 +12,11 @@ ghost use Rattle.capnp_calls.specs.Splices.{IsPutOf};
 ghost use Rattle.capnp_calls_splice.specs.Blobs.{tree_of_blob};
 
 use crate::ends::End;
-use crate::number::bits_for;
+use crate::number::{bits_for, width_of};
 use crate::{Action, SlotValue, Step};
 use capnp_calls_splice::blob::Blob;
 use capnp_calls_splice::plain::PlainSet;
 use capnp_calls_splice::splice::{Hop, Put, Splice};
-use capnp_schema_structs::slots::width_of;
 use capnp_units::errors::Result;
 use capnp_values_queries::introspect::{Type, TypeVariant};
 use capnp_values_queries::slots::{FieldPlace, PlainType};
@@ -54,7 +53,7 @@ fn hop_from(pointer: u32, ty: Type, step: &Step) -> Option<Hop>
 
 /// How a path goes on by a step from where it stands.
 pub(crate) fn next_hop(end: End<'_>, step: &Step) -> Onward
-    ensures { GoesOn result (end_view end) (step_view step.now) }
+    ensures { GoesOn result (end_view end.entry) (step_view step.now) }
 {
     match (step, end) {
         (Step::Name(_), End::Value(_)) => Onward::Here,
@@ -66,13 +65,24 @@ pub(crate) fn next_hop(end: End<'_>, step: &Step) -> Onward
     }
 }
 
-/// Adds the hop that is made, if any, and tells whether the path still goes by hops. `OutOfMemory`:
-/// the list can't grow.
-pub(crate) fn note_hop(hops: &mut Vec<Hop>, onward: Onward) -> Result<bool>
-    ensures straight { IfOk result (λ on. on ≡ goes_straight onward) }
-    ensures hops { IfOk result (λ on. hops.new.items ≡ hops.old.items ++ hops_made onward) }
+/// Adds the hop that is made, if any, where the path went by hops so far and the step finds no
+/// member of a union. It returns whether the path still goes by hops. `OutOfMemory`: the list can't
+/// grow.
+pub(crate) fn note_hop(
+    hops: &mut Vec<Hop>,
+    was_straight: bool,
+    onward: Onward,
+    is_alone: bool,
+) -> Result<bool>
+    ensures straight { IfOk result (λ on. on ≡ true
+        → (was_straight ≡ true) × (goes_straight onward ≡ true) × (is_alone ≡ true)) }
+    ensures hops { IfOk result (λ on. on ≡ true
+        → hops.new.items ≡ hops.old.items ++ hops_made onward) }
     ensures kind { IfErr result (λ e. e.kind ≡ ErrorKind.OutOfMemory) }
 {
+    if !was_straight || !is_alone {
+        return Ok(false);
+    }
     match onward {
         Onward::Here => Ok(true),
         Onward::Behind(hop) => {
@@ -158,7 +168,7 @@ pub(crate) fn splice_to(
 ) -> Result<Option<Splice>>
     requires small { EndsSmall (end_view end) }
     ensures straight { IfOk result (λ found. IfSome found (λ p. is_straight ≡ true)) }
-    ensures hops { IfOk result (λ found. IfSome found (λ p. p.hops.items ≡ hops.entry.items)) }
+    ensures hops { IfOk result (λ found. IfSome found (λ p. p.hops.items ≡ hops.items)) }
     ensures put { IfOk result (λ found. IfSome found
         (λ p. SetsAt p.put (end_view end.entry) (action_view action.now))) }
     ensures kind { IfErr result (λ e. e.kind ≡ ErrorKind.OutOfMemory) }

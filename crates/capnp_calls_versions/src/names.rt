@@ -17,12 +17,9 @@ pub(crate) struct Names<'a> {
     by_older: HashMap<(u64, &'a str), &'a str>,
     /// The older names, by node and newer name.
     by_newer: HashMap<(u64, &'a str), &'a str>,
-    pub ghost newer: { FindsNewer (map renaming_of list.now) by_older.entries }
-        by { Prim.hlevel props },
-    pub ghost older: { FindsOlder (map renaming_of list.now) by_newer.entries }
-        by { Prim.hlevel props },
-    pub ghost distinct: { are_one_to_one (map renaming_of list.now) ≡ true }
-        by { Prim.hlevel props },
+    pub ghost newer: { FindsNewer (map renaming_of list.now) by_older.entries } by { Prim.hlevel props },
+    pub ghost older: { FindsOlder (map renaming_of list.now) by_newer.entries } by { Prim.hlevel props },
+    pub ghost distinct: { are_one_to_one (map renaming_of list.now) ≡ true } by { Prim.hlevel props },
 }
 
 impl<'a> Names<'a> {

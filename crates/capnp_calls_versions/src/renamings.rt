@@ -77,8 +77,7 @@ fn are_apart(alloc: Global, list: &[Renaming], version: Version) -> Result<bool,
 #[derive(Debug, Drop)]
 pub struct Renamings {
     list: Vec<Renaming>,
-    pub ghost distinct: { are_one_to_one (map renaming_of list.items) ≡ true }
-        by { Prim.hlevel props },
+    pub ghost distinct: { are_one_to_one (map renaming_of list.items) ≡ true } by { Prim.hlevel props },
 }
 
 impl Renamings {

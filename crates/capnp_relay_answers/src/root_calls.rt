@@ -42,11 +42,7 @@ fn put_sets(words: &mut [Word], count: usize, sets: &[PlainSet]) -> bool
 /// As `write_splices`, which is kept apart from the way of calls that set plain fields of the root
 /// alone.
 #[inline(never)]
-fn put_splices(
-    words: &mut Vec<Word>,
-    count: usize,
-    calls: &[Resolved<'_>],
-) -> Result<Option<usize>>
+fn put_splices(words: &mut Vec<Word>, count: usize, calls: &[Resolved<'_>]) -> Result<Option<usize>>
     requires inside { count ≤ length words.old.items }
     ensures front { (schema : AnySchema) → KnowSplices schema calls.now
         → IfOk result (λ found. IfSome found (SetsFront schema (calls_of calls.now)
