@@ -13,7 +13,7 @@ ghost use Rattle.capnp_copy_arenas.specs.Refusals.{IsSizeOrRefusal};
 ghost use Rattle.capnp_copy_arenas.specs.States.{state_in};
 ghost use Rattle.capnp_copy_values.specs.Fits.{FitsWhereRoom, HasLongList};
 ghost use Rattle.capnp_copy_values.specs.Copies.{IsStoppedOr, struct_source};
-ghost use Rattle.capnp_copy_values.specs.Contents.{CopiesContent, ClearsRest, SetsSection};
+ghost use Rattle.capnp_copy_values.specs.Contents.{CopiesContent, ClearsRest, SetsSection, fitting};
 
 use crate::copy::fill_row;
 use capnp_copy_arenas::arena::BuilderArena;
@@ -45,6 +45,23 @@ fn write_data<A: BuilderArena>(arena: &mut A, object: StructPlace, bytes: &[u8])
         position: object.start.position + words,
     };
     arena.zero_words(behind, object.data_words as usize - words);
+}
+
+/// Puts what fits of a data section into a struct's data, with zeros behind it. Its pointers stand.
+pub fn copy_data_from<A: BuilderArena>(arena: &mut A, object: StructPlace, section: &[u8])
+    requires there { is_some (words_at (words_in (A.segments arena.old)) (place_view object.start)
+        object.data_words) ≡ true }
+    requires near { object.start.position + object.data_words < 2 ^ 61 }
+    ensures section { SetsSection (words_in (A.segments arena.old))
+        (words_in (A.segments arena.new)) object
+        (fitting object.data_words (number_of 8 section.now)) }
+    ensures sizes { map length (words_in (A.segments arena.new))
+        ≡ map length (words_in (A.segments arena.old)) }
+    ensures room { A.room arena.new ≡ A.room arena.old }
+    ensures books { A.books arena.new ≡ A.books arena.old }
+{
+    let bytes = section.len().min(8 * object.data_words as usize);
+    write_data(arena, object, &section[..bytes]);
 }
 
 /// Clears n pointers of a struct, those behind the first ones.
@@ -110,8 +127,7 @@ pub fn copy_content_from<A: BuilderArena, B: ReaderArena>(
         (at arena.new) limiter.old result limiter.new }
     ensures books { A.books arena.new ≡ A.books arena.old }
 {
-    let bytes = section.len().min(8 * object.data_words as usize);
-    write_data(arena, object, &section[..bytes]);
+    copy_data_from(arena, object, section);
     let shared = pointers.min(object.pointers);
     let start = object.start;
     let count = shared as u32;

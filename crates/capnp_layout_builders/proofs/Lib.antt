@@ -1,4 +1,6 @@
 pub mod lemmas
 mod BlobEnds
+mod ElementFronts
+mod ElementsThere
 mod BlobsBegun
 mod ListsMade

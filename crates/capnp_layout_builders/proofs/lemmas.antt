@@ -1,3 +1,4 @@
 pub mod Begun
 pub mod Charging
 pub mod Makes
+pub mod Fronts

@@ -19,7 +19,7 @@ use Rattle.capnp_wire_objects.specs.Inside.{met_in}
 use Rattle.capnp_copy_arenas.specs.States.{ArenaState}
 use Rattle.capnp_copy_values.specs.Fits.{FitsWhereRoom, HasLongList, IsLong, struct_tree}
 use Rattle.capnp_copy_values.specs.Copies.{CopiesValue, CopiesStruct, StructSource, IsStoppedOr}
-use Rattle.capnp_copy_values.specs.Contents.{CopiesContent}
+use Rattle.capnp_copy_values.specs.Contents.{CopiesContent, SetsSection, fitting}
 use Rattle.capnp_copy_values.specs.Lists.{CopiesList, listed_section, listed_object, listed_tree}
 
 -- What is done under a limit of words, by what it returns and what it took.
@@ -59,10 +59,17 @@ SetsStruct v s u p old result new =
     MatchOption v.levels (WithoutLevels s u old result new) (λ n.
     Charged v.basis.paid (λ l r m. (x : StructSource) × IsSourceOf v x × CopiesStruct n v.basis.segments x s u p l r m) old result new)
 
+-- Nothing has levels: the copy is refused, but what fits of the data is taken over before. The pointers and all else stand.
+pub record TakesDataAlone (v : StructView) (s u : Segments) (o : StructPlace) (old : ReadLimiter) (result : Result ⊤ Error) (new : ReadLimiter) : Type 0 where
+  pub refused : result ≡ Err (record { kind = NestingLimitExceeded })
+  pub unread : new ≡ old
+  pub sizes : map length u ≡ map length s
+  pub section : SetsSection s u o (fitting o.data_words v.section)
+
 -- A struct takes over the content of one that is read.
 abbrev pub TakesOver : StructView → Segments → Segments → StructPlace → Walk
 TakesOver v s u o old result new =
-    MatchOption v.levels (WithoutLevels s u old result new) (λ n.
+    MatchOption v.levels (TakesDataAlone v s u o old result new) (λ n.
     Charged v.basis.paid (λ l r m. (x : StructSource) × IsSourceOf v x × CopiesContent n v.basis.segments x s u o l r m) old result new)
 
 -- The parts of a list that is read.

@@ -13,7 +13,7 @@ use crate::struct_builder::StructBuilder;
 use capnp_copy_arenas::arena::BuilderArena;
 use capnp_copy_arenas::clear::clear;
 use capnp_copy_arenas::fields::StructPlace;
-use capnp_copy_values::contents::copy_content_from;
+use capnp_copy_values::contents::{copy_content_from, copy_data_from};
 use capnp_copy_values::copy::copy_from;
 use capnp_copy_values::lists::{ListSource, set_list};
 use capnp_copy_values::structs::set_struct;
@@ -161,10 +161,11 @@ fn copy_content<A: BuilderArena, B: ReaderArena>(
         (IsSizeOrRefusal A.refuses) limiter.old result limiter.new }
     ensures books { A.books arena.new ≡ A.books arena.old }
 {
+    let section = other.section();
     let Some(levels) = other.levels() else {
+        copy_data_from(arena, object, section);
         return Err(Error::from(ErrorKind::NestingLimitExceeded));
     };
-    let section = other.section();
     let first = other.first_pointer();
     let pointers = other.pointers();
     match other.backing() {
@@ -289,9 +290,10 @@ impl<'a, A: BuilderArena> StructBuilder<'a, A> {
     /// behind. What the source has past this struct's sections is dropped.
     ///
     /// It is refused as `capnp_copy_values::contents::copy_content_from`, and under a negative
-    /// nesting limit with `NestingLimitExceeded`, where all stands; else after a refusal the data
-    /// are the source's, and of the pointers the first ones have the copies and the others their
-    /// old values. What stands in a default is read without a limit of words, and costs nothing.
+    /// nesting limit with `NestingLimitExceeded`. After a refusal the data are the source's, and of
+    /// the pointers the first ones have the copies and the others their old values; under a
+    /// negative limit all have their old ones. What stands in a default is read without a limit of
+    /// words, and costs nothing.
     pub fn copy_content_from<B: ReaderArena>(
         &mut self,
         limiter: &mut ReadLimiter,

@@ -5,6 +5,7 @@ mod blobs;
 mod copies;
 pub mod data_builder;
 pub mod element;
+mod fronts;
 pub mod gets;
 pub mod list_builder;
 pub mod owned;

@@ -1,26 +1,22 @@
 //! Lists that are built.
-ghost use Rattle.std.specs.Prelude.{◌≡◌, ◌+◌, ◌*◌, ◌<◌, ◌≤◌, ◌^◌, ◌==◌, length, map};
-ghost use Rattle.capnp_model.specs.Segments.{after};
-ghost use Rattle.capnp_units.specs.Sizes.{size_number};
+ghost use Rattle.std.specs.Prelude.{◌≡◌, ◌+◌, ◌<◌, ◌^◌, ◌==◌, length, map};
 ghost use Rattle.std.specs.Borrow.{sem};
 ghost use Rattle.capnp_units.specs.Segments.{words_in};
-ghost use Rattle.capnp_wire_objects.specs.Places.{place_view};
 ghost use Rattle.capnp_wire.specs.Views.{seen_list, list_at};
-ghost use Rattle.capnp_copy_arenas.specs.Elements.{first_element, HasElements, IsWhole, IsInElement, HasElement, SetsElement};
+ghost use Rattle.capnp_copy_arenas.specs.Elements.{first_element, HasElements, IsWhole};
 ghost use Rattle.capnp_copy_arenas.specs.States.{HasWords};
-ghost use Rattle.capnp_layout_builders.specs.Elements.{IsStructElement};
+ghost use Rattle.capnp_layout_builders.specs.Elements.{IsAtFront, HasFront, SetsFront, IsWithPointer, IsPointerElement, IsWholeElement, IsStructElement};
 
 use crate::element::BuilderElement;
+use crate::fronts::{get_front, pointer_of, set_front, struct_of};
 use crate::pointer_builder::PointerBuilder;
 use crate::struct_builder::StructBuilder;
 use capnp_copy_arenas::arena::{BuilderArena, Memory};
-use capnp_copy_arenas::elements::{first_element, get_element, set_element};
-use capnp_copy_arenas::fields::StructPlace;
+use capnp_copy_arenas::elements::first_element;
 use capnp_copy_arenas::init::ListPlace;
 use capnp_units::sizes::{ElementSize, data_bits_per_element};
 use capnp_units::units::ElementCount32;
 use capnp_wire::list::ListReader;
-use capnp_wire_objects::place::Place;
 
 /// The list at a place, to read.
 fn read_at<'a, A: BuilderArena>(arena: &'a A, place: ListPlace) -> ListReader<'a, A>
@@ -105,68 +101,60 @@ impl<'a, A: BuilderArena> ListBuilder<'a, A> {
         self.place.size
     }
 
-    /// An element of a list of plain elements, by its index: the value in its lowest bits. It is
-    /// one of the list's, and has as many.
+    /// The value at the front of an element, by its index: in the lowest bits of a plain one, or
+    /// of a struct's data. The element is one of the list's, and has as many bits.
     pub fn get<T: BuilderElement>(&self, index: ElementCount32) -> T
-        requires near { self.now.place.start.position < 2 ^ 61 }
-        requires inside { IsInElement self.now.place index T.width }
-        ensures { HasElement (words_in (A.segments self.now.memory.now.arena)) self.now.place
+        requires { IsAtFront self.now.place index T.width }
+        ensures { HasFront (words_in (A.segments self.now.memory.now.arena)) self.now.place
             index T.width (λ bits. result ≡ T.of_bits bits) }
     {
         let place = self.place;
         let width = data_bits_per_element(T::element_size());
-        let bits = get_element(&self.memory.arena, place, index, width);
+        let bits = get_front(&self.memory.arena, place, index, width);
         T::element_of_bits(bits)
     }
 
-    /// Writes an element of a list of plain elements, by its index, into its lowest bits. It is one
-    /// of the list's, and has as many; its neighbours keep theirs.
+    /// Writes a value at the front of an element, by its index: into the lowest bits of a plain
+    /// one, or of a struct's data. The element is one of the list's, and has as many bits; its
+    /// other bits and its neighbours stay.
     pub fn set<T: BuilderElement>(&mut self, index: ElementCount32, value: T)
-        requires near { self.old.place.start.position < 2 ^ 61 }
-        requires inside { IsInElement self.old.place index T.width }
+        requires { IsAtFront self.old.place index T.width }
         ensures same { self.new.memory.ghost_name ≡ self.old.memory.ghost_name }
         ensures place { self.new.place ≡ self.old.place }
         ensures books { A.books self.new.memory.now.arena ≡ A.books self.old.memory.now.arena }
         ensures sizes { map length (words_in (A.segments self.new.memory.now.arena))
             ≡ map length (words_in (A.segments self.old.memory.now.arena)) }
-        ensures sets { SetsElement (words_in (A.segments self.old.memory.now.arena))
+        ensures sets { SetsFront (words_in (A.segments self.old.memory.now.arena))
             (words_in (A.segments self.new.memory.now.arena)) self.old.place index T.width
             (T.bits value) }
     {
         let place = self.place;
         let width = data_bits_per_element(T::element_size());
         let bits = T::bits_of_element(value);
-        set_element(&mut self.memory.arena, place, index, width, bits);
+        set_front(&mut self.memory.arena, place, index, width, bits);
     }
 
-    /// An element of a list of pointers, by its index. It is one of the list's.
+    /// An element as a pointer, by its index: the element itself, or the first pointer of a struct.
+    /// The element is one of the list's, and has a pointer.
     pub fn get_pointer_element(self, index: ElementCount32) -> PointerBuilder<'a, A>
-        requires pointers { size_number self.place.size ≡ 6 }
-        requires near { self.place.start.position + self.place.count < 2 ^ 61 }
-        requires inside { index < self.place.count }
+        requires { IsWithPointer self.place index }
         ensures same { result.memory.ghost_name ≡ self.entry.memory.ghost_name }
         ensures now { result.memory.now ≡ self.entry.memory.now }
-        ensures place { place_view result.place ≡ after (place_view self.entry.place.start) index }
+        ensures place { IsPointerElement self.entry.place index result.place }
         ensures there { IsWhole (words_in (A.segments self.entry.memory.now.arena)) self.entry.place
             → HasWords (A.segments result.memory.now.arena) result.place 1 }
         ensures near { result.place.position < 2 ^ 61 }
     {
         let ListBuilder { memory, place } = self;
-        let start = place.start;
-        let place = Place {
-            segment: start.segment,
-            position: start.position + index as usize,
-        };
+        let place = pointer_of(place, index);
         PointerBuilder { memory, place }
     }
 
-    /// An element of a list of structs, by its index. It is one of the list's.
+    /// An element as a struct, by its index, where its data are whole words: a struct has its own
+    /// sections, a number of 64 bits is a struct's only data, and a pointer its only pointer. The
+    /// element is one of the list's.
     pub fn get_struct_element(self, index: ElementCount32) -> StructBuilder<'a, A>
-        requires structs { size_number self.place.size ≡ 7 }
-        requires near { self.place.start.position + (1 + self.place.claimed) < 2 ^ 61 }
-        requires fits { self.place.count * (self.place.data_words + self.place.pointers)
-            ≤ self.place.claimed }
-        requires inside { index < self.place.count }
+        requires { IsWholeElement self.place index }
         ensures same { result.memory.ghost_name ≡ self.entry.memory.ghost_name }
         ensures now { result.memory.now ≡ self.entry.memory.now }
         ensures element { IsStructElement self.entry.place index result.place }
@@ -175,19 +163,7 @@ impl<'a, A: BuilderArena> ListBuilder<'a, A> {
             (result.place.data_words + result.place.pointers) }
     {
         let ListBuilder { memory, place } = self;
-        let start = place.start;
-        let width = place.data_words as usize + place.pointers as usize;
-        let start = Place {
-            segment: start.segment,
-            position: start.position + 1 + index as usize * width,
-        };
-        StructBuilder {
-            memory,
-            place: StructPlace {
-                start,
-                data_words: place.data_words,
-                pointers: place.pointers,
-            },
-        }
+        let place = struct_of(place, index);
+        StructBuilder { memory, place }
     }
 }

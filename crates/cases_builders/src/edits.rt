@@ -80,6 +80,7 @@ fn set_in_element<A: BuilderArena>(
 }
 
 /// Sets an element, of the size that was asked for.
+#[tactic(auto, using(capnp_layout_builders::proofs::lemmas::Fronts::plain_front))]
 fn set_element<A: BuilderArena>(
     memory: &mut Memory<A>,
     place: ListPlace,

@@ -112,6 +112,7 @@ fn kinds_of(size: ElementSize) -> usize
 
 /// Writes an element of a list of numbers as the field of a kind, at its lowest bits. Whether these
 /// then are what was written.
+#[tactic(auto, using(capnp_layout_builders::proofs::lemmas::Fronts::plain_front))]
 fn set_element<A: BuilderArena>(
     list: &mut ListBuilder<'_, A>,
     kind: usize,
@@ -194,6 +195,7 @@ pub fn change_struct<A: BuilderArena>(
 }
 
 /// Writes an element of a list of voids. Whether it is one.
+#[tactic(auto, using(capnp_layout_builders::proofs::lemmas::Fronts::plain_front))]
 fn set_nothing<A: BuilderArena>(memory: &mut Memory<A>, place: ListPlace, index: u32) -> bool
     ensures { A.books memory.new.arena ≡ A.books memory.old.arena }
 {

@@ -19,6 +19,10 @@ use Rattle.capnp_layout_builders.specs.Copied.{Walk, Charged}
 pub matched : {X : Type 0} (o : Option X) (N : Type 0) (F : X → Type 0) (x : X) → o ≡ Some x → F x → MatchOption o N F
 matched {X} o N F x e f = subst (λ (q : Option X). MatchOption q N F) (sym e) f
 
+-- Nothing is there.
+pub unmatched : {X : Type 0} (o : Option X) (N : Type 0) (F : X → Type 0) → o ≡ None → N → MatchOption o N F
+unmatched {X} o N F e n = subst (λ (q : Option X). MatchOption q N F) (sym e) n
+
 -- A walk over an arena is under the limit.
 pub in_arena : {A : Type 0} (bytes : A → List (List ℕ)) (W : Segments → Walk) (b : Backing A) (v : Ground) (bs : List (List ℕ)) (old new : ReadLimiter) (r : Result ⊤ Error)
     → ground_of bytes b ≡ v → is_paid b ≡ true → backing_bytes bytes b ≡ bs → W (words_in bs) old r new → Charged v.paid (W v.segments) old r new

@@ -19,6 +19,7 @@ use std::test::Fail;
 
 /// Writes three values into a list of ten at the root, at 0, 6 and 9, and returns what is got at 5,
 /// 6 and 9.
+#[tactic(auto, using(capnp_layout_builders::proofs::lemmas::Fronts::plain_front))]
 fn three<A: BuilderArena, T: BuilderElement>(
     memory: &mut Memory<A>,
     first: T,

@@ -1,20 +1,27 @@
-use Rattle.std.proofs.Common.{◌≡◌, ◌*◌, ℕ, subst, rules}
-use Rattle.capnp_model.specs.Sections.{with_bits}
-use Rattle.capnp_model.specs.Trees.{size_bits, plain_list}
+use Rattle.std.proofs.Common.{◌≡◌, ◌^◌, ◌<◌, ℕ, sym, subst, arith, rules}
 use Rattle.capnp_units.specs.Segments.{words_in}
 use Rattle.capnp_units.specs.Sizes.{size_number}
-use Rattle.capnp_model_writes.specs.Changes.{ReplacesObject}
-use Rattle.capnp_copy_arenas.specs.Elements.{plain_at}
+use Rattle.capnp_layout_builders.specs.Elements.{IsAtFront, SetsFront}
+use Rattle.capnp_layout_builders.proofs.ElementFronts.{few_bits}
 use Rattle.capnp_layout_builders.proofs.list_builder.ListBuilder.set.Goals as goal
 
+pub set_front-requires : goal.set_front-requires
+set_front-requires g c =
+    let w : ℕ = g.T.PrimitiveElement.width in
+    let width : c.data_bits_per_element-width.result ≡ w = search rules in
+    let few = few_bits (size_number c.element_size.result) in
+    let bits = c.element_size.ensures.bits in
+    record {
+      inside = subst (λ (x : ℕ). IsAtFront c.args.self.now.place c.args.index x) (sym width) c.requires;
+      few = omega (arith, width, few, bits);
+      fits = subst (λ (x : ℕ). c.bits_of_element-bits.result < 2 ^ x) (sym width) c.bits_of_element-bits.ensures.fits;
+    }
+
 pub returns-clause-sets : goal.returns-clause-sets
-returns-clause-sets g c = λ n section o.
-    let place = c.args.self.now.place in
-    let size : ℕ = size_number place.size in
-    let at : ℕ = size_bits size * c.args.index in
+returns-clause-sets g c =
+    let l = c.args.self.now.place in
     let s = words_in (g.A.ReaderArena.segments c.args.self.now.memory.now.arena) in
-    let u = words_in (g.A.ReaderArena.segments c.set_element.new.arena) in
+    let u = words_in (g.A.ReaderArena.segments c.set_front.new.arena) in
     let width : c.data_bits_per_element-width.result ≡ g.T.PrimitiveElement.width = search rules in
-    let all = c.set_element.ensures.sets n section o in
-    let narrow = subst (λ (w : ℕ). ReplacesObject n s u (plain_at place) (plain_list size place.count (with_bits at w c.bits_of_element-bits.result section))) width all in
-    subst (λ (v : ℕ). ReplacesObject n s u (plain_at place) (plain_list size place.count (with_bits at g.T.PrimitiveElement.width v section))) c.bits_of_element-bits.ensures.bits narrow
+    let narrow = subst (λ (w : ℕ). SetsFront s u l c.args.index w c.bits_of_element-bits.result) width c.set_front.ensures.sets in
+    subst (λ (v : ℕ). SetsFront s u l c.args.index g.T.PrimitiveElement.width v) c.bits_of_element-bits.ensures.bits narrow
