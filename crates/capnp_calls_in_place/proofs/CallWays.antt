@@ -1,6 +1,6 @@
 -- Calls that set slots along paths, and the splices of calls in turn.
-use Rattle.std.proofs.Common.{◌≡◌, ℕ, zero, suc, Bool, true, false, ◌&&◌, Option, Some, None, List, [], ◌∷◌, ◌++◌, length, refl, ap, sym, subst, ◌∙◌}
-use Rattle.std.specs.Prelude.{IfSome, ⊤, slice_get}
+use Rattle.std.proofs.Common.{◌≡◌, ℕ, zero, suc, Bool, true, false, ◌&&◌, Option, Some, None, List, [], ◌∷◌, ◌++◌, length, refl, ap, sym, subst, ◌∙◌, Bor}
+use Rattle.std.specs.Prelude.{IfSome, ⊤, is_some, not, slice_get, option_copied}
 use Rattle.capnp_model.specs.Printing.{as_it_is}
 use Rattle.capnp_model.specs.Calls.{Step, Verb, set_to, CallValue, Call}
 use Rattle.capnp_values_queries.specs.Structs.{schema_around, fields_of_struct, id_of}
@@ -9,7 +9,7 @@ use Rattle.capnp_calls.specs.Splices.{PathLeadsTo}
 use Rattle.capnp_calls.specs.Resolved.{call_of, calls_of, IsSpliceOf, KnowsSplice, KnowSplices}
 use Rattle.capnp_calls.specs.declared.resolved.Resolved.{Resolved}
 use Rattle.capnp_calls_splice.specs.declared.splice.Splice.{Splice}
-use Rattle.capnp_calls_in_place.specs.CallSplices.{IsCallSplice, has_splice, have_splices}
+use Rattle.capnp_calls_in_place.specs.CallSplices.{IsCallSplice, have_splices}
 use Rattle.capnp_calls_in_place.proofs.SplicedCalls.{call_made, call_replied}
 
 -- ---- calls
@@ -33,6 +33,17 @@ known_splice schema c p h = is_call_splice schema c h.0 p h.1 h.2
 pub found_splice : (schema : StructSchema) (r : Resolved) (p : Splice) → r.splice ≡ Some p → KnowsSplice schema r → IsCallSplice schema (call_of r) p
 found_splice schema r p is h = known_splice schema (call_of r) p (subst (λ (o : Option Splice). IfSome o (IsSpliceOf schema (call_of r))) is h)
 
+pub is_found : (schema : StructSchema) (r : Resolved) (o : Option (Bor Splice)) → option_copied o ≡ r.splice → KnowsSplice schema r → IfSome o (λ p. IsCallSplice schema (call_of r) p.now)
+is_found schema r None same known = tt
+is_found schema r (Some p) same known = found_splice schema r p.now (sym same) known
+
+same_some : (o : Option (Bor Splice)) → is_some (option_copied o) ≡ is_some o
+same_some None = refl
+same_some (Some p) = refl
+
+pub tells_some : (o : Option (Bor Splice)) (p : Option Splice) (b : Bool) → option_copied o ≡ p → is_some o ≡ not b → is_some p ≡ not b
+tells_some o p b same is = ap is_some (sym same) ∙ same_some o ∙ is
+
 -- ---- calls in turn
 
 -- Each call does, by the splice in its place.
@@ -41,16 +52,16 @@ AreCallSplices schema [] [] = ⊤
 AreCallSplices schema (c ∷ cs) (p ∷ ps) = IsCallSplice schema c p × AreCallSplices schema cs ps
 AreCallSplices schema _ _ = ⊥
 
-with_found : Option Splice → List Splice → List Splice
+abbrev with_found : Option Splice → List Splice → List Splice
 with_found None ps = ps
 with_found (Some p) ps = p ∷ ps
 
 -- The splices that were found.
-pub splices_of : List Resolved → List Splice
+abbrev pub splices_of : List Resolved → List Splice
 splices_of [] = []
 splices_of (r ∷ rs) = with_found r.splice (splices_of rs)
 
-found_first : (o : Option Splice) (more : Bool) → (has_splice o && more) ≡ true → (p : Splice) × (o ≡ Some p) × (more ≡ true)
+found_first : (o : Option Splice) (more : Bool) → (is_some o && more) ≡ true → (p : Splice) × (o ≡ Some p) × (more ≡ true)
 found_first None more h = absurd (cc h)
 found_first (Some p) more h = (p, refl, h)
 
@@ -77,19 +88,19 @@ more_splices (q ∷ rs) r p is = by q.splice (more_splices rs r p is)
     by None again = again
     by (Some x) again = ap (λ ps. x ∷ ps) again
 
-pub have_more : (rs : List Resolved) (r : Resolved) → have_splices rs ≡ true → has_splice r.splice ≡ true → have_splices (rs ++ r ∷ []) ≡ true
+pub have_more : (rs : List Resolved) (r : Resolved) → have_splices rs ≡ true → is_some r.splice ≡ true → have_splices (rs ++ r ∷ []) ≡ true
 have_more [] r have is = ap (λ (b : Bool). b && true) is
-have_more (q ∷ rs) r have is = by (has_splice q.splice) have (have_more rs r)
+have_more (q ∷ rs) r have is = by (is_some q.splice) have (have_more rs r)
   where
-    by : (b : Bool) → (b && have_splices rs) ≡ true → (have_splices rs ≡ true → has_splice r.splice ≡ true → have_splices (rs ++ r ∷ []) ≡ true) → (b && have_splices (rs ++ r ∷ [])) ≡ true
+    by : (b : Bool) → (b && have_splices rs) ≡ true → (have_splices rs ≡ true → is_some r.splice ≡ true → have_splices (rs ++ r ∷ []) ≡ true) → (b && have_splices (rs ++ r ∷ [])) ≡ true
     by true h again = again h is
     by false h again = h
 
 -- A call without a splice among them.
-pub lacks_one : (rs : List Resolved) (i : ℕ) (r : Resolved) → slice_get rs i ≡ Some r → r.splice ≡ None → have_splices rs ≡ false
+pub lacks_one : (rs : List Resolved) (i : ℕ) (r : Resolved) → slice_get rs i ≡ Some r → is_some r.splice ≡ false → have_splices rs ≡ false
 lacks_one [] i r at is = absurd (cc at)
-lacks_one (q ∷ rs) zero r at is = let same : q ≡ r = cc at in ap (λ (x : Resolved). has_splice x.splice && have_splices rs) same ∙ ap (λ (o : Option Splice). has_splice o && have_splices rs) is
-lacks_one (q ∷ rs) (suc i) r at is = by (has_splice q.splice) (lacks_one rs i r at is)
+lacks_one (q ∷ rs) zero r at is = let same : q ≡ r = cc at in ap (λ (x : Resolved). is_some x.splice && have_splices rs) same ∙ ap (λ (b : Bool). b && have_splices rs) is
+lacks_one (q ∷ rs) (suc i) r at is = by (is_some q.splice) (lacks_one rs i r at is)
   where
     by : (b : Bool) → have_splices rs ≡ false → (b && have_splices rs) ≡ false
     by true h = h

@@ -1,9 +1,9 @@
 -- Plain fields that are found by their names.
-use Rattle.std.proofs.Common.{◌≡◌, ℕ, ◌+◌, ◌*◌, Option, Some, None, List, [], ◌∷◌, ◌++◌, bit_xor, refl, ap, sym, subst, ◌∙◌}
+use Rattle.std.proofs.Common.{◌≡◌, ℕ, ◌+◌, ◌*◌, Option, Some, None, List, [], ◌∷◌, ◌++◌, bit_xor, ap, sym, subst, ◌∙◌}
 use Rattle.std.specs.Prelude.{IfSome}
 use Rattle.capnp_model.specs.Sections.{with_bits}
 use Rattle.capnp_model.specs.Trees.{structure}
-use Rattle.capnp_model.specs.Schemas.{PlainType, width, Body, void_slot, plain_slot, pointer_slot, group_slot}
+use Rattle.capnp_model.specs.Schemas.{width, Body, void_slot, plain_slot, pointer_slot, group_slot}
 use Rattle.capnp_model.specs.Calls.{Step, name, Verb, set_to, CallValue, Call}
 use Rattle.capnp_model.specs.Steps.{target, target_of}
 use Rattle.capnp_model.specs.Answers.{widened_root}
@@ -13,7 +13,7 @@ use Rattle.capnp_values_queries.specs.declared.structs.StructSchema.{StructSchem
 use Rattle.capnp_model.specs.Printing.{as_it_is}
 use Rattle.capnp_calls_in_place.specs.PlainSets.{IsPlain, ArePlain}
 use Rattle.capnp_calls_splice.specs.DataWords.{put_set}
-use Rattle.capnp_calls.specs.PlainFields.{SetsPlainSlot, PutsInto}
+use Rattle.capnp_calls.specs.PlainFields.{PutsInto}
 use Rattle.capnp_calls.specs.Splices.{PathLeadsTo}
 use Rattle.capnp_calls.specs.Resolved.{call_of, IsSpliceOf, KnowsSplice}
 use Rattle.capnp_calls.specs.declared.resolved.Resolved.{Resolved}

@@ -1,5 +1,5 @@
 -- Calls that put something into the structs of a value, none of which gets wider or narrower.
-use Rattle.std.specs.Prelude.{◌≡◌, ℕ, ◌<◌, Bool, true, false, ◌&&◌, Option, Some, None, List, [], ◌∷◌, slice_get}
+use Rattle.std.specs.Prelude.{◌≡◌, ℕ, ◌<◌, Bool, true, ◌&&◌, Some, is_some, List, [], ◌∷◌, slice_get}
 use Rattle.capnp_model.specs.Trees.{Tree, depth}
 use Rattle.capnp_model.specs.Trimming.{trim}
 use Rattle.capnp_model.specs.Fits.{Fits}
@@ -25,15 +25,10 @@ pub record MakesTrimmed (schema : StructSchema) (c : Call) (old new : Tree) : Ty
 abbrev pub IsCallSplice : StructSchema → Call → Splice → Type 0
 IsCallSplice schema c p = (old new : Tree) → Fits (trim old) → IsSpliced p (trim old) new → MakesTrimmed schema c old new
 
--- A splice was found.
-abbrev pub has_splice : Option Splice → Bool
-has_splice None = false
-has_splice (Some p) = true
-
 -- Each call has a splice.
 abbrev pub have_splices : List Resolved → Bool
 have_splices [] = true
-have_splices (r ∷ rs) = has_splice r.splice && have_splices rs
+have_splices (r ∷ rs) = is_some r.splice && have_splices rs
 
 -- What one of calls puts may add words to a message; a number never does.
 pub record WantsRoom (calls : List Resolved) : Type 0 where

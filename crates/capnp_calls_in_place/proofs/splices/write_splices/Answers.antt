@@ -1,6 +1,6 @@
 -- One call more, and what stands at the end.
-use Rattle.std.proofs.Common.{◌≡◌, ℕ, ◌+◌, ◌<◌, true, false, Option, Some, List, [], ◌∷◌, ◌++◌, length, take, Result, Ok, Err, IfErr, refl, ap, sym, subst, ◌∙◌, arith}
-use Rattle.std.specs.Prelude.{◌==◌, option_copied}
+use Rattle.std.proofs.Common.{◌≡◌, ℕ, ◌+◌, ◌<◌, true, false, Some, List, [], ◌∷◌, ◌++◌, length, take, Result, Ok, Err, IfErr, refl, ap, sym, subst, ◌∙◌, arith}
+use Rattle.std.specs.Prelude.{◌==◌, is_some, option_copied}
 use Rattle.std.proofs.lemmas.List.{take_more, take_all}
 use Rattle.std.proofs.lemmas.Option.{slice_get_read}
 use Rattle.capnp_wire_canonical.specs.Writes.{filled}
@@ -8,13 +8,13 @@ use Rattle.capnp_calls.specs.declared.resolved.Resolved.{Resolved}
 use Rattle.capnp_calls.specs.Resolved.{calls_of}
 use Rattle.capnp_calls_splice.specs.Splices.{StandsWithin}
 use Rattle.capnp_calls_splice.specs.declared.splice.Splice.{Splice}
-use Rattle.capnp_calls_in_place.specs.CallSplices.{has_splice, have_splices}
+use Rattle.capnp_calls_in_place.specs.CallSplices.{have_splices}
 use Rattle.capnp_calls_in_place.proofs.CallWays.{splices_of, each_splice, as_many, more_splices, have_more}
 use Rattle.capnp_calls_in_place.proofs.SpliceRuns.{HaveSpliced, next_spliced, spliced_words}
 use Rattle.capnp_calls_in_place.proofs.splices.write_splices.Goals as goal
 
-is_some : (n : ℕ) → (n == 0) ≡ false → 0 < n
-is_some n e = grind arith
+not_empty : (n : ℕ) → (n == 0) ≡ false → 0 < n
+not_empty n e = grind arith
 
 at_err : {T E W : Type 0} → (r : Result T E) → W → IfErr r (λ _. W)
 at_err (Ok x) w = tt
@@ -34,7 +34,7 @@ loop-call-preserved c =
     record {
       inside = stands.inside;
       stands = λ some. stands;
-      have = ap have_splices more ∙ have_more (take i calls) call c.loop-call.invariant.have (ap has_splice found);
+      have = ap have_splices more ∙ have_more (take i calls) call c.loop-call.invariant.have (ap is_some found);
       puts = λ t fits is.
           subst (λ (ps : List Splice). HaveSpliced ps t new) (sym (ap splices_of more ∙ more_splices (take i calls) call splice found))
           (next_spliced (splices_of (take i calls)) splice t now new (c.loop-call.invariant.puts t fits is)
@@ -47,7 +47,7 @@ returns-clause-splices c = λ schema t known fits is spelled.
     let words = filled c.loop-call.left c.loop-call.words.items in
     let all : take c.loop-call.call-index calls ≡ calls = take_all c.loop-call.call-index calls c.loop-call-test.false in
     let have : have_splices calls ≡ true = ap have_splices (sym all) ∙ c.loop-call.invariant.have in
-    let some : 0 < length calls = is_some (length calls) (sym c.is_empty.ensures ∙ c.if-is_empty.false) in
+    let some : 0 < length calls = not_empty (length calls) (sym c.is_empty.ensures ∙ c.if-is_empty.false) in
     spliced_words schema (calls_of calls) (splices_of calls) t words (each_splice schema calls known have) fits is (subst (λ n. 0 < n) (sym (as_many calls have)) some)
     (subst (λ (rs : List Resolved). HaveSpliced (splices_of rs) t words) all (c.loop-call.invariant.puts t fits spelled))
 
