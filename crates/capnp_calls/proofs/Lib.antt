@@ -1,7 +1,9 @@
 pub mod lemmas
 mod AcceptedSlots
+mod FoundSlots
 mod GivenCalls
 mod LongPuts
 mod MessageExamples
 mod PathEnds
+mod StraightPaths
 mod Walks

@@ -11,6 +11,9 @@ pub mod Paths
 pub mod Steps
 pub mod Ways
 pub mod Ends
+pub mod PlainFields
+pub mod Splices
+pub mod Hops
 pub mod Resolved
 pub mod Frames
 pub mod Messages

@@ -1,13 +1,15 @@
 -- Calls that are resolved under the schema of a root, once for all messages.
-use Rattle.std.specs.Prelude.{◌≡◌, ◌^◌, ◌≤◌, ◌↔◌, Bool, true, false, List, [], ◌∷◌, map, ⊤}
+use Rattle.std.specs.Prelude.{◌≡◌, ◌^◌, ◌≤◌, ◌↔◌, Bool, true, false, List, [], ◌∷◌, map, ⊤, IfSome}
 use Rattle.std.specs.Coded.{Coded-set, coded_bool, le_prop, ×_prop, →_prop, Unit-prop}
-use Rattle.capnp_model.specs.Calls.{Call}
-use Rattle.capnp_values_queries.specs.Structs.{schema_around}
+use Rattle.capnp_model.specs.Calls.{CallValue, set_to, Call}
+use Rattle.capnp_values_queries.specs.Structs.{schema_around, fields_of_struct}
 use Rattle.capnp_values_queries.specs.declared.structs.StructSchema.{StructSchema}
 use Rattle.capnp_calls.specs.CallViews.{call_view}
 use Rattle.capnp_calls.specs.LongLists.{content_put, sets_message}
 use Rattle.capnp_calls.specs.Sizes.{content_len}
+use Rattle.capnp_calls.specs.Splices.{PathLeadsTo}
 use Rattle.capnp_calls.specs.Ways.{IsWay, IsWay-prop}
+use Rattle.capnp_calls_splice.specs.declared.splice.Splice.{Splice}
 use Rattle.capnp_calls.specs.declared.resolved.Resolved.{Resolved}
 
 -- The call.
@@ -33,6 +35,21 @@ IsResolved root r = IsWay (schema_around root) (call_of r).path r.fields.items �
 abbrev pub AreResolved : StructSchema → List Resolved → Type 0
 AreResolved root [] = ⊤
 AreResolved root (r ∷ rs) = IsResolved root r × AreResolved root rs
+
+-- ---- what is put into canonical words where they stand
+
+-- The call sets a slot to a value by what is put, and its path leads to the slot by the hops.
+abbrev pub IsSpliceOf : StructSchema → Call → Splice → Type 0
+IsSpliceOf root c p = (v : CallValue) × (c.verb ≡ set_to v) × PathLeadsTo (schema_around root) v p.put p.hops.items (fields_of_struct root) c.path
+
+-- What is kept of that, if anything, is so under the schema of the root.
+abbrev pub KnowsSplice : StructSchema → Resolved → Type 0
+KnowsSplice root r = IfSome r.splice (IsSpliceOf root (call_of r))
+
+-- So it is of each.
+abbrev pub KnowSplices : StructSchema → List Resolved → Type 0
+KnowSplices root [] = ⊤
+KnowSplices root (r ∷ rs) = KnowsSplice root r × KnowSplices root rs
 
 -- ---- each of these facts has at most one proof, so a struct can keep it
 

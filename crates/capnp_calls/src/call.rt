@@ -148,7 +148,8 @@ impl Action {
     fn new(alloc: Global, verb: Verb, value: Option<CallValue>) -> Result<Action, CallFault>
         ensures verb { IfOk result (λ a. verb_from verb value ≡ Ok (action_view a)) }
         ensures in_range { IfOk result (λ a. IsTrue (is_in_range a)) }
-        ensures refused { IfErr result (IsCallRefusal (GivesFrame verb value) (verb_from verb value)) }
+        ensures refused { IfErr result
+            (IsCallRefusal (GivesFrame verb value) (verb_from verb value)) }
     {
         match (verb, value) {
             (Verb::Set, Some(value)) => Ok(Action::Set(SlotValue::new(alloc, value)?)),
@@ -175,7 +176,8 @@ impl SlotValue {
     /// The value, with a message made canonical.
     fn new(alloc: Global, value: CallValue) -> Result<SlotValue, CallFault>
         ensures value { IfOk result (λ v. taken_value value ≡ Some (slot_value_view v)) }
-        ensures refused { IfErr result (IsCallRefusal (IsFrame value) (set_verb (taken_value value))) }
+        ensures refused { IfErr result
+            (IsCallRefusal (IsFrame value) (set_verb (taken_value value))) }
     {
         match value {
             CallValue::Number(n) => Ok(SlotValue::Number(n)),

@@ -1,18 +1,22 @@
 //! Steps of paths under a schema.
-ghost use Rattle.std.specs.Prelude.{◌≡◌, ◌≢◌, true, IfSome, IsSomeAnd};
+ghost use Rattle.std.specs.Prelude.{◌≡◌, ◌≢◌, true, Some, None, option_map, IfSome, IsSomeAnd};
 ghost use Rattle.capnp_model.specs.Accepted.{schema_of};
 ghost use Rattle.capnp_model.specs.InKindCalls.{nowhere, end_at, step_into, next_end};
 ghost use Rattle.capnp_model.specs.Steps.{target_of};
 ghost use Rattle.capnp_records.specs.Sets.{nodes_of};
+ghost use Rattle.capnp_values_queries.specs.Handles.{entry_of_field};
 ghost use Rattle.capnp_values_queries.specs.Structs.{nodes_around, schema_around, fields_of_struct};
 ghost use Rattle.capnp_values_queries.specs.Types.{ty_of, is_type_of};
 ghost use Rattle.capnp_calls.specs.CallViews.{step_view};
 ghost use Rattle.capnp_calls.specs.Ends.{end_view, IsEndOf, IsStepFound};
+ghost use Rattle.capnp_calls.specs.Hops.{IsAlone, FindsAlone, StepsAlone, EndsSmall};
 ghost use Rattle.capnp_calls.specs.Ways.{Finds};
 
 use crate::Step;
 use crate::find::FoundField;
+use capnp_records::node::NO_DISCRIMINANT;
 use capnp_records::set::SchemaSet;
+use capnp_values_queries::fields::Field;
 use capnp_values_queries::introspect::{Type, TypeVariant};
 use capnp_values_queries::slots::FieldPlace;
 use capnp_values_queries::structs::StructSchema;
@@ -34,13 +38,26 @@ pub(crate) struct Next<'a> {
     pub(crate) end: End<'a>,
     /// What a name finds, where a struct or a group stands.
     pub(crate) found: Option<FoundField>,
+    /// Whether it leads to an element, or to a field that is no member of a union.
+    pub(crate) is_alone: bool,
+}
+
+/// Whether a field is no member of a union.
+fn is_alone(field: Field<'_>) -> bool
+    ensures { result ≡ true → option_map (λ e. e.member) (entry_of_field field.entry) ≡ Some None }
+{
+    field.get_proto().discriminant_value == NO_DISCRIMINANT
 }
 
 /// Where a name leads from a struct or a group.
 fn field_named<'a>(schema: StructSchema<'a>, name: &str) -> Next<'a>
-    ensures end { end_view result.end ≡ end_at (target_of name.now (fields_of_struct schema.entry)) }
+    ensures end { end_view result.end
+        ≡ end_at (target_of name.now (fields_of_struct schema.entry)) }
     ensures of_set { IsEndOf (nodes_around schema.entry) result.end }
+    ensures small { EndsSmall (end_view result.end) }
     ensures found { IsSomeAnd result.found (Finds (schema_around schema.entry) name.now) }
+    ensures alone { result.is_alone ≡ true
+        → IsAlone (target_of name.now (fields_of_struct schema.entry)) }
 {
     let node = schema.raw().id;
     match schema.get_field_by_name(name) {
@@ -49,11 +66,13 @@ fn field_named<'a>(schema: StructSchema<'a>, name: &str) -> Next<'a>
             Next {
                 end: End::Slot(field.place()),
                 found: Some(FoundField { node, place }),
+                is_alone: is_alone(field),
             }
         }
         Err(_) => Next {
             end: End::Nowhere,
             found: Some(FoundField { node, place: None }),
+            is_alone: false,
         },
     }
 }
@@ -64,8 +83,11 @@ fn step_into<'a>(set: &'a SchemaSet, step: &Step, ty: Type) -> Next<'a>
     ensures end { end_view result.end
         ≡ step_into (schema_of (nodes_of set.now)) (step_view step.now) (ty_of ty) }
     ensures of_set { IsEndOf (nodes_of set.now) result.end }
+    ensures small { EndsSmall (end_view result.end) }
     ensures found { IsStepFound (schema_of (nodes_of set.now)) (step_view step.now)
         (end_view result.end) result.found }
+    ensures alone { result.is_alone ≡ true
+        → FindsAlone (schema_of (nodes_of set.now)) (step_view step.now) (ty_of ty) }
 {
     match (step, ty.which()) {
         (Step::Name(name), TypeVariant::Struct(raw)) => {
@@ -74,10 +96,12 @@ fn step_into<'a>(set: &'a SchemaSet, step: &Step, ty: Type) -> Next<'a>
         (Step::Index(_), TypeVariant::List(element)) => Next {
             end: End::Value(element),
             found: None,
+            is_alone: true,
         },
         _ => Next {
             end: End::Nowhere,
             found: None,
+            is_alone: false,
         },
     }
 }
@@ -88,8 +112,11 @@ pub(crate) fn next_end<'a>(set: &'a SchemaSet, step: &Step, end: End<'a>) -> Nex
     ensures end { end_view result.end
         ≡ next_end (schema_of (nodes_of set.now)) (step_view step.now) (end_view end.entry) }
     ensures of_set { IsEndOf (nodes_of set.now) result.end }
+    ensures small { EndsSmall (end_view result.end) }
     ensures found { IsStepFound (schema_of (nodes_of set.now)) (step_view step.now)
         (end_view result.end) result.found }
+    ensures alone { result.is_alone ≡ true
+        → StepsAlone (schema_of (nodes_of set.now)) (step_view step.now) (end_view end.entry) }
     ensures begun { IfSome result.found (λ _. end_view end.entry ≢ nowhere) }
 {
     match (step, end) {
@@ -98,6 +125,7 @@ pub(crate) fn next_end<'a>(set: &'a SchemaSet, step: &Step, end: End<'a>) -> Nex
         _ => Next {
             end: End::Nowhere,
             found: None,
+            is_alone: false,
         },
     }
 }

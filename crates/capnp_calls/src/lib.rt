@@ -11,6 +11,7 @@ pub mod message;
 pub mod number;
 pub mod reply;
 pub mod resolved;
+mod splices;
 pub mod steps;
 
 pub use call::{Action, Call, CallFault, CallValue, SlotValue, Step, Verb};

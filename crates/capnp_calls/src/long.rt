@@ -102,8 +102,9 @@ fn is_long_value(value: &SlotValue, ty: Type) -> bool
 
 /// Whether a value is a text or data that an element of a type can be set to, and is too long.
 fn is_long_element(value: &SlotValue, ty: Type) -> bool
-    ensures long { (s : Schema) → is_message (slot_value_view value.now) ≡ false → (result ≡ true) ↔ (2 ^ 29
-        ≤ content_len (element_content s (set_to (slot_value_view value.now)) (ty_of ty))) }
+    ensures long { (s : Schema) → is_message (slot_value_view value.now) ≡ false
+        → (result ≡ true) ↔ (2 ^ 29 ≤ content_len
+        (element_content s (set_to (slot_value_view value.now)) (ty_of ty))) }
     ensures message { is_message (slot_value_view value.now) ≡ true → result ≡ false }
 {
     match ty.which() {
@@ -116,8 +117,9 @@ fn is_long_element(value: &SlotValue, ty: Type) -> bool
 /// of 2^29 bytes or more with its last zero, or 2^29 words or more of structs.
 pub(crate) fn puts_long_at(set: &SchemaSet, end: End<'_>, action: &Action) -> bool
     requires known { IsEndOf (nodes_of set.now) end }
-    ensures long { sets_message (action_view action.now) ≡ false → (result ≡ true) ↔ (2 ^ 29 ≤ content_len
-        (end_content (schema_of (nodes_of set.now)) (action_view action.now) (end_view end.entry))) }
+    ensures long { sets_message (action_view action.now) ≡ false → (result ≡ true)
+        ↔ (2 ^ 29 ≤ content_len (end_content (schema_of (nodes_of set.now))
+        (action_view action.now) (end_view end.entry))) }
     ensures message { sets_message (action_view action.now) ≡ true → result ≡ false }
 {
     match action {

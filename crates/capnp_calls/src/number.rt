@@ -1,9 +1,14 @@
-//! Whole numbers as the bits of slots.
+//! Values as the bits of plain slots.
 
-ghost use Rattle.std.specs.Prelude.{◌≡◌, ◌-◌, ◌^◌, ◌<◌, ◌≤◌, IfOk, ℤ, pos};
-ghost use Rattle.capnp_model.specs.Schemas.{int, uint};
+ghost use Rattle.std.specs.Prelude.{◌≡◌, ◌-◌, ◌^◌, ◌<◌, ◌≤◌, IfOk, IfSome, ℤ, pos};
+ghost use Rattle.capnp_model.specs.Schemas.{int, uint, width};
 ghost use Rattle.capnp_model.specs.Calls.{plain_content, whole_number};
+ghost use Rattle.capnp_values_queries.specs.Handles.{plain_of};
+ghost use Rattle.capnp_calls.specs.CallViews.{slot_value_view};
 ghost use Rattle.capnp_calls.specs.Contents.{bits_content};
+
+use crate::SlotValue;
+use capnp_values_queries::slots::PlainType;
 
 /// The bits of a number without a sign, if it is below 2^width.
 pub fn unsigned_bits(number: i128, width: u32) -> Option<u64>
@@ -45,4 +50,39 @@ fn all_ones(width: u32) -> u64
     ensures { result ≡ 2 ^ width - 1 }
 {
     ((1u128 << width) - 1) as u64
+}
+
+/// The bits of a plain type's values.
+pub(crate) fn width_of(ty: PlainType) -> u32
+    ensures { result ≡ width (plain_of ty) }
+{
+    match ty {
+        PlainType::Bool => 1,
+        PlainType::Int8 | PlainType::UInt8 => 8,
+        PlainType::Int16 | PlainType::UInt16 | PlainType::Enum(_) => 16,
+        PlainType::Int32 | PlainType::UInt32 => 32,
+        PlainType::Int64 | PlainType::UInt64 => 64,
+    }
+}
+
+/// The bits of a value in a slot of a plain type, the default not yet put to them; `None` where it
+/// is of another sort or out of range.
+pub fn bits_for(ty: PlainType, value: &SlotValue) -> Option<u64>
+    ensures content { bits_content result
+        ≡ plain_content (plain_of ty) (slot_value_view value.now) }
+    ensures fit { IfSome result (λ n. n < 2 ^ width (plain_of ty)) }
+{
+    match (ty, value) {
+        (PlainType::Bool, SlotValue::Bool(b)) => Some(if *b { 1 } else { 0 }),
+        (
+            PlainType::Int8 | PlainType::Int16 | PlainType::Int32 | PlainType::Int64,
+            SlotValue::Number(n),
+        ) => signed_bits(*n, width_of(ty)),
+        (
+            PlainType::UInt8 | PlainType::UInt16 | PlainType::UInt32 | PlainType::UInt64,
+            SlotValue::Number(n),
+        ) => unsigned_bits(*n, width_of(ty)),
+        (PlainType::Enum(_), SlotValue::Enum(n)) => Some(u64::from(*n)),
+        _ => None,
+    }
 }

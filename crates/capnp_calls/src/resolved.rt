@@ -1,5 +1,5 @@
 //! Calls that are resolved under the schema of a root, once for all messages.
-ghost use Rattle.std.specs.Prelude.{◌≡◌, ◌++◌, map, IfOk, IfErr, OnOk};
+ghost use Rattle.std.specs.Prelude.{◌≡◌, ◌++◌, true, map, IfOk, IfErr, OnOk};
 ghost use Rattle.capnp_units.specs.declared.kinds.ErrorKind.{ErrorKind};
 ghost use Rattle.capnp_model.specs.Schemas.{struct};
 ghost use Rattle.capnp_model.specs.InKindCalls.{at_value, end_of};
@@ -7,12 +7,15 @@ ghost use Rattle.capnp_values_queries.specs.Structs.{nodes_around, schema_around
 ghost use Rattle.capnp_calls.specs.CallViews.{step_view, action_view, call_view};
 ghost use Rattle.capnp_calls.specs.Ends.{end_view, IsEndOf, found_fields};
 ghost use Rattle.capnp_calls.specs.Ways.{IsWay};
-ghost use Rattle.capnp_calls.specs.Resolved.{calls_of, AreResolved};
+ghost use Rattle.capnp_calls.specs.Hops.{EndsSmall, LeadsToEnd};
+ghost use Rattle.capnp_calls.specs.Resolved.{calls_of, AreResolved, KnowSplices};
 
 use crate::ends::{End, next_end};
 use crate::find::FoundField;
 use crate::long::puts_long_at;
+use crate::splices::{next_hop, note_hop, splice_to};
 use crate::{Action, Call, Step};
+use capnp_calls_splice::splice::{Hop, Splice};
 use capnp_units::errors::Result;
 use capnp_values_queries::introspect::{Type, TypeVariant};
 use capnp_values_queries::structs::StructSchema;
@@ -24,6 +27,11 @@ struct Walk<'a> {
     /// What its names find, in turn.
     fields: Vec<FoundField>,
     end: End<'a>,
+    /// The hops that it makes, where it is straight.
+    hops: Vec<Hop>,
+    /// Whether it goes by way of structs and elements of lists of structs, and finds no member of a
+    /// union.
+    is_straight: bool,
 }
 
 /// Adds what a step finds. `OutOfMemory`: the list can't grow.
@@ -37,23 +45,35 @@ fn note(fields: &mut Vec<FoundField>, found: Option<FoundField>) -> Result<()>
     Ok(())
 }
 
-/// Goes along a path from a struct on. `OutOfMemory`: memory for what its names find was refused.
+/// Goes along a path from a struct on. `OutOfMemory`: memory for what its names find, or for its
+/// hops, was refused.
 fn walk_path<'a>(alloc: Global, root: StructSchema<'a>, path: &[Step]) -> Result<Walk<'a>>
     ensures way { IfOk result (λ w.
         IsWay (schema_around root.entry) (map step_view path.now) w.fields.items) }
     ensures end { IfOk result (λ w. end_view w.end ≡ end_of (schema_around root.entry)
         (map step_view path.now) (at_value (struct (id_of root.entry)))) }
     ensures of_set { IfOk result (λ w. IsEndOf (nodes_around root.entry) w.end) }
+    ensures small { IfOk result (λ w. EndsSmall (end_view w.end)) }
+    ensures leads { IfOk result (λ w. w.is_straight ≡ true
+        → LeadsToEnd root.entry w.hops.items (map step_view path.now) (end_view w.end)) }
     ensures kind { IfErr result (λ e. e.kind ≡ ErrorKind.OutOfMemory) }
 {
     let mut fields = Vec::new(alloc);
+    let mut hops = Vec::new(alloc);
+    let mut is_straight = true;
     let mut end = End::Value(Type::from(TypeVariant::Struct(root.raw())));
     for step in path {
         let next = next_end(root.set(), step, end);
         note(&mut fields, next.found)?;
+        is_straight = note_hop(&mut hops, is_straight, next_hop(end, step), next.is_alone)?;
         end = next.end;
     }
-    Ok(Walk { fields, end })
+    Ok(Walk {
+        fields,
+        end,
+        hops,
+        is_straight,
+    })
 }
 
 /// A call with all that the schema of a root tells of it.
@@ -62,24 +82,34 @@ pub struct Resolved<'a> {
     call: &'a Call,
     fields: Vec<FoundField>,
     is_long: bool,
+    splice: Option<Splice>,
 }
 
 impl<'a> Resolved<'a> {
-    ghost use Rattle.capnp_calls.specs.Resolved.{call_of, IsResolved};
+    ghost use Rattle.std.specs.Prelude.{option_copied};
+    ghost use Rattle.capnp_calls.specs.Resolved.{call_of, IsResolved, KnowsSplice};
 
     /// A call from roots of this schema on. `OutOfMemory`: memory for what the names of its path
-    /// find was refused.
+    /// find, or for its splice, was refused.
     pub fn new(alloc: Global, root: StructSchema<'_>, call: &'a Call) -> Result<Resolved<'a>>
         ensures resolved { IfOk result (IsResolved root.entry) }
         ensures call { IfOk result (λ r. call_of r ≡ call_view call.now) }
+        ensures splice { IfOk result (KnowsSplice root.entry) }
         ensures kind { IfErr result (λ e. e.kind ≡ ErrorKind.OutOfMemory) }
     {
-        let Walk { fields, end } = walk_path(alloc, root, call.path())?;
+        let Walk {
+            fields,
+            end,
+            hops,
+            is_straight,
+        } = walk_path(alloc, root, call.path())?;
         let is_long = puts_long_at(root.set(), end, call.action());
+        let splice = splice_to(alloc, hops, is_straight, end, call.action())?;
         Ok(Resolved {
             call,
             fields,
             is_long,
+            splice,
         })
     }
 
@@ -115,6 +145,18 @@ impl<'a> Resolved<'a> {
     {
         self.is_long
     }
+
+    /// What it puts into canonical words where they stand, and by which hops from the root. `None`
+    /// where
+    /// - it isn't the `set` of a plain field, a text or data, to a value of its type;
+    /// - its path goes elsewhere than by structs and elements of lists of structs;
+    /// - one of these fields is a member of a union or a group.
+    #[inline]
+    pub fn splice(&self) -> Option<&Splice>
+        ensures { option_copied result ≡ self.now.splice }
+    {
+        self.splice.as_ref()
+    }
 }
 
 /// Calls from roots of this schema on, in turn. `OutOfMemory`: memory for them was refused.
@@ -125,6 +167,7 @@ pub fn resolve<'a>(
 ) -> Result<Vec<Resolved<'a>>>
     ensures resolved { IfOk result (λ found. AreResolved root.entry found.items) }
     ensures calls { IfOk result (λ found. calls_of found.items ≡ map call_view calls.now) }
+    ensures splices { IfOk result (λ found. KnowSplices root.entry found.items) }
     ensures kind { IfErr result (λ e. e.kind ≡ ErrorKind.OutOfMemory) }
 {
     let mut found = Vec::new(alloc);

@@ -19,8 +19,8 @@ ghost use Rattle.capnp_calls_edits.specs.Behind.{BytesGrowIn};
 
 use crate::contents::copy_content;
 use crate::messages::put_message;
-use crate::values::bits_for;
 use capnp_calls::message::MessageValue;
+use capnp_calls::number::bits_for;
 use capnp_calls::{Action, SlotValue};
 use capnp_copy_arenas::arena::BuilderArena;
 use capnp_copy_arenas::init::ListPlace;

@@ -14,7 +14,7 @@ ghost use Rattle.capnp_calls_edits.specs.Written.{WritesField, WhereFieldTakes, 
 
 use crate::messages::set_message;
 use capnp_calls::SlotValue;
-use capnp_calls::number::{signed_bits, unsigned_bits};
+use capnp_calls::number::bits_for;
 use capnp_copy_arenas::arena::BuilderArena;
 use capnp_copy_arenas::fields::{StructPlace, set_bits};
 use capnp_schema_structs::setting::set_flat;
@@ -24,30 +24,8 @@ use capnp_units::errors::{Error, Result};
 use capnp_units::kinds::ErrorKind;
 use capnp_values::dynamic_value::Reader;
 use capnp_values_queries::fields::Field;
-use capnp_values_queries::slots::{FieldPlace, PlainType};
+use capnp_values_queries::slots::FieldPlace;
 use capnp_wire_objects::arena::NullArena;
-
-/// The bits of a value in a slot of a plain type, the default not yet put to them; `None` where it
-/// is of another sort or out of range.
-pub fn bits_for(ty: PlainType, value: &SlotValue) -> Option<u64>
-    ensures content { bits_content result
-        ≡ plain_content (plain_of ty) (slot_value_view value.now) }
-    ensures fit { IfSome result (λ n. n < 2 ^ width (plain_of ty)) }
-{
-    match (ty, value) {
-        (PlainType::Bool, SlotValue::Bool(b)) => Some(if *b { 1 } else { 0 }),
-        (
-            PlainType::Int8 | PlainType::Int16 | PlainType::Int32 | PlainType::Int64,
-            SlotValue::Number(n),
-        ) => signed_bits(*n, width_of(ty)),
-        (
-            PlainType::UInt8 | PlainType::UInt16 | PlainType::UInt32 | PlainType::UInt64,
-            SlotValue::Number(n),
-        ) => unsigned_bits(*n, width_of(ty)),
-        (PlainType::Enum(_), SlotValue::Enum(n)) => Some(u64::from(*n)),
-        _ => None,
-    }
-}
 
 /// Sets a plain field to a value of its type, or a Void field to any, and marks its union. Other
 /// fields, and values out of range, are refused with `TypeMismatch`.

@@ -1,77 +1,16 @@
--- Paths from the structs of schemas to slots, found step by step.
-use Rattle.std.proofs.Common.{◌≡◌, ℕ, Option, Some, None, List, [], ◌∷◌, ◌++◌, Result, Ok, Err, refl, ap, sym, subst, ◌∙◌, append_assoc, append-nil}
-use Rattle.std.specs.Prelude.{IfOk, IfSome}
-use Rattle.capnp_model.specs.Schemas.{Node}
-use Rattle.capnp_model.specs.Accepted.{schema_of}
-use Rattle.capnp_model.specs.Printing.{fields_in, as_it_is}
-use Rattle.capnp_model.specs.Calls.{Step, name, Verb, set_to, CallValue, Call}
-use Rattle.capnp_model.specs.Steps.{target}
-use Rattle.capnp_values_queries.specs.Fields.{Entry, field_at}
-use Rattle.capnp_values_queries.specs.Structs.{nodes_around, schema_around, fields_of_struct, index_named, id_of}
-use Rattle.capnp_values_queries.specs.Handles.{entry_of_field}
+-- Calls that set slots along paths, and the splices of calls in turn.
+use Rattle.std.proofs.Common.{◌≡◌, ℕ, zero, suc, Bool, true, false, ◌&&◌, Option, Some, None, List, [], ◌∷◌, ◌++◌, length, refl, ap, sym, subst, ◌∙◌, Bor}
+use Rattle.std.specs.Prelude.{IfSome, ⊤, is_some, not, slice_get, option_copied}
+use Rattle.capnp_model.specs.Printing.{as_it_is}
+use Rattle.capnp_model.specs.Calls.{Step, Verb, set_to, CallValue, Call}
+use Rattle.capnp_values_queries.specs.Structs.{schema_around, fields_of_struct, id_of}
 use Rattle.capnp_values_queries.specs.declared.structs.StructSchema.{StructSchema}
-use Rattle.capnp_values_queries.specs.declared.fields.Field.{Field}
-use Rattle.capnp_calls_edits.proofs.lemmas.Outcomes.{found_at}
-use Rattle.capnp_calls_splice.specs.declared.splice.Hop.{Hop}
-use Rattle.capnp_calls_splice.specs.declared.splice.Put.{Put}
+use Rattle.capnp_calls.specs.Splices.{PathLeadsTo}
+use Rattle.capnp_calls.specs.Resolved.{call_of, calls_of, IsSpliceOf, KnowsSplice, KnowSplices}
+use Rattle.capnp_calls.specs.declared.resolved.Resolved.{Resolved}
 use Rattle.capnp_calls_splice.specs.declared.splice.Splice.{Splice}
-use Rattle.capnp_calls_in_place.specs.CallSplices.{IsCallSplice, AreCallSplices}
-use Rattle.capnp_calls_in_place.specs.Ways.{PathLeadsTo, LeadsOver, PutsEntry, EntersEntry}
+use Rattle.capnp_calls_in_place.specs.CallSplices.{IsCallSplice, have_splices}
 use Rattle.capnp_calls_in_place.proofs.SplicedCalls.{call_made, call_replied}
-
--- What holds of what is answered, wherever another thing does.
-pub if_found : {A E : Type 0} (P Q : A → Type 0) → ((x : A) → P x → Q x) → (r : Result (Option A) E) → IfOk r (λ o. IfSome o P) → IfOk r (λ o. IfSome o Q)
-if_found P Q f (Ok None) h = h
-if_found P Q f (Ok (Some x)) h = f x h
-if_found P Q f (Err e) h = h
-
-pub if_both : {A : Type 0} (P Q R : A → Type 0) → ((x : A) → P x → Q x → R x) → (o : Option A) → IfSome o P → IfSome o Q → IfSome o R
-if_both P Q R f None h k = h
-if_both P Q R f (Some x) h k = f x h k
-
--- ---- at a field
-
-module _ (schema : StructSchema) (n : List ℕ) where
-  puts_in : (i : ℕ) (o : Option Entry) (v : CallValue) (put : Put) → Some i ≡ index_named schema n → field_at (fields_of_struct schema) i ≡ o → PutsEntry o v put → PathLeadsTo (schema_around schema) v put [] (fields_of_struct schema) (name n ∷ [])
-  puts_in i None v put place is h = absurd h
-  puts_in i (Some e) v put place is h = (n, e.body, refl, found_at n (fields_of_struct schema) i e (sym place) is ∙ ap (λ (m : Option ℕ). target m e.body) h.0, h.1)
-
-  -- The last name of a path.
-  pub put_leads : (f : Field) → f.parent ≡ schema → Some f.index ≡ index_named schema n → (v : CallValue) (put : Put) → PutsEntry (entry_of_field f) v put → PathLeadsTo (schema_around schema) v put [] (fields_of_struct schema) (name n ∷ [])
-  put_leads f parent place v put h =
-      puts_in f.index (field_at (fields_of_struct schema) f.index) v put place refl (subst (λ (g : StructSchema). PutsEntry (field_at (fields_of_struct g) f.index) v put) parent h)
-
-  leads_in : (i : ℕ) (o : Option Entry) (hop : Hop) (behind rest : List Step) (b : StructSchema) → Some i ≡ index_named schema n → field_at (fields_of_struct schema) i ≡ o → nodes_around b ≡ nodes_around schema → EntersEntry o hop behind (id_of b) rest
-      → LeadsOver schema (name n ∷ behind) (hop ∷ []) b rest
-  leads_in i None hop behind rest b place is same h v put way leads = absurd h
-  leads_in i (Some e) hop behind rest b place is same h v put way leads = (
-    n,
-    behind,
-    e.body,
-    id_of b,
-    rest,
-    refl,
-    found_at n (fields_of_struct schema) i e (sym place) is ∙ ap (λ (m : Option ℕ). target m e.body) h.0,
-    h.1,
-    subst (λ (ns : List Node). PathLeadsTo (schema_of ns) v put way (fields_in ((schema_of ns).shape_of (id_of b))) rest) same leads,
-  )
-
-  -- A name on the way.
-  pub hop_leads : (f : Field) → f.parent ≡ schema → Some f.index ≡ index_named schema n → (hop : Hop) (behind rest : List Step) (b : StructSchema) → nodes_around b ≡ nodes_around f.parent → EntersEntry (entry_of_field f) hop behind (id_of b) rest
-      → LeadsOver schema (name n ∷ behind) (hop ∷ []) b rest
-  hop_leads f parent place hop behind rest b same h =
-      leads_in f.index (field_at (fields_of_struct schema) f.index) hop behind rest b place refl (same ∙ ap nodes_around parent) (subst (λ (g : StructSchema). EntersEntry (field_at (fields_of_struct g) f.index) hop behind (id_of b) rest) parent h)
-
--- One hop more.
-pub leads_further : (a b c : StructSchema) (path middle rest : List Step) (way : List Hop) (hop : Hop) → LeadsOver a path way b middle → LeadsOver b middle (hop ∷ []) c rest → LeadsOver a path (way ++ hop ∷ []) c rest
-leads_further a b c path middle rest way hop over next v put more leads =
-    subst (λ (hs : List Hop). PathLeadsTo (schema_around a) v put hs (fields_of_struct a) path) (sym (append_assoc way (hop ∷ []) more)) (over v put (hop ∷ more) (next v put more leads))
-
--- The last step.
-pub leads_to_end : (a b : StructSchema) (path rest : List Step) (n : List ℕ) (way : List Hop) (v : CallValue) (put : Put) → LeadsOver a path way b rest → rest ≡ name n ∷ [] → PathLeadsTo (schema_around b) v put [] (fields_of_struct b) (name n ∷ [])
-    → PathLeadsTo (schema_around a) v put way (fields_of_struct a) path
-leads_to_end a b path rest n way v put over is h =
-    subst (λ (hs : List Hop). PathLeadsTo (schema_around a) v put hs (fields_of_struct a) path) (append-nil way) (over v put [] (subst (PathLeadsTo (schema_around b) v put [] (fields_of_struct b)) (sym is) h))
 
 -- ---- calls
 
@@ -84,12 +23,85 @@ set_call schema path v p leads old new fit spliced =
       deep = made.deep;
     }
 
-pub is_call_splice : (schema : StructSchema) (c : Call) (v : CallValue) (p : Splice) → c.verb ≡ set_to v → PathLeadsTo (schema_around schema) v p.put p.hops.items (fields_of_struct schema) c.path → IsCallSplice schema c p
+is_call_splice : (schema : StructSchema) (c : Call) (v : CallValue) (p : Splice) → c.verb ≡ set_to v → PathLeadsTo (schema_around schema) v p.put p.hops.items (fields_of_struct schema) c.path → IsCallSplice schema c p
 is_call_splice schema c v p verb leads = subst (λ (does : Verb). IsCallSplice schema (record { path = c.path; verb = does }) p) (sym verb) (set_call schema c.path v p leads)
 
--- Calls in turn.
-pub one_more_splice : (schema : StructSchema) (cs : List Call) (ps : List Splice) (c : Call) (p : Splice) → AreCallSplices schema cs ps → IsCallSplice schema c p → AreCallSplices schema (cs ++ c ∷ []) (ps ++ p ∷ [])
-one_more_splice schema [] [] c p h k = (k, tt)
-one_more_splice schema [] (q ∷ ps) c p h k = absurd h
-one_more_splice schema (b ∷ cs) [] c p h k = absurd h
-one_more_splice schema (b ∷ cs) (q ∷ ps) c p h k = (h.0, one_more_splice schema cs ps c p h.1 k)
+-- What is found of a call's path.
+pub known_splice : (schema : StructSchema) (c : Call) (p : Splice) → IsSpliceOf schema c p → IsCallSplice schema c p
+known_splice schema c p h = is_call_splice schema c h.0 p h.1 h.2
+
+pub found_splice : (schema : StructSchema) (r : Resolved) (p : Splice) → r.splice ≡ Some p → KnowsSplice schema r → IsCallSplice schema (call_of r) p
+found_splice schema r p is h = known_splice schema (call_of r) p (subst (λ (o : Option Splice). IfSome o (IsSpliceOf schema (call_of r))) is h)
+
+pub is_found : (schema : StructSchema) (r : Resolved) (o : Option (Bor Splice)) → option_copied o ≡ r.splice → KnowsSplice schema r → IfSome o (λ p. IsCallSplice schema (call_of r) p.now)
+is_found schema r None same known = tt
+is_found schema r (Some p) same known = found_splice schema r p.now (sym same) known
+
+same_some : (o : Option (Bor Splice)) → is_some (option_copied o) ≡ is_some o
+same_some None = refl
+same_some (Some p) = refl
+
+pub tells_some : (o : Option (Bor Splice)) (p : Option Splice) (b : Bool) → option_copied o ≡ p → is_some o ≡ not b → is_some p ≡ not b
+tells_some o p b same is = ap is_some (sym same) ∙ same_some o ∙ is
+
+-- ---- calls in turn
+
+-- Each call does, by the splice in its place.
+abbrev pub AreCallSplices : StructSchema → List Call → List Splice → Type 0
+AreCallSplices schema [] [] = ⊤
+AreCallSplices schema (c ∷ cs) (p ∷ ps) = IsCallSplice schema c p × AreCallSplices schema cs ps
+AreCallSplices schema _ _ = ⊥
+
+abbrev with_found : Option Splice → List Splice → List Splice
+with_found None ps = ps
+with_found (Some p) ps = p ∷ ps
+
+-- The splices that were found.
+abbrev pub splices_of : List Resolved → List Splice
+splices_of [] = []
+splices_of (r ∷ rs) = with_found r.splice (splices_of rs)
+
+found_first : (o : Option Splice) (more : Bool) → (is_some o && more) ≡ true → (p : Splice) × (o ≡ Some p) × (more ≡ true)
+found_first None more h = absurd (cc h)
+found_first (Some p) more h = (p, refl, h)
+
+-- Each of calls that have splices does what its splice puts.
+pub each_splice : (schema : StructSchema) (rs : List Resolved) → KnowSplices schema rs → have_splices rs ≡ true → AreCallSplices schema (calls_of rs) (splices_of rs)
+each_splice schema [] known have = tt
+each_splice schema (r ∷ rs) known have =
+    let first = found_first r.splice (have_splices rs) have in
+    subst (λ (o : Option Splice). AreCallSplices schema (call_of r ∷ calls_of rs) (with_found o (splices_of rs))) (sym first.1) (found_splice schema r first.0 first.1 known.0, each_splice schema rs known.1 first.2)
+
+-- There are as many.
+pub as_many : (rs : List Resolved) → have_splices rs ≡ true → length (splices_of rs) ≡ length rs
+as_many [] have = refl
+as_many (r ∷ rs) have =
+    let first = found_first r.splice (have_splices rs) have in
+    ap (λ (o : Option Splice). length (with_found o (splices_of rs))) first.1 ∙ ap suc (as_many rs first.2)
+
+-- One call more.
+pub more_splices : (rs : List Resolved) (r : Resolved) (p : Splice) → r.splice ≡ Some p → splices_of (rs ++ r ∷ []) ≡ splices_of rs ++ p ∷ []
+more_splices [] r p is = ap (λ (o : Option Splice). with_found o []) is
+more_splices (q ∷ rs) r p is = by q.splice (more_splices rs r p is)
+  where
+    by : (o : Option Splice) → splices_of (rs ++ r ∷ []) ≡ splices_of rs ++ p ∷ [] → with_found o (splices_of (rs ++ r ∷ [])) ≡ with_found o (splices_of rs) ++ p ∷ []
+    by None again = again
+    by (Some x) again = ap (λ ps. x ∷ ps) again
+
+pub have_more : (rs : List Resolved) (r : Resolved) → have_splices rs ≡ true → is_some r.splice ≡ true → have_splices (rs ++ r ∷ []) ≡ true
+have_more [] r have is = ap (λ (b : Bool). b && true) is
+have_more (q ∷ rs) r have is = by (is_some q.splice) have (have_more rs r)
+  where
+    by : (b : Bool) → (b && have_splices rs) ≡ true → (have_splices rs ≡ true → is_some r.splice ≡ true → have_splices (rs ++ r ∷ []) ≡ true) → (b && have_splices (rs ++ r ∷ [])) ≡ true
+    by true h again = again h is
+    by false h again = h
+
+-- A call without a splice among them.
+pub lacks_one : (rs : List Resolved) (i : ℕ) (r : Resolved) → slice_get rs i ≡ Some r → is_some r.splice ≡ false → have_splices rs ≡ false
+lacks_one [] i r at is = absurd (cc at)
+lacks_one (q ∷ rs) zero r at is = let same : q ≡ r = cc at in ap (λ (x : Resolved). is_some x.splice && have_splices rs) same ∙ ap (λ (b : Bool). b && have_splices rs) is
+lacks_one (q ∷ rs) (suc i) r at is = by (is_some q.splice) (lacks_one rs i r at is)
+  where
+    by : (b : Bool) → have_splices rs ≡ false → (b && have_splices rs) ≡ false
+    by true h = h
+    by false h = refl

@@ -15,7 +15,8 @@ use Rattle.capnp_model.specs.Printing.{as_it_is}
 use Rattle.capnp_calls_splice.specs.Splices.{IsSpliced, HasSpliced}
 use Rattle.capnp_calls_splice.specs.declared.splice.Splice.{Splice}
 use Rattle.capnp_calls_in_place.specs.PlainSets.{SetsWords}
-use Rattle.capnp_calls_in_place.specs.CallSplices.{AreCallSplices, MakesTrimmed}
+use Rattle.capnp_calls_in_place.specs.CallSplices.{MakesTrimmed}
+use Rattle.capnp_calls_in_place.proofs.CallWays.{AreCallSplices}
 use Rattle.capnp_calls_in_place.proofs.SplicedKids.{depths_padded}
 
 -- The value after splices, one put after the other.

@@ -15,7 +15,7 @@ use Rattle.capnp_model.proofs.lemmas.Stripping.{stripped-stripped}
 use Rattle.capnp_calls.specs.Sizes.{IsDone}
 use Rattle.capnp_calls_splice.specs.Splices.{IsSpliced}
 use Rattle.capnp_calls_splice.specs.declared.splice.Splice.{Splice}
-use Rattle.capnp_calls_in_place.specs.Ways.{PathLeadsTo}
+use Rattle.capnp_calls.specs.Splices.{PathLeadsTo}
 use Rattle.capnp_calls_in_place.proofs.SplicedCells.{IsCut, Makes}
 use Rattle.capnp_calls_in_place.proofs.SplicedPaths.{begins, root_is}
 use Rattle.capnp_calls_in_place.proofs.SplicedSteps.{path_done}

@@ -18,8 +18,8 @@ use Rattle.capnp_calls_splice.specs.declared.splice.Hop.{Hop}
 use Rattle.capnp_calls_splice.specs.declared.splice.Hop.TheVariants as hops
 use Rattle.capnp_calls_splice.specs.declared.splice.Put.{Put}
 use Rattle.capnp_calls_splice.specs.declared.splice.Put.TheVariants as puts
-use Rattle.capnp_calls_in_place.specs.PlainFields.{SetsPlainSlot}
-use Rattle.capnp_calls_in_place.specs.Ways.{IsPutOf, FindsPlainField, PathLeadsTo}
+use Rattle.capnp_calls.specs.PlainFields.{SetsPlainSlot}
+use Rattle.capnp_calls.specs.Splices.{IsPutOf, FindsPlainField, PathLeadsTo}
 use Rattle.capnp_calls_in_place.proofs.SplicedCells.{Follows, IsEditOf, Makes, IsChangeOf, number_is, child_is}
 use Rattle.capnp_calls_in_place.proofs.SplicedStructs.{struct_is}
 use Rattle.capnp_calls_in_place.proofs.SplicedLists.{list_is}

@@ -18,7 +18,7 @@ use Rattle.capnp_calls_splice.specs.declared.splice.Hop.{Hop}
 use Rattle.capnp_calls_splice.specs.declared.splice.Hop.TheVariants as hops
 use Rattle.capnp_calls_splice.specs.declared.splice.Put.{Put}
 use Rattle.capnp_calls_splice.specs.declared.splice.Put.TheVariants as puts
-use Rattle.capnp_calls_in_place.specs.Ways.{IsPutOf, FindsPlainField, PathLeadsTo}
+use Rattle.capnp_calls.specs.Splices.{IsPutOf, FindsPlainField, PathLeadsTo}
 use Rattle.capnp_calls_in_place.proofs.SplicedKids.{child_same, child_fits}
 use Rattle.capnp_calls_in_place.proofs.SplicedCells.{IsCut}
 use Rattle.capnp_calls_in_place.proofs.SplicedPaths.{begins}

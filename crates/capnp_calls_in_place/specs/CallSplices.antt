@@ -1,5 +1,5 @@
 -- Calls that put something into the structs of a value, none of which gets wider or narrower.
-use Rattle.std.specs.Prelude.{◌≡◌, ℕ, ◌<◌, Some, List, [], ◌∷◌, slice_get, ⊤}
+use Rattle.std.specs.Prelude.{◌≡◌, ℕ, ◌<◌, Bool, true, ◌&&◌, Some, is_some, List, [], ◌∷◌, slice_get}
 use Rattle.capnp_model.specs.Trees.{Tree, depth}
 use Rattle.capnp_model.specs.Trimming.{trim}
 use Rattle.capnp_model.specs.Fits.{Fits}
@@ -11,6 +11,7 @@ use Rattle.capnp_model.specs.Answers.{reply_of, reply_done}
 use Rattle.capnp_values_queries.specs.Structs.{schema_around, id_of}
 use Rattle.capnp_values_queries.specs.declared.structs.StructSchema.{StructSchema}
 use Rattle.capnp_model.specs.Printing.{as_it_is}
+use Rattle.capnp_calls.specs.declared.resolved.Resolved.{Resolved}
 use Rattle.capnp_calls_splice.specs.Splices.{IsSpliced, put_room}
 use Rattle.capnp_calls_splice.specs.declared.splice.Splice.{Splice}
 
@@ -24,15 +25,16 @@ pub record MakesTrimmed (schema : StructSchema) (c : Call) (old new : Tree) : Ty
 abbrev pub IsCallSplice : StructSchema → Call → Splice → Type 0
 IsCallSplice schema c p = (old new : Tree) → Fits (trim old) → IsSpliced p (trim old) new → MakesTrimmed schema c old new
 
--- Each call does, by the splice in its place.
-abbrev pub AreCallSplices : StructSchema → List Call → List Splice → Type 0
-AreCallSplices schema [] [] = ⊤
-AreCallSplices schema (c ∷ cs) (p ∷ ps) = IsCallSplice schema c p × AreCallSplices schema cs ps
-AreCallSplices schema _ _ = ⊥
+-- Each call has a splice.
+abbrev pub have_splices : List Resolved → Bool
+have_splices [] = true
+have_splices (r ∷ rs) = is_some r.splice && have_splices rs
 
--- One of splices may add words to a message; a number never does.
-pub record WantsRoom (splices : List Splice) : Type 0 where
+-- What one of calls puts may add words to a message; a number never does.
+pub record WantsRoom (calls : List Resolved) : Type 0 where
   pub index : ℕ
+  pub call : Resolved
   pub splice : Splice
-  pub there : slice_get splices index ≡ Some splice
+  pub there : slice_get calls index ≡ Some call
+  pub puts : call.splice ≡ Some splice
   pub room : 0 < put_room splice.put

@@ -1,4 +1,2 @@
 pub mod PlainSets
-pub mod PlainFields
-pub mod Ways
 pub mod CallSplices

@@ -1,93 +1,78 @@
-//! Calls that set fields along paths, resolved once, and written where a message's canonical words
-//! stand.
-ghost use Rattle.std.specs.Prelude.{◌≡◌, ◌≤◌, List, map, length, IfOk, IfErr, IfSome};
+//! Calls that set fields along paths, written where a message's canonical words stand.
+ghost use Rattle.std.specs.Prelude.{◌≡◌, ◌≤◌, true, length, option_copied, IfOk, IfErr, IfSome};
 ghost use Rattle.capnp_units.specs.declared.kinds.ErrorKind.{ErrorKind};
 ghost use Rattle.capnp_model.specs.Trees.{Tree};
 ghost use Rattle.capnp_model.specs.Trimming.{trim};
 ghost use Rattle.capnp_model.specs.Fits.{Fits};
 ghost use Rattle.capnp_model.specs.Encoding.{canonical_words};
-ghost use Rattle.capnp_model.specs.Calls.{Call as ModelCall};
 ghost use Rattle.capnp_values_queries.specs.declared.structs.StructSchema.{StructSchema as AnySchema};
-ghost use Rattle.capnp_calls.specs.CallViews.{call_view};
+ghost use Rattle.capnp_calls.specs.Resolved.{call_of, calls_of, KnowsSplice, KnowSplices};
 ghost use Rattle.capnp_wire_canonical.specs.Writes.{filled};
 ghost use Rattle.capnp_calls_in_place.specs.PlainSets.{SetsWords};
-ghost use Rattle.capnp_calls_in_place.specs.CallSplices.{IsCallSplice, AreCallSplices, WantsRoom};
+ghost use Rattle.capnp_calls_in_place.specs.CallSplices.{IsCallSplice, have_splices, WantsRoom};
 ghost use Rattle.capnp_calls_splice.specs.Splices.{StandsWithin};
 
-use crate::fields::value_set;
-use crate::ways::splice_along;
-use capnp_calls::Call;
+use capnp_calls::resolved::Resolved;
 use capnp_calls_splice::put::put_splice;
 use capnp_calls_splice::splice::Splice;
 use capnp_units::errors::Result;
 use capnp_units::sizes::Word;
-use capnp_values_queries::structs::StructSchema;
-use std::alloc::Global;
 
 /// What a call puts, and where. `None` where
 /// - it isn't the `set` of a plain field, a text or data, to a value of its type;
 /// - the way goes elsewhere than by structs and elements of lists of structs;
-/// - one of these fields is a member of a union or a group. `OutOfMemory`: memory for it was
-///   refused.
-pub fn call_splice(alloc: Global, schema: StructSchema<'_>, call: &Call) -> Result<Option<Splice>>
-    ensures splice { IfOk result (λ found. IfSome found
-        (IsCallSplice schema.entry (call_view call.now))) }
-    ensures kind { IfErr result (λ e. e.kind ≡ ErrorKind.OutOfMemory) }
+/// - one of these fields is a member of a union or a group.
+#[inline]
+pub fn call_splice<'a>(call: &'a Resolved<'_>) -> Option<&'a Splice>
+    ensures found { option_copied result ≡ call.now.splice }
+    ensures splice { (schema : AnySchema) → KnowsSplice schema call.now
+        → IfSome result (λ p. IsCallSplice schema (call_of call.now) p.now) }
 {
-    match value_set(call.action()) {
-        Some(value) => splice_along(alloc, schema, call.path(), value),
-        None => Ok(None),
-    }
+    call.splice()
 }
 
-/// What each call puts, and where; `None` where one puts nothing that `call_splice` finds.
-/// `OutOfMemory`: memory for the list was refused.
-pub fn call_splices(
-    alloc: Global,
-    schema: StructSchema<'_>,
-    calls: &[Call],
-) -> Result<Option<Vec<Splice>>>
-    ensures splices { IfOk result (λ found. IfSome found
-        (λ ps. AreCallSplices schema.entry (map call_view calls.now) ps.items)) }
-    ensures kind { IfErr result (λ e. e.kind ≡ ErrorKind.OutOfMemory) }
+/// Whether `call_splice` finds what each call puts.
+pub fn are_spliced(calls: &[Resolved<'_>]) -> bool
+    ensures { result ≡ have_splices calls.now }
 {
-    let mut splices = Vec::new(alloc);
     for call in calls {
-        match call_splice(alloc, schema, call)? {
-            Some(splice) => splices.push(splice)?,
-            None => return Ok(None),
+        if call_splice(call).is_none() {
+            return false;
         }
     }
-    Ok(Some(splices))
+    true
 }
 
-/// Puts what splices put, one after the other, into a message whose `count` canonical words stand
-/// at the front of a buffer. It returns how many words there are then: the canonical words of what
-/// the calls make of the value, trimmed.
+/// Puts what calls put, one after the other, into a message whose `count` canonical words stand at
+/// the front of a buffer. It returns how many words there are then: the canonical words of what the
+/// calls make of the value, trimmed.
 ///
-/// `None` where there are no splices, or one can't be put so that each struct is as wide as before.
-/// Then some may be put, and the words are of no use. `OutOfMemory`: the buffer is too short for a
-/// text or data, and the memory for more words was refused. Where each splice puts a number none is
-/// asked for.
+/// `None` where there are no calls, or what one puts isn't found, or can't be put so that each
+/// struct is as wide as before. Then some may be put, and the words are of no use. `OutOfMemory`:
+/// the buffer is too short for a text or data, and the memory for more words was refused. Where
+/// each call puts a number none is asked for.
 pub fn write_splices(
     words: &mut Vec<Word>,
     count: usize,
-    splices: &[Splice],
+    calls: &[Resolved<'_>],
 ) -> Result<Option<usize>>
     requires inside { count ≤ length words.old.items }
-    ensures splices { (schema : AnySchema) (calls : List ModelCall) (t : Tree)
-        → AreCallSplices schema calls splices.now → Fits t → trim t ≡ t
+    ensures splices { (schema : AnySchema) (t : Tree)
+        → KnowSplices schema calls.now → Fits t → trim t ≡ t
         → filled count words.old.items ≡ canonical_words t → IfOk result (λ found. IfSome found
-        (λ n. SetsWords schema calls t (filled n words.new.items))) }
+        (λ n. SetsWords schema (calls_of calls.now) t (filled n words.new.items))) }
     ensures within { IfOk result (λ found. IfSome found (StandsWithin words.new.items)) }
     ensures kind { IfErr result (λ e. e.kind ≡ ErrorKind.OutOfMemory) }
-    ensures wanted { IfErr result (λ _. WantsRoom splices.now) }
+    ensures wanted { IfErr result (λ _. WantsRoom calls.now) }
 {
-    if splices.is_empty() {
+    if calls.is_empty() {
         return Ok(None);
     }
     let mut left = count;
-    for splice in splices {
+    for call in calls {
+        let Some(splice) = call_splice(call) else {
+            return Ok(None);
+        };
         match put_splice(words, left, splice)? {
             Some(more) => left = more,
             None => return Ok(None),

@@ -45,7 +45,8 @@ fn fits_unsigned(value: &SlotValue, width: u32) -> bool
 fn fits_signed(value: &SlotValue, width: u32) -> bool
     requires some { 0 < width }
     requires most { width ≤ 64 }
-    ensures { reply_by_type result ≡ content_reply (plain_content (int width) (slot_value_view value.now)) }
+    ensures { reply_by_type result
+        ≡ content_reply (plain_content (int width) (slot_value_view value.now)) }
 {
     match value {
         SlotValue::Number(number) => signed_bits(*number, width).is_some(),
@@ -59,28 +60,32 @@ fn fits_signed(value: &SlotValue, width: u32) -> bool
 
 /// Whether a value is a truth value.
 fn is_bool(value: &SlotValue) -> bool
-    ensures { reply_by_type result ≡ content_reply (plain_content bool (slot_value_view value.now)) }
+    ensures { reply_by_type result
+        ≡ content_reply (plain_content bool (slot_value_view value.now)) }
 {
     matches!(value, SlotValue::Bool(_))
 }
 
 /// Whether a value is an enum's.
 fn is_enum(value: &SlotValue, id: u64) -> bool
-    ensures { reply_by_type result ≡ content_reply (plain_content («enum» id) (slot_value_view value.now)) }
+    ensures { reply_by_type result
+        ≡ content_reply (plain_content («enum» id) (slot_value_view value.now)) }
 {
     matches!(value, SlotValue::Enum(_))
 }
 
 /// Whether a value is a text.
 fn is_text(value: &SlotValue) -> bool
-    ensures { reply_by_type result ≡ content_reply (value_content (slot_value_view value.now) text) }
+    ensures { reply_by_type result
+        ≡ content_reply (value_content (slot_value_view value.now) text) }
 {
     matches!(value, SlotValue::Text(_))
 }
 
 /// Whether a value is data.
 fn is_data(value: &SlotValue) -> bool
-    ensures { reply_by_type result ≡ content_reply (value_content (slot_value_view value.now) blob) }
+    ensures { reply_by_type result
+        ≡ content_reply (value_content (slot_value_view value.now) blob) }
 {
     matches!(value, SlotValue::Data(_))
 }

@@ -33,8 +33,9 @@ pub fn run<A: BuilderArena>(
     ensures all { let words = words_around_struct A.segments in IfOk result (λ told.
         RunsAt (words root.old) (words root.new) root.old.place root.old.schema
         (map call_view calls.now) (map reply_view told.items)) }
-    ensures stops { let words = words_around_struct A.segments in IfErr result (StopsAt (IsSizeOrRefusal A.refuses) (words root.old)
-        (words root.new) root.old.place root.old.schema (map call_view calls.now)) }
+    ensures stops { let words = words_around_struct A.segments in IfErr result
+        (StopsAt (IsSizeOrRefusal A.refuses) (words root.old) (words root.new) root.old.place
+        root.old.schema (map call_view calls.now)) }
     ensures size { result ≡ Err RunFault.Size → EndsLongAt (words_around_struct A.segments root.old)
         root.old.place root.old.schema (map call_view calls.now) }
     ensures handle { IsSameHandle root.old root.new }

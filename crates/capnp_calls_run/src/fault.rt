@@ -25,7 +25,8 @@ impl From<Error> for RunFault {
 }
 
 impl<T: Drop> From<AllocFailed<T>> for RunFault {
-    ghost from_gives = { λ _ fault. fault ≡ RunFault.Refused (record { kind = ErrorKind.OutOfMemory }) };
+    ghost from_gives = { λ _ fault.
+        fault ≡ RunFault.Refused (record { kind = ErrorKind.OutOfMemory }) };
 
     fn from(failed: AllocFailed<T>) -> RunFault {
         RunFault::Refused(Error::from(failed))

@@ -105,8 +105,9 @@ fn answer<A: BuilderArena>(
     ensures answer { IfOk result (λ r. AnswersAt (words_in (A.segments arena.old))
         (words_in (A.segments arena.new)) object schema.entry (call_of call.now)
         (reply_view r)) }
-    ensures stops { IfErr result (FailsAt (IsSizeOrRefusal A.refuses) (words_in (A.segments arena.old))
-        (words_in (A.segments arena.new)) object schema.entry (call_of call.now)) }
+    ensures stops { IfErr result (FailsAt (IsSizeOrRefusal A.refuses)
+        (words_in (A.segments arena.old)) (words_in (A.segments arena.new)) object schema.entry
+        (call_of call.now)) }
     ensures size { result ≡ Err RunFault.Size
         → PutsLongAt (words_in (A.segments arena.old)) object schema.entry (call_of call.now) }
     ensures books { A.books arena.new ≡ A.books arena.old }
@@ -156,8 +157,9 @@ pub fn run_at<A: BuilderArena>(
     ensures all { IfOk result (λ told. RunsAt (words_in (A.segments arena.old))
         (words_in (A.segments arena.new)) object schema.entry (calls_of calls.now)
         (map reply_view told.items)) }
-    ensures stops { IfErr result (StopsAt (IsSizeOrRefusal A.refuses) (words_in (A.segments arena.old))
-        (words_in (A.segments arena.new)) object schema.entry (calls_of calls.now)) }
+    ensures stops { IfErr result (StopsAt (IsSizeOrRefusal A.refuses)
+        (words_in (A.segments arena.old)) (words_in (A.segments arena.new)) object schema.entry
+        (calls_of calls.now)) }
     ensures size { result ≡ Err RunFault.Size → EndsLongAt (words_in (A.segments arena.old))
         object schema.entry (calls_of calls.now) }
     ensures books { A.books arena.new ≡ A.books arena.old }

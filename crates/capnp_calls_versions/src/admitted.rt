@@ -146,8 +146,9 @@ fn element_of(ty: TypeRecord) -> Option<TypeRecord>
 fn into_type(versions: &Versions<'_>, step: &Step, older: TypeRecord, newer: TypeRecord) -> Next
     ensures { (path : List ModelStep) (verb : ModelVerb)
         → into_type (names_in versions.now.names) (held_schema versions.now.older)
-        (held_schema versions.now.newer) (step_view step.now) (type_of (type_record_of older)) (type_of (type_record_of newer))
-        (goes_on versions.now path verb) ≡ next_seen versions.now result path verb }
+        (held_schema versions.now.newer) (step_view step.now) (type_of (type_record_of older))
+        (type_of (type_record_of newer)) (goes_on versions.now path verb)
+        ≡ next_seen versions.now result path verb }
 {
     match step {
         Step::Name(name) => {
@@ -178,8 +179,8 @@ fn into_type(versions: &Versions<'_>, step: &Step, older: TypeRecord, newer: Typ
 fn into_at(versions: &Versions<'_>, step: &Step, at: At) -> Next
     ensures { (path : List ModelStep) (verb : ModelVerb)
         → into_at (names_in versions.now.names) (held_schema versions.now.older)
-        (held_schema versions.now.newer) (step_view step.now) (at_seen versions.now at) (goes_on versions.now path verb)
-        ≡ next_seen versions.now result path verb }
+        (held_schema versions.now.newer) (step_view step.now) (at_seen versions.now at)
+        (goes_on versions.now path verb) ≡ next_seen versions.now result path verb }
 {
     match at {
         At::Group {
@@ -232,8 +233,9 @@ fn is_admitted_end(versions: &Versions<'_>, call: &Call, at: At) -> bool
 
 /// Whether a call is admitted from the two roots.
 fn is_admitted(versions: &Versions<'_>, older: u64, newer: u64, call: &Call) -> bool
-    ensures { result ≡ is_admitted_with (names_in versions.now.names) (held_schema versions.now.older)
-        (held_schema versions.now.newer) older newer (call_view call.now) }
+    ensures { result ≡ is_admitted_with (names_in versions.now.names)
+        (held_schema versions.now.older) (held_schema versions.now.newer) older newer
+        (call_view call.now) }
 {
     let mut at = At::Element {
         older: struct_type(older),

@@ -145,7 +145,8 @@ pub(crate) fn related(
         related (older_schema versions.now) (held_schema versions.now.newer) pairs
         (type_of (type_record_of older)) (type_of (type_record_of newer)))) }
     ensures never { IfOk result (λ b. b ≡ false → AreUnrelated (older_schema versions.now)
-        (held_schema versions.now.newer) (type_of (type_record_of older)) (type_of (type_record_of newer))) }
+        (held_schema versions.now.newer) (type_of (type_record_of older))
+        (type_of (type_record_of newer))) }
 {
     if older.list_count != newer.list_count {
         return Ok(false);

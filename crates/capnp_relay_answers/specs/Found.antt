@@ -6,17 +6,18 @@ use Rattle.capnp_model.specs.Trimming.{trim}
 use Rattle.capnp_model.specs.Encoding.{canonical_words}
 use Rattle.capnp_model.specs.Calls.{Call}
 use Rattle.capnp_values_queries.specs.declared.structs.StructSchema.{StructSchema}
+use Rattle.capnp_calls.specs.Resolved.{calls_of, KnowSplices}
+use Rattle.capnp_calls.specs.declared.resolved.Resolved.{Resolved}
 use Rattle.capnp_wire_canonical.specs.Writes.{filled}
 use Rattle.capnp_calls_splice.specs.Splices.{StandsWithin}
 use Rattle.capnp_calls_in_place.specs.PlainSets.{ArePlain, SetsWords}
-use Rattle.capnp_calls_in_place.specs.CallSplices.{AreCallSplices}
 use Rattle.capnp_relay_answers.specs.declared.found.Found.{Found}
 use Rattle.capnp_relay_answers.specs.declared.found.Found.TheVariants as founds
 
 -- What is found is what the calls put.
-abbrev pub IsFound : StructSchema → List Call → Found → Type 0
-IsFound schema calls (founds.Plain sets) = ArePlain schema calls sets.items
-IsFound schema calls (founds.Spliced splices) = AreCallSplices schema calls splices.items
+abbrev pub IsFound : StructSchema → List Resolved → Found → Type 0
+IsFound schema calls (founds.Plain sets) = ArePlain schema (calls_of calls) sets.items
+IsFound schema calls founds.Spliced = KnowSplices schema calls
 IsFound schema calls founds.Unknown = ⊤
 
 -- n words at the front of a buffer are those of what the calls make of the value that old canonical

@@ -8,11 +8,10 @@ ghost use Rattle.capnp_model.specs.Encoding.{canonical_words};
 ghost use Rattle.capnp_model.specs.Calls.{Call as ModelCall};
 ghost use Rattle.capnp_values_queries.specs.declared.structs.StructSchema.{StructSchema as AnySchema};
 ghost use Rattle.capnp_calls.specs.CallViews.{call_view};
-ghost use Rattle.capnp_calls.specs.Resolved.{calls_of, AreResolved, AreResolved-prop};
+ghost use Rattle.capnp_calls.specs.Resolved.{calls_of, KnowSplices, AreResolved, AreResolved-prop};
 ghost use Rattle.capnp_calls.specs.Roots.{IsRoot};
 ghost use Rattle.capnp_wire_canonical.specs.Writes.{filled};
 ghost use Rattle.capnp_calls_in_place.specs.PlainSets.{ArePlain, SetsWords};
-ghost use Rattle.capnp_calls_in_place.specs.CallSplices.{AreCallSplices};
 ghost use Rattle.capnp_calls_splice.specs.Splices.{StandsWithin};
 ghost use Rattle.capnp_relay_answers.specs.Found.{IsFound, SetsFront};
 
@@ -22,7 +21,6 @@ use capnp_calls::resolved::{Resolved, resolve};
 use capnp_calls_in_place::sets::write_sets;
 use capnp_calls_in_place::splices::write_splices;
 use capnp_calls_splice::plain::PlainSet;
-use capnp_calls_splice::splice::Splice;
 use capnp_units::errors::Result;
 use capnp_units::sizes::Word;
 use capnp_values_queries::structs::StructSchema;
@@ -44,14 +42,14 @@ fn put_sets(words: &mut [Word], count: usize, sets: &[PlainSet]) -> bool
 /// As `write_splices`, which is kept apart from the way of calls that set plain fields of the root
 /// alone.
 #[inline(never)]
-fn put_splices(words: &mut Vec<Word>, count: usize, splices: &[Splice]) -> Result<Option<usize>>
+fn put_splices(words: &mut Vec<Word>, count: usize, calls: &[Resolved<'_>]) -> Result<Option<usize>>
     requires inside { count ≤ length words.old.items }
-    ensures front { (schema : AnySchema) (calls : List ModelCall)
-        → AreCallSplices schema calls splices.now → IfOk result (λ found. IfSome found
-        (SetsFront schema calls (filled count words.old.items) words.new.items)) }
+    ensures front { (schema : AnySchema) → KnowSplices schema calls.now
+        → IfOk result (λ found. IfSome found (SetsFront schema (calls_of calls.now)
+        (filled count words.old.items) words.new.items)) }
     ensures kind { IfErr result (λ e. e.kind ≡ ErrorKind.OutOfMemory) }
 {
-    write_splices(words, count, splices)
+    write_splices(words, count, calls)
 }
 
 /// Calls at the roots of messages, under the schema of a root. Where each sets a plain field, a
@@ -62,7 +60,7 @@ pub struct RootCalls<'a> {
     pub(crate) calls: Vec<Resolved<'a>>,
     found: Found,
     pub ghost root: { IsRoot schema },
-    ghost known: { ∥ IsFound schema (calls_of calls.items) found ∥₁ },
+    ghost known: { ∥ IsFound schema calls.items found ∥₁ },
     pub ghost resolved: { AreResolved schema calls.items } by { AreResolved-prop schema calls.items },
 }
 
@@ -77,8 +75,8 @@ impl<'a> RootCalls<'a> {
         ensures calls { IfOk result (λ c. root_calls c ≡ map call_view calls.now) }
         ensures kind { IfErr result (λ e. e.kind ≡ ErrorKind.OutOfMemory) }
     {
-        let found = find_puts(alloc, schema, calls)?;
         let calls = resolve(alloc, schema, calls)?;
+        let found = find_puts(alloc, &calls)?;
         Ok(RootCalls {
             schema,
             calls,
@@ -110,7 +108,7 @@ impl<'a> RootCalls<'a> {
                 }
                 Ok(None)
             }
-            Found::Spliced(splices) => put_splices(words, count, splices),
+            Found::Spliced => put_splices(words, count, &self.calls),
             Found::Unknown => Ok(None),
         }
     }

@@ -3,9 +3,10 @@
 use crate::case::{Case, Fault};
 use crate::given::{Given, hex_of};
 use capnp_calls::message::MessageValue;
+use capnp_calls::resolved::resolve;
 use capnp_calls::{Call, CallFault};
 use capnp_calls_in_place::sets::{plain_sets, write_sets};
-use capnp_calls_in_place::splices::{call_splices, write_splices};
+use capnp_calls_in_place::splices::{are_spliced, write_splices};
 use capnp_calls_versions::admitted::{Admission, admitted, admitted_with};
 use capnp_calls_versions::compatible::{compatible, compatible_with};
 use capnp_calls_versions::root::Root;
@@ -171,7 +172,8 @@ fn words_of(alloc: Global, bytes: &[u8]) -> Result<Vec<Word>, Fault> {
 pub fn words_after_sets(alloc: Global, case: &Case) -> Result<String, Fault> {
     let given = Given::new(alloc, case)?;
     let (settings, version) = (given.settings(alloc)?, given.older(alloc)?);
-    let Some(sets) = plain_sets(alloc, version.root(), &settings.calls)? else {
+    let calls = resolve(alloc, version.root(), &settings.calls)?;
+    let Some(sets) = plain_sets(alloc, &calls)? else {
         return text(alloc, "none");
     };
     let mut words = words_of(alloc, &case.bytes(alloc, "stdin")?)?;
@@ -185,12 +187,13 @@ pub fn words_after_sets(alloc: Global, case: &Case) -> Result<String, Fault> {
 pub fn words_after_splices(alloc: Global, case: &Case) -> Result<String, Fault> {
     let given = Given::new(alloc, case)?;
     let (settings, version) = (given.settings(alloc)?, given.older(alloc)?);
-    let Some(splices) = call_splices(alloc, version.root(), &settings.calls)? else {
+    let calls = resolve(alloc, version.root(), &settings.calls)?;
+    if !are_spliced(&calls) {
         return text(alloc, "none");
-    };
+    }
     let mut words = words_of(alloc, &case.bytes(alloc, "stdin")?)?;
     let count = words.len();
-    match write_splices(&mut words, count, &splices)? {
+    match write_splices(&mut words, count, &calls)? {
         Some(left) => {
             words.truncate(left);
             hex_of(alloc, words_as_bytes(&words))

@@ -7,6 +7,8 @@ use Rattle.capnp_values_queries.specs.Structs.{fields_of_struct}
 use Rattle.capnp_values_queries.specs.declared.structs.StructSchema.{StructSchema}
 use Rattle.capnp_calls.proofs.lemmas.NamedFields.{not_found}
 use Rattle.capnp_calls.proofs.PathEnds.{end_named}
+use Rattle.capnp_calls.proofs.FoundSlots.{small_default, alone_named}
+use Rattle.capnp_calls.specs.Hops.{IsAlone}
 use Rattle.capnp_calls.proofs.ends.field_named.Goals as goal
 
 pub returns-in-Ok-clause-end : goal.returns-in-Ok-clause-end
@@ -20,3 +22,14 @@ returns-in-Ok-clause-end c =
 
 pub returns-in-Err-clause-end : goal.returns-in-Err-clause-end
 returns-in-Err-clause-end c = ap end_at (sym (not_found c.args.name.now (fields_of_struct c.args.schema) c.in-Err.ensures.missing.1))
+
+pub returns-in-Ok-clause-small : goal.returns-in-Ok-clause-small
+returns-in-Ok-clause-small c = small_default c.in-Ok.field (body_of_place c.place.result) c.place.ensures.body
+
+pub returns-in-Ok-clause-alone : goal.returns-in-Ok-clause-alone
+returns-in-Ok-clause-alone c alone =
+    let f = c.in-Ok.field in
+    let n = c.args.name.now in
+    let found = c.in-Ok.ensures.found in
+    let Alone : StructSchema → Type 0 = λ g. Some f.index ≡ place_of_name n (fields_of_struct g) → IsAlone (target_of n (fields_of_struct g)) in
+    subst Alone found.parent (λ place. alone_named n (fields_of_struct f.parent) f.index place (c.is_alone.ensures alone)) found.index

@@ -7,8 +7,10 @@ use Rattle.capnp_model.specs.InKindCalls.{next_end, end_of}
 use Rattle.capnp_model.specs.Schemas.{Node}
 use Rattle.capnp_values_queries.specs.Structs.{schema_around}
 use Rattle.capnp_calls.specs.CallViews.{step_view}
+use Rattle.capnp_calls.specs.Hops.{StepsAlone}
 use Rattle.capnp_calls.specs.Ends.{end_view, IsEndOf, IsStepFound}
 use Rattle.capnp_calls.proofs.PathEnds.{none_left, one_step}
+use Rattle.capnp_calls.proofs.StraightPaths.{StraightTo, one_more, at_end}
 use Rattle.capnp_calls.proofs.lemmas.EachWay.{GrowsTo, way_grown, whole_way}
 use Rattle.capnp_calls.proofs.resolved.walk_path.Goals as goal
 
@@ -29,6 +31,12 @@ loop-step-preserved c =
     record {
       ends = ap (end_of s rest) goes ∙ sym (one_step s st rest old) ∙ ap (λ xs. end_of s (map step_view xs) old) (sym split) ∙ c.loop-step.invariant.ends;
       known = subst (λ ns. IsEndOf ns next.end) c.set.ensures c.next_end-next.ensures.of_set;
+      small = c.next_end-next.ensures.small;
+      straight = λ on.
+          let all = c.in_ok-is_straight.ensures.straight on in
+          let before : StraightTo c.args.root whole c.loop-step.hops.items old (st ∷ rest) = subst (λ xs. StraightTo c.args.root whole c.loop-step.hops.items old (map step_view xs)) split (c.loop-step.invariant.straight all.0) in
+          one_more c.args.root whole c.loop-step.hops.items c.note_hop.new.hops.items c.next_hop.result old (end_view next.end) st rest before (c.in_ok-is_straight.ensures.hops on) c.next_hop.ensures all.1
+          (subst (λ (ns : List Node). StepsAlone (schema_of ns) st old) c.set.ensures (c.next_end-next.ensures.alone all.2)) goes;
       grows = way_grown s whole rest st old (end_view next.end) next.found c.loop-step.fields.items c.note.new.fields.items c.in_ok-note.ensures.items goes finds c.next_end-next.ensures.begun begins;
     }
 
@@ -37,6 +45,15 @@ returns-clause-end c =
     let s = schema_around c.args.root in
     let none : drop c.loop-step.step-index c.args.path.now ≡ [] = drop_all c.loop-step.step-index c.args.path.now c.loop-step-test.false in
     sym (none_left s (end_view c.loop-step.end)) ∙ ap (λ xs. end_of s (map step_view xs) (end_view c.loop-step.end)) (sym none) ∙ c.loop-step.invariant.ends
+
+pub returns-clause-leads : goal.returns-clause-leads
+returns-clause-leads c = λ on.
+    let root = c.args.root in
+    let whole = map step_view c.args.path.now in
+    let hops = c.loop-step.hops.items in
+    let end = end_view c.loop-step.end in
+    let none : drop c.loop-step.step-index c.args.path.now ≡ [] = drop_all c.loop-step.step-index c.args.path.now c.loop-step-test.false in
+    at_end root whole hops end (subst (λ xs. StraightTo root whole hops end (map step_view xs)) none (c.loop-step.invariant.straight on))
 
 pub returns-clause-way : goal.returns-clause-way
 returns-clause-way c =

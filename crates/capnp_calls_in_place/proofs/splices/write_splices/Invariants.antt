@@ -1,14 +1,19 @@
--- The splices so far are put.
-use Rattle.std.proofs.Common.{◌≡◌, ◌<◌, ◌≤◌, take, length}
+-- What the calls so far put is put.
+use Rattle.std.proofs.Common.{◌≡◌, ◌<◌, ◌≤◌, true, take, length}
 use Rattle.capnp_model.specs.Trees.{Tree}
 use Rattle.capnp_model.specs.Fits.{Fits}
 use Rattle.capnp_model.specs.Encoding.{canonical_words}
 use Rattle.capnp_wire_canonical.specs.Writes.{filled}
 use Rattle.capnp_calls_splice.specs.Splices.{StandsWithin}
+use Rattle.capnp_calls_in_place.specs.CallSplices.{have_splices}
+use Rattle.capnp_calls_in_place.proofs.CallWays.{splices_of}
 use Rattle.capnp_calls_in_place.proofs.SpliceRuns.{HaveSpliced}
 use Rattle.capnp_calls_in_place.proofs.splices.write_splices.Given as goal
 
-abbrev pub invariant-loop-splice : goal.invariant-loop-splice
-invariant-loop-splice l = (l.left ≤ length l.words.items)
-    × (0 < l.splice-index → StandsWithin l.words.items l.left)
-    × ((t : Tree) → Fits t → filled l.fn.count l.fn.words.items ≡ canonical_words t → HaveSpliced (take l.splice-index l.splices) t (filled l.left l.words.items))
+abbrev pub invariant-loop-call : goal.invariant-loop-call
+invariant-loop-call l = record {
+  inside : l.left ≤ length l.words.items;
+  stands : 0 < l.call-index → StandsWithin l.words.items l.left;
+  have : have_splices (take l.call-index l.calls) ≡ true;
+  puts : (t : Tree) → Fits t → filled l.fn.count l.fn.words.items ≡ canonical_words t → HaveSpliced (splices_of (take l.call-index l.calls)) t (filled l.left l.words.items);
+}

@@ -1,8 +1,10 @@
-use Rattle.std.proofs.Common.{sym, subst}
+use Rattle.std.proofs.Common.{List, IfOk, IfSome, sym, subst}
 use Rattle.std.proofs.Math.Logic.{∥∥₁_elim}
 use Rattle.capnp_wire_canonical.specs.Writes.{filled}
 use Rattle.capnp_calls_in_place.specs.PlainSets.{ArePlain}
-use Rattle.capnp_calls_in_place.specs.CallSplices.{AreCallSplices}
+use Rattle.capnp_calls.specs.Resolved.{calls_of, KnowSplices}
+use Rattle.capnp_calls.specs.declared.resolved.Resolved.{Resolved}
+use Rattle.capnp_relay_answers.specs.Found.{SetsFront}
 use Rattle.capnp_relay_answers.specs.RootCalls.{root_schema, root_calls}
 use Rattle.capnp_relay_answers.proofs.Fronts.{SetsFront-prop, IfFront-prop, put_front}
 use Rattle.capnp_relay_answers.proofs.root_calls.RootCalls.put.Goals as goal
@@ -23,6 +25,10 @@ returns-in-Spliced-clause-front c =
     let schema = root_schema c.args.self.now in
     let calls = root_calls c.args.self.now in
     let items = c.args.words.now.items in
-    ∥∥₁_elim c.args.self.now.known (IfFront-prop schema calls (filled c.args.count items) c.put_splices.new.words.items c.put_splices.result) (λ known.
+    let old = filled c.args.count items in
+    let new = c.put_splices.new.words.items in
+    let same = c.deref-in-Spliced.ensures.value in
+    ∥∥₁_elim c.args.self.now.known (IfFront-prop schema calls old new c.put_splices.result) (λ known.
     let here = rw c.in-Spliced.is at known in
-    c.put_splices.ensures.front schema calls (subst (AreCallSplices schema calls) (sym c.deref-in-Spliced.ensures.value) here))
+    subst (λ (rs : List Resolved). IfOk c.put_splices.result (λ found. IfSome found (SetsFront schema (calls_of rs) old new))) same
+    (c.put_splices.ensures.front schema (subst (KnowSplices schema) (sym same) here)))

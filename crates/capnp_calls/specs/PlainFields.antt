@@ -1,8 +1,7 @@
--- Plain fields that calls set. (Encoding, "Structs")
-use Rattle.std.specs.Prelude.{◌≡◌, ℕ, ◌+◌, ◌*◌, bit_xor, Option, Some, None}
+-- Plain slots that calls set by numbers. (Encoding, "Structs")
+use Rattle.std.specs.Prelude.{◌≡◌, ℕ, ◌+◌, ◌*◌, bit_xor}
 use Rattle.capnp_model.specs.Schemas.{PlainType, width, Body, void_slot, plain_slot, pointer_slot, group_slot}
 use Rattle.capnp_model.specs.Calls.{CallValue, bits_of, plain_content}
-use Rattle.capnp_values_queries.specs.Fields.{Entry}
 use Rattle.capnp_calls_splice.specs.declared.plain.PlainSet.{PlainSet}
 
 -- A slot that begins at a bit of the data is set to a value by putting the number, with the slot's default.
@@ -17,8 +16,3 @@ PutsInto (void_slot j) v p = ⊥
 PutsInto (plain_slot q at d) v p = SetsPlainSlot q at d v p
 PutsInto (pointer_slot i ty d) v p = ⊥
 PutsInto (group_slot g) v p = ⊥
-
--- A field, which is no member of a union, is set to a value by putting the number.
-abbrev pub SetsEntry : Option Entry → CallValue → PlainSet → Type 0
-SetsEntry None v p = ⊥
-SetsEntry (Some e) v p = (e.member ≡ None) × PutsInto e.body v p
