@@ -18,7 +18,6 @@ use Rattle.capnp_wire_objects.specs.Places.{place_view}
 use Rattle.capnp_wire.specs.Views.{StructView}
 use Rattle.capnp_copy_arenas.specs.declared.fields.StructPlace.{StructPlace}
 use Rattle.capnp_copy_arenas.specs.declared.init.ListPlace.{ListPlace}
-use Rattle.capnp_copy_arenas.proofs.lemmas.RoomLaws.{sizes_grow}
 use Rattle.capnp_copy_values.specs.Copies.{GrowsByZeros, BecomesCopy, StructSource, CopyGives}
 use Rattle.capnp_copy_values.specs.Contents.{TakesContent, TakesPart as TakesPartOf, CopiesContent}
 use Rattle.capnp_layout_builders.specs.Making.{ArenaState}
@@ -27,7 +26,7 @@ use Rattle.capnp_values.specs.Sources.{WithoutLimit}
 use Rattle.capnp_values.specs.declared.dynamic_value.Reader.{Reader}
 use Rattle.capnp_schema_structs.specs.Sources.{SourceView, SetsSource, PutsSource}
 use Rattle.capnp_schema_structs.specs.Values.{is_capability, struct_given, IsStructType}
-use Rattle.capnp_schema_structs.proofs.lemmas.Sources.{walk_map, walk_to, source_put, source_refused}
+use Rattle.capnp_schema_structs.proofs.lemmas.Sources.{walk_map, walk_to, same_words, source_put, source_refused}
 use Rattle.capnp_schema_lists.specs.Elements.{Holds, HoldsStructs, flat_element, element_edit}
 use Rattle.capnp_schema_lists.specs.Lists.{IsListThere, HasPointer}
 use Rattle.capnp_schema_lists.specs.Parts.{cell_in}
@@ -81,7 +80,7 @@ module _ (s u : Segments) (o : ListPlace) (i : ℕ) (p : StructPlace) (l : i < o
       at.pointers (gives levels from x old r new h)
 
   pub content_taken : (v : StructView) (r : Result ⊤ Error) → WithoutLimit (TakesOver v s u p) r → WithoutLimit (TakesStruct v s u o i) r
-  content_taken v r h = (h.0, h.1, h.2, walk_map v.levels v.basis.paid _ _ h.0 r h.1 (λ w. (p, at, w)) (λ n a b w. (w.0, w.1, struct_taken n v.basis.segments w.0 a r b w.2)) h.3)
+  content_taken v r h = (h.0, h.1, h.2, walk_map v.levels v.basis.paid _ _ h.0 r h.1 (λ w. w) (λ n a b w. (w.0, w.1, struct_taken n v.basis.segments w.0 a r b w.2)) h.3)
 
   -- ---- what is there later too
 
@@ -90,7 +89,7 @@ module _ (s u : Segments) (o : ListPlace) (i : ℕ) (p : StructPlace) (l : i < o
   struct_grows levels from x old (Err e) new h = h.left.grows
 
   pub content_grows : (v : StructView) (r : Result ⊤ Error) → WithoutLimit (TakesOver v s u p) r → Grows s u
-  content_grows v r h = walk_to v.levels v.basis.paid _ h.0 r h.1 (λ w. sizes_grow s u w.sizes) (λ k a b w. struct_grows k v.basis.segments w.0 a r b w.2) h.3
+  content_grows v r h = walk_to v.levels v.basis.paid _ h.0 r h.1 (λ w. same_words s u w.1) (λ k a b w. struct_grows k v.basis.segments w.0 a r b w.2) h.3
 
 -- ---- the elements' type
 

@@ -22,8 +22,7 @@ use Rattle.capnp_copy_arenas.specs.declared.init.ListPlace.{ListPlace}
 use Rattle.capnp_copy_values.specs.Copies.{StructSource, CopyGives, GrowsByZeros}
 use Rattle.capnp_copy_values.specs.Contents.{fitting}
 use Rattle.capnp_layout_builders.specs.Making.{ArenaState}
-use Rattle.capnp_copy_arenas.specs.declared.fields.StructPlace.{StructPlace}
-use Rattle.capnp_layout_builders.specs.Copied.{Walk, Charged, TakesDataAlone, IsSourceOf}
+use Rattle.capnp_layout_builders.specs.Copied.{Walk, Charged, WithoutLevels, IsSourceOf}
 use Rattle.capnp_values.specs.Sources.{WithoutLimit}
 use Rattle.capnp_values.specs.declared.dynamic_value.Reader.{Reader}
 use Rattle.capnp_values.specs.declared.dynamic_value.Reader.TheVariants as value
@@ -33,7 +32,6 @@ use Rattle.capnp_schema_structs.specs.Values.{is_capability, struct_given}
 use Rattle.capnp_schema_lists.specs.Lists.{IsListOf}
 use Rattle.capnp_schema_lists.specs.Elements.{flat_element}
 use Rattle.capnp_schema_lists.specs.Puts.{PutsElementContent}
-use Rattle.capnp_schema_lists.specs.Places.{IsStructAt}
 
 -- What is put: content that is made, a copy behind the element's pointer, or the content of a struct that the element takes over.
 pub data GivenElement : Type 0 where
@@ -107,15 +105,11 @@ TakesFields levels from x s u o i old result new =
     let there = each (tree_at levels from) (place_view x.first) k in
     CopyGives from there (from_each (visits levels from) (place_view x.first) k) (λ ts. ElementWithin levels s u o (fitted_edit x.section ts) i) (ElementTakesPart levels from x s u o i) s u old result new
 
--- Nothing has levels: what fits of the data is taken over where the element stands, and no more.
-abbrev pub TakesElementData : StructView → Segments → Segments → ListPlace → ℕ → Walk
-TakesElementData v s u o i old result new = (p : StructPlace) × IsStructAt o i p × TakesDataAlone v s u p old result new
-
 -- The content of a struct that is read is taken over, as far as it fits. It is refused as
 -- `TakesOver` of the builders is.
 abbrev pub TakesStruct : StructView → Segments → Segments → ListPlace → ℕ → Walk
 TakesStruct v s u o i old result new =
-    MatchOption v.levels (TakesElementData v s u o i old result new) (λ n.
+    MatchOption v.levels (WithoutLevels s u old result new) (λ n.
     Charged v.basis.paid (λ l r m. (x : StructSource) × IsSourceOf v x × TakesFields n v.basis.segments x s u o i l r m) old result new)
 
 -- What is returned, and what the element becomes, by what is put; copies are made under no limit of
