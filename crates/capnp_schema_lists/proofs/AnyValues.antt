@@ -101,8 +101,11 @@ module _ (s u : Segments) (o : ListPlace) (i : ℕ) (p : StructPlace) (l : i < o
   struct_grows levels from x old (Ok y) new h = h.grows
   struct_grows levels from x old (Err e) new h = h.left.grows
 
+  data_grows : (v : StructView) (old : ReadLimiter) (r : Result ⊤ Error) (new : ReadLimiter) → TakesDataAlone v s u p old r new → Grows s u
+  data_grows v old r new h = sizes_grow s u h.sizes
+
   pub content_grows : (v : StructView) (r : Result ⊤ Error) → WithoutLimit (TakesOver v s u p) r → Grows s u
-  content_grows v r h = walk_to v.levels v.basis.paid _ h.0 r h.1 (λ w. sizes_grow s u w.sizes) (λ k a b w. struct_grows k v.basis.segments w.0 a r b w.2) h.3
+  content_grows v r h = walk_to v.levels v.basis.paid _ h.0 r h.1 (data_grows v h.0 r h.1) (λ k a b w. struct_grows k v.basis.segments w.0 a r b w.2) h.3
 
 -- ---- the elements' type
 
