@@ -67,7 +67,8 @@ pub fn get_list<A: ReaderArena>(arena: &A, slot: Place, expected: ElementSize) -
     ensures structs { IfOk result (λ o.
         (word_at (words_in (A.segments arena.now)) (place_view slot) ≡ Some 0)
         ⊎ (o.size ≡ InlineComposite → HasStructs (words_in (A.segments arena.now)) o)) }
-    ensures inside { IfOk result (IsNullOrWhole (words_in (A.segments arena.now)) (place_view slot)) }
+    ensures inside { IfOk result (IsNullOrWhole (words_in (A.segments arena.now))
+        (place_view slot)) }
 {
     let found = found_at(arena, slot)?;
     let list = match whole(arena, found.object)? {

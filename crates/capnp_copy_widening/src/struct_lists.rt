@@ -29,7 +29,8 @@ use capnp_wire_objects::place::{Place, word_at};
 /// The size of an element as a struct: what a plain one holds is one data word, and a pointer is
 /// one pointer.
 fn element_size(list: ListPlace) -> StructSize
-    ensures { (result.data_words ≡ least_data_words list) × (result.pointers ≡ least_pointers list) }
+    ensures { (result.data_words ≡ least_data_words list) ×
+        (result.pointers ≡ least_pointers list) }
 {
     let (data_words, pointers) = match list.size {
         ElementSize::Void => (0, 0),
@@ -87,11 +88,13 @@ fn widen_list<A: BuilderArena>(
     size: StructSize,
 ) -> Result<ListPlace>
     requires found { list_there (words_in (A.segments arena.old)) slot ≡ Ok old }
-    requires leads { LeadsTo (words_in (A.segments arena.old)) (place_view slot) (object_of_list old) }
+    requires leads { LeadsTo (words_in (A.segments arena.old)) (place_view slot)
+        (object_of_list old) }
     requires there { is_some (words_at (words_in (A.segments arena.old)) (place_view slot) 1)
         ≡ true }
     requires near { slot.position < 2 ^ 61 }
-    requires wider { (least_data_words old ≤ size.data_words) × (least_pointers old ≤ size.pointers) }
+    requires wider { (least_data_words old ≤ size.data_words) ×
+        (least_pointers old ≤ size.pointers) }
     requires short { (size.data_words + size.pointers ≡ 0) → (old.count < 2 ^ 29) }
     ensures { let at = state_in A.segments A.room A.books in
         WidensToList (at arena.old) (at arena.new) slot old size result

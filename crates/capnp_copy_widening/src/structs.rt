@@ -36,7 +36,8 @@ fn widen_struct<A: BuilderArena>(
     old: StructPlace,
     size: StructSize,
 ) -> Result<StructPlace>
-    requires found { LeadsTo (words_in (A.segments arena.old)) (place_view slot) (object_of_struct old) }
+    requires found { LeadsTo (words_in (A.segments arena.old)) (place_view slot)
+        (object_of_struct old) }
     requires there { is_some (words_at (words_in (A.segments arena.old)) (place_view slot) 1)
         ≡ true }
     requires near { slot.position < 2 ^ 61 }

@@ -62,7 +62,8 @@ fn read_canonical<M: ReaderArena>(
     bounds: Bounds,
     words: &mut Vec<Word>,
 ) -> Result<Option<usize>>
-    ensures { IfOk result (ReadsWithinBounds bounds (words_in (M.segments message.now)) words.new.items) }
+    ensures { IfOk result (ReadsWithinBounds bounds (words_in (M.segments message.now))
+        words.new.items) }
 {
     values_that_are_read();
     values_on_walks();
@@ -102,7 +103,8 @@ fn write_value<M: ReaderArena>(
     bounds: Bounds,
     words: &mut Vec<Word>,
 ) -> Result<Option<usize>>
-    ensures { IfOk result (ReadsWithinBounds bounds (words_in (M.segments message.now)) words.new.items) }
+    ensures { IfOk result (ReadsWithinBounds bounds (words_in (M.segments message.now))
+        words.new.items) }
 {
     make_room(words, message.size_in_words())?;
     match read_canonical(message, bounds, words) {
@@ -180,7 +182,8 @@ pub(crate) fn read_value<M: ReaderArena>(
     bounds: Bounds,
     words: &mut Vec<Word>,
 ) -> Result<Option<usize>>
-    ensures { IfOk result (ReadsWithinBounds bounds (words_in (M.segments message.now)) words.new.items) }
+    ensures { IfOk result (ReadsWithinBounds bounds (words_in (M.segments message.now))
+        words.new.items) }
 {
     match only_segment(message) {
         Some(bytes) => read_segment(bytes, bounds, words),

@@ -60,5 +60,5 @@ composite_element l i seven near inside = record {
   near = subst (λ (z : ℕ). (after (place_view l.start) (if z == 7 then 1 else 0)).position + l.count * (element_bits z l.data_words / 64 + element_pointers z l.pointers) < 2 ^ 61) (sym seven)
       (let ends = subst (λ (z : ℕ). (after (place_view l.start) (if z == 7 then 1 else 0)).position + step_words z l.data_words l.pointers * l.count < 2 ^ 61) seven near in
       let whole : 64 * l.data_words / 64 ≡ l.data_words = omega arith in
-  let words : l.count * (64 * l.data_words / 64 + l.pointers) ≡ l.count * (l.data_words + l.pointers) = ap (λ (d : ℕ). l.count * (d + l.pointers)) whole in omega (arith, words, ends));
+      let words : l.count * (64 * l.data_words / 64 + l.pointers) ≡ l.count * (l.data_words + l.pointers) = ap (λ (d : ℕ). l.count * (d + l.pointers)) whole in omega (arith, words, ends));
 }
