@@ -38,7 +38,7 @@ use Rattle.capnp_values.proofs.lemmas.RecordReadings.{pointer_live, pointer_ther
 use Rattle.capnp_schema_structs.specs.GroupFaults.{StandsAt, is_member, IsFaultless, IsFieldFaultless, AreFaultless, IsGroupFaultless}
 use Rattle.capnp_schema_structs.specs.GroupRefusals.{type_tested}
 use Rattle.capnp_schema_structs.specs.GroupWrites.{GroupSource}
-use Rattle.capnp_schema_structs.specs.GroupSets.{GoesTo, IsSource, entry_turn}
+use Rattle.capnp_schema_structs.specs.GroupSets.{ReachesTo, IsSource, entry_turn}
 use Rattle.capnp_schema_structs.proofs.lemmas.GroupFields.{body_is}
 
 -- of an error
@@ -63,13 +63,13 @@ behind_alike : (n m : ℕ) (s : Segments) (o : Option Place) (a b : Tree) → re
 behind_alike n m s None a b e f = some_is a b (sym e ∙ f)
 behind_alike n m s (Some p) a b e f = read_alike n m s p a b e f
 
-goes_to : (e : Extent) (v : StructView) → IsExtent e v → GoesTo e v
-goes_to (just_bits size) v h = h
-goes_to whole_words v h = (h.0, h.1)
+reaches_to : (e : Extent) (v : StructView) → IsExtent e v → ReachesTo e v
+reaches_to (just_bits size) v h = h
+reaches_to whole_words v h = (h.0, h.1)
 
 pub source_of : (v : StructView) (from : GroupSource) → StandsAt v from → IsSource v from
 source_of v from h = record {
-  extent = goes_to from.extent v h.1.extent;
+  extent = reaches_to from.extent v h.1.extent;
   section = h.1.same;
   children = λ levels i t e. behind_alike h.0 levels v.basis.segments (pointer_field v i).place (child from.kids i) t (h.1.children i).tree e;
 }

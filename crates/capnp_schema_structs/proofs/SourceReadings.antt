@@ -30,7 +30,7 @@ use Rattle.capnp_values_queries.specs.Handles.{entry_of_field, IsFieldRecord}
 use Rattle.capnp_values_queries.specs.declared.fields.Field.{Field}
 use Rattle.capnp_schema_structs.proofs.Marks.{member_none, member_there}
 use Rattle.capnp_schema_structs.specs.GroupWrites.{GroupSource}
-use Rattle.capnp_schema_structs.specs.GroupSets.{GoesTo, IsSource, PutsAny, entry_turn}
+use Rattle.capnp_schema_structs.specs.GroupSets.{ReachesTo, IsSource, PutsAny, entry_turn}
 use Rattle.capnp_schema_structs.specs.Sources.{StandsIfRefused}
 
 -- ---- bits
@@ -52,7 +52,7 @@ module _ (section words at w : ℕ) (small : section < 2 ^ (64 * words)) (lies :
           sym (ap (λ z. z % 2 ^ w) none ∙ mod-eq_of_lt (pow_pos w))
 
 module _ (v : StructView) (from : GroupSource) (is : IsSource v from) (bytes : List ℕ) (section : number_of 8 bytes ≡ v.section) (bits : 8 * length bytes ≡ v.bits) where
-  by_extent : (e : Extent) → GoesTo e v → (at w : ℕ) → ((d : ℕ) → 64 * d < at + w → 64 * d ≤ at) → field_bits (just_bits v.bits) v.section at w ≡ field_bits e v.section at w
+  by_extent : (e : Extent) → ReachesTo e v → (at w : ℕ) → ((d : ℕ) → 64 * d < at + w → 64 * d ≤ at) → field_bits (just_bits v.bits) v.section at w ≡ field_bits e v.section at w
   by_extent (just_bits size) goes at w lies = ap (λ k. field_bits (just_bits k) v.section at w) goes
   by_extent whole_words goes at w lies =
       let small : v.section < 2 ^ (64 * goes.0) = subst (λ k. v.section < 2 ^ k) goes.1 (small_section v.section v.bits bytes section bits) in

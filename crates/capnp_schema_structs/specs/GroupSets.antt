@@ -33,14 +33,14 @@ use Rattle.capnp_schema_structs.specs.GroupRefusals.{NotPut, FieldRefused}
 use Rattle.capnp_schema_structs.specs.Sources.{StandsIfRefused}
 
 -- The data section of a struct that is read goes so far.
-abbrev pub GoesTo : Extent → StructView → Type 0
-GoesTo (just_bits size) v = v.bits ≡ size
-GoesTo whole_words v = (words : ℕ) × (v.bits ≡ 64 * words)
+abbrev pub ReachesTo : Extent → StructView → Type 0
+ReachesTo (just_bits size) v = v.bits ≡ size
+ReachesTo whole_words v = (words : ℕ) × (v.bits ≡ 64 * words)
 
 -- A struct that is read has these data, which go so far, and these children, where they can be read.
 -- Each has just its bits, so that there is one for every struct.
 pub record IsSource (v : StructView) (from : GroupSource) : Type 0 where
-  pub extent : GoesTo from.extent v
+  pub extent : ReachesTo from.extent v
   pub section : v.section ≡ from.section
   pub children : (levels i : ℕ) (t : Tree) → reads_behind (tree_at levels v.basis.segments) (pointer_field v i).place ≡ Some t → child from.kids i ≡ t
 
