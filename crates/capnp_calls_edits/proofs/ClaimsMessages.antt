@@ -37,6 +37,7 @@ use Rattle.capnp_values_queries.specs.Structs.{schema_around}
 use Rattle.capnp_values_queries.specs.Handles.{entry_of_field}
 use Rattle.capnp_values_queries.specs.declared.fields.Field.{Field}
 use Rattle.capnp_schema_structs.specs.GroupRefusals.{CopyRefused}
+use Rattle.capnp_schema_structs.specs.GroupWrites.{in_words}
 use Rattle.capnp_schema_structs.specs.GroupFaults.{StandsAt, is_member, IsFaultless, IsFieldFaultless}
 use Rattle.capnp_calls.specs.Sizes.{IsDone}
 use Rattle.capnp_calls_edits.specs.Written.{IsDoneAt}
@@ -93,7 +94,7 @@ pub record RootStands (v : StructView) (t : Tree) : Type 0 where
   pub from : Cell
   pub words : ℕ
   pub root_is : message_root t ≡ structure words from.section from.kids
-  pub stands : StandsAt v from
+  pub stands : StandsAt v (in_words from)
 
 stands_of : (v : StructView) (l : ℕ) → v.levels ≡ Some l → 63 ≤ l → (t : Tree) → Fits t → ShowsStruct (tree_at 63 v.basis.segments) v t → RootStands v t
 stands_of v l levels enough null fits h = record {
@@ -199,10 +200,10 @@ module _ (f : Field) (g : Shape) (body : option_map (λ e. e.body) (entry_of_fie
   pub field_struct : IsDoneAt f [] (set_to (message t)) (entry_of_field f) c → IsOfStruct t
   field_struct h = let x = done_at h in group_struct s g t x.3 x.4
 
-  pub field_faultless : (words : ℕ) (from : Cell) → message_root t ≡ structure words from.section from.kids → IsDoneAt f [] (set_to (message t)) (entry_of_field f) c → IsFieldFaultless f from
+  pub field_faultless : (words : ℕ) (from : Cell) → message_root t ≡ structure words from.section from.kids → IsDoneAt f [] (set_to (message t)) (entry_of_field f) c → IsFieldFaultless f (in_words from)
   unfolding body_of group_fault
   field_faultless words from is h =
       let x = done_at h in
       let none = group_faultless s g t words from is x.3 x.4 in
-      let here : IsFaultless s (Some x.0) from = subst (λ b. body_fault (is_member x.0.member) b (body_of b whole_words from.section (read_child s from.kids)) ≡ None) (sym x.2) none in
-      subst (λ o. IsFaultless s o from) (sym x.1) here
+      let here : IsFaultless s (Some x.0) (in_words from) = subst (λ b. body_fault (is_member x.0.member) b (body_of b whole_words from.section (read_child s from.kids)) ≡ None) (sym x.2) none in
+      subst (λ o. IsFaultless s o (in_words from)) (sym x.1) here

@@ -23,6 +23,7 @@ use Rattle.capnp_values_queries.specs.Structs.{schema_around, shape_of_struct}
 use Rattle.capnp_values_queries.specs.Handles.{entry_of_field}
 use Rattle.capnp_values_queries.specs.declared.fields.Field.{Field}
 use Rattle.capnp_copy_arenas.specs.declared.fields.StructPlace.{StructPlace}
+use Rattle.capnp_schema_structs.specs.GroupWrites.{in_words}
 use Rattle.capnp_schema_structs.specs.GroupSets.{IsSource, WritesAsFar, entry_writes, copied_field}
 use Rattle.capnp_schema_structs.proofs.lemmas.FieldWrites.{group_writes_are}
 use Rattle.capnp_model.proofs.lemmas.Tests.{same_some}
@@ -43,7 +44,7 @@ pub record RootCell (v : StructView) (t : Tree) : Type 0 where
   pub from : Cell
   pub words : ℕ
   pub root : message_root t ≡ structure words from.section from.kids
-  pub source : IsSource v from
+  pub source : IsSource v (in_words from)
 
 -- what a pointer is read as within some levels, it is within others
 read_alike : (n m : ℕ) (s : Segments) (p : Place) (a b : Tree) → tree_at n s p ≡ Some a → tree_at m s p ≡ Some b → a ≡ b
@@ -57,9 +58,9 @@ children : (v : StructView) (kids : Trees) → ShowsChildren (tree_at 63 v.basis
 children v kids h levels i t e = behind_alike 63 levels v.basis.segments (pointer_field v i).place (child kids i) t (h i) e
 
 shown : (v : StructView) (t : Tree) → ShowsStruct (tree_at 63 v.basis.segments) v t → RootCell v t
-shown v null h = record { from = cell 0 none; words = 0; root = refl; source = record { section = h.0; words = 0; bits = h.1; children = children v none h.2 } }
+shown v null h = record { from = cell 0 none; words = 0; root = refl; source = record { extent = (0, h.1); section = h.0; children = children v none h.2 } }
 shown v (capability i) h = absurd h
-shown v (structure w section kids) h = record { from = cell section kids; words = w; root = refl; source = record { section = h.0; words = w; bits = h.1; children = children v kids h.2 } }
+shown v (structure w section kids) h = record { from = cell section kids; words = w; root = refl; source = record { extent = (w, h.1); section = h.0; children = children v kids h.2 } }
 shown v (plain_list size n x) h = absurd h
 shown v (pointer_list ts) h = absurd h
 shown v (struct_list w p es) h = absurd h
@@ -86,16 +87,16 @@ module _ (law : SetsByWrites) (from : Cell) (t : Tree) (words : ℕ) (is : messa
   unfolding edit_field
   rooted s union member g c = ap (λ x. from_message s g x (mark union member c)) is
 
-  by_writes : (s : Schema) (union : Option ℕ) (g : Shape) (e : Entry) → e.body ≡ group_slot g → (c : Cell) → after_writes (entry_writes s union (Some e) from) c ≡ edit_field s [] (set_to (message t)) union e.member e.body c
+  by_writes : (s : Schema) (union : Option ℕ) (g : Shape) (e : Entry) → e.body ≡ group_slot g → (c : Cell) → after_writes (entry_writes s union (Some e) (in_words from)) c ≡ edit_field s [] (set_to (message t)) union e.member e.body c
   by_writes s union g e body c =
       ap (λ (fs : List Edit). after_writes fs c) (group_writes_are s union e g body from) ∙ sym (rooted s union e.member g c ∙ law s union e.member g words from c)
       ∙ ap (λ (b : Body). edit_field s [] (set_to (message t)) union e.member b c) (sym body)
 
-  entry_set : (f : Field) (g : Shape) (o : Option Entry) → option_map (λ e. e.body) o ≡ Some (group_slot g) → (c : Cell) → after_writes (entry_writes (schema_around f.parent) (union_in (shape_of_struct f.parent)) o from) c ≡ edit_at f [] (set_to (message t)) o c
+  entry_set : (f : Field) (g : Shape) (o : Option Entry) → option_map (λ e. e.body) o ≡ Some (group_slot g) → (c : Cell) → after_writes (entry_writes (schema_around f.parent) (union_in (shape_of_struct f.parent)) o (in_words from)) c ≡ edit_at f [] (set_to (message t)) o c
   entry_set f g None body c = absurd (cc body)
   entry_set f g (Some e) body c = by_writes (schema_around f.parent) (union_in (shape_of_struct f.parent)) g e (same_some body) c
 
-  pub group_set : (f : Field) (g : Shape) → option_map (λ e. e.body) (entry_of_field f) ≡ Some (group_slot g) → (s u : Segments) (p : StructPlace) (r : Result ⊤ Error) → WritesAsFar s u p (copied_field f from) r → OnOk r (WritesField s u p f [] (set_to (message t)))
+  pub group_set : (f : Field) (g : Shape) → option_map (λ e. e.body) (entry_of_field f) ≡ Some (group_slot g) → (s u : Segments) (p : StructPlace) (r : Result ⊤ Error) → WritesAsFar s u p (copied_field f (in_words from)) r → OnOk r (WritesField s u p f [] (set_to (message t)))
   group_set f g body s u p (Ok x) h =
-      edits_alike s u p (λ c. Unit {0}) (IsDoneAt f [] (set_to (message t)) (entry_of_field f)) (after_writes (copied_field f from)) (edit_at f [] (set_to (message t)) (entry_of_field f)) (λ c all. (tt, entry_set f g (entry_of_field f) body c)) (λ n section kids o any. h n section kids o)
+      edits_alike s u p (λ c. Unit {0}) (IsDoneAt f [] (set_to (message t)) (entry_of_field f)) (after_writes (copied_field f (in_words from))) (edit_at f [] (set_to (message t)) (entry_of_field f)) (λ c all. (tt, entry_set f g (entry_of_field f) body c)) (λ n section kids o any. h n section kids o)
   group_set f g body s u p (Err e) h = tt

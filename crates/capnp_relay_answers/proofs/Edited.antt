@@ -22,8 +22,8 @@ use Rattle.capnp_wire_canonical.specs.Writes.{filled}
 use Rattle.capnp_model_writes.specs.Footprints.{Owns}
 use Rattle.capnp_model_writes.specs.Changes.{Replaces}
 use Rattle.capnp_calls_run.specs.Runs.{RunsRoot}
-use Rattle.capnp_relay_loop.specs.MessageAnswers.{answer_view, StandsInBuffer}
-use Rattle.capnp_relay_answers.specs.Answers.{AnswersRoot, MeansTree}
+use Rattle.capnp_relay_loop.specs.MessageAnswers.{answer_view}
+use Rattle.capnp_relay_answers.specs.Answers.{AnswersRoot, MeansTree, StandsAlone}
 use Rattle.capnp_relay_answers.proofs.Whole.{length_filled}
 use Rattle.capnp_relay_loop.specs.declared.answer.MessageAnswer.{MessageAnswer}
 use Rattle.capnp_relay_loop.specs.declared.answer.MessageAnswer.TheVariants as answers
@@ -50,7 +50,7 @@ answers_deep schema calls levels t e is far = rw (sym is, far) refl
 
 module _ (laws : EditLaws) (s u : Segments) (schema : StructSchema) (calls : List Call) (levels : ℕ) (told : List Reply) (runs : RunsRoot s u schema calls (map reply_view told)) where
   pub writes_root : (a : MessageAnswer) (count : ℕ) (old new : List (List ℕ)) (l m : ReadLimiter) → Written (tree_at levels u root) has_capability (λ t words. canonical_words (trim t)) (copy_visits levels u root) 1 1 old l count new m
-      → answer_view new a ≡ written (filled count new ∷ []) (map reply_view told) → (count ≤ length new → count < 2 ^ 29 → StandsInBuffer new a) → AnswersRoot schema calls levels s new a
+      → answer_view new a ≡ written (filled count new ∷ []) (map reply_view told) → (count ≤ length new → count < 2 ^ 29 → StandsAlone new a) → AnswersRoot schema calls levels s new a
   writes_root a count old new l m w view stands n t most owns =
       let run = runs n t most owns in
       let now = laws.after (suc n) s u root t run.0 owns run.1 in

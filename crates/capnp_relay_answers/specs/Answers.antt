@@ -17,7 +17,7 @@ use Rattle.capnp_wire_canonical.specs.Writes.{filled}
 use Rattle.capnp_model_writes.specs.Footprints.{Owns}
 use Rattle.capnp_calls_run.specs.declared.fault.RunFault.{RunFault}
 use Rattle.capnp_calls_run.specs.declared.fault.RunFault.TheVariants as faults
-use Rattle.capnp_relay_loop.specs.MessageAnswers.{answer_view, StandsInBuffer}
+use Rattle.capnp_relay_loop.specs.MessageAnswers.{answer_view}
 use Rattle.capnp_relay_answers.specs.Bounds.{limits_view}
 use Rattle.capnp_relay_answers.specs.declared.bounds.Bounds.{Bounds}
 use Rattle.capnp_relay_answers.specs.Reading.{ReadsValue, can_be_opened}
@@ -32,6 +32,13 @@ abbrev pub want_of : RunFault → Want
 want_of faults.Size = wants.Size
 want_of (faults.Refused e) = wants.Memory
 
+-- What is written is one segment at the front of a buffer, and has fewer words than 2^29.
+abbrev pub StandsAlone : List (List ℕ) → MessageAnswer → Type 0
+StandsAlone into (answers.Written count replies) = (count ≤ length into) × (count < 2 ^ 29)
+StandsAlone into (answers.Done count calls) = (count ≤ length into) × (count < 2 ^ 29)
+StandsAlone into (answers.Several segments replies) = ⊥
+StandsAlone into (answers.Refused reason) = ⊤
+
 -- What is written, if anything, means this tree within n levels.
 abbrev pub MeansTree : ℕ → Tree → Answer → Type 0
 MeansTree nesting t (written segments replies) = tree_at nesting segments root ≡ Some t
@@ -41,7 +48,7 @@ MeansTree nesting t _ = ⊤
 pub record AnswersStruct (schema : StructSchema) (calls : List Call) (nesting : ℕ) (into : List (List ℕ)) (t : Tree) (a : MessageAnswer) : Type 0 where
   pub same : answer_view into a ≡ answer_struct (schema_around schema) as_it_is (id_of schema) calls (pos nesting) t
   pub means : MeansTree nesting (trim (edits (schema_around schema) (id_of schema) calls t)) (answer_view into a)
-  pub stands : StandsInBuffer into a
+  pub stands : StandsAlone into a
 
 -- This is the answer of calls that start from whatever value is owned at a message's root, a struct
 -- or null, as its schema opens it.
@@ -58,7 +65,7 @@ MeansAfter schema calls nesting value a =
 pub record IsAnswered (schema : StructSchema) (calls : List Call) (bounds : Bounds) (s : Segments) (into : List (List ℕ)) (a : MessageAnswer) : Type 0 where
   pub same : IsAnswer (schema_around schema) as_it_is (id_of schema) calls (limits_view bounds) s (answer_view into a)
   pub means : MeansAfter schema calls bounds.nesting (value_within (limits_view bounds) s) (answer_view into a)
-  pub stands : StandsInBuffer into a
+  pub stands : StandsAlone into a
 
 -- A message's value is a struct or null, and the first words of a buffer are those of it, trimmed.
 -- Or the message is skipped for this reason, whatever is called.

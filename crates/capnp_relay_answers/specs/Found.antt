@@ -22,6 +22,6 @@ IsFound schema calls founds.Unknown = ⊤
 
 -- n words at the front of a buffer are those of what the calls make of the value that old canonical
 -- words spell.
-pub record SetsFront (schema : StructSchema) (calls : List Call) (old : List ℕ) (into : List (List ℕ)) (count : ℕ) : Type 0 where
+pub record SetsKnownFront (schema : StructSchema) (calls : List Call) (old : List ℕ) (into : List (List ℕ)) (count : ℕ) : Type 0 where
   pub sets : (t : Tree) → Fits t → trim t ≡ t → old ≡ canonical_words t → SetsWords schema calls t (filled count into)
   pub stands : StandsWithin into count

@@ -13,7 +13,7 @@ ghost use Rattle.capnp_calls.specs.Roots.{IsRoot};
 ghost use Rattle.capnp_wire_canonical.specs.Writes.{filled};
 ghost use Rattle.capnp_calls_in_place.specs.PlainSets.{ArePlain, SetsWords};
 ghost use Rattle.capnp_calls_splice.specs.Splices.{StandsWithin};
-ghost use Rattle.capnp_relay_answers.specs.Found.{IsFound, SetsFront};
+ghost use Rattle.capnp_relay_answers.specs.Found.{IsFound, SetsKnownFront};
 
 use crate::found::{Found, find_puts};
 use capnp_calls::Call;
@@ -45,7 +45,7 @@ fn put_sets(words: &mut [Word], count: usize, sets: &[PlainSet]) -> bool
 fn put_splices(words: &mut Vec<Word>, count: usize, calls: &[Resolved<'_>]) -> Result<Option<usize>>
     requires inside { count ≤ length words.old.items }
     ensures front { (schema : AnySchema) → KnowSplices schema calls.now
-        → IfOk result (λ found. IfSome found (SetsFront schema (calls_of calls.now)
+        → IfOk result (λ found. IfSome found (SetsKnownFront schema (calls_of calls.now)
         (filled count words.old.items) words.new.items)) }
     ensures kind { IfErr result (λ e. e.kind ≡ ErrorKind.OutOfMemory) }
 {
@@ -97,7 +97,7 @@ impl<'a> RootCalls<'a> {
     #[inline(always)]
     pub(crate) fn put(&self, words: &mut Vec<Word>, count: usize) -> Result<Option<usize>>
         requires { StandsWithin words.old.items count }
-        ensures front { IfOk result (λ found. IfSome found (SetsFront (root_schema self.now)
+        ensures front { IfOk result (λ found. IfSome found (SetsKnownFront (root_schema self.now)
             (root_calls self.now) (filled count words.old.items) words.new.items)) }
         ensures kind { IfErr result (λ e. e.kind ≡ ErrorKind.OutOfMemory) }
     {

@@ -1,5 +1,5 @@
 -- What an answer of calls to a message says.
-use Rattle.std.specs.Prelude.{◌≡◌, ⊤, Bool, false, true, Some, List}
+use Rattle.std.specs.Prelude.{◌≡◌, ◌<◌, ◌^◌, ⊤, Bool, false, true, Some, List, length, All}
 use Rattle.capnp_model.specs.Segments.{Segments, root as message_root}
 use Rattle.capnp_model.specs.Trees.{Tree}
 use Rattle.capnp_model.specs.Traversal.{tree_at}
@@ -24,11 +24,18 @@ ReadsAsMade root calls bounds s (written segments replies) =
     × (record_of (schema_around root) (id_of root) u ≡ records_after (schema_around root) (id_of root) calls (record_of (schema_around root) (id_of root) t))
 ReadsAsMade root calls bounds s _ = ⊤
 
--- This is the answer of calls to a message; it means the trimmed value after them, and it reads as they make it.
+-- Each segment that is written has fewer words than 2^29.
+abbrev pub HasSmallSegments : Answer → Type 0
+HasSmallSegments (written segments replies) = All (λ words. length words < 2 ^ 29) segments
+HasSmallSegments _ = ⊤
+
+-- This is the answer of calls to a message, in small segments; it means the trimmed value after
+-- them, and it reads as they make it.
 pub record IsAnswerBy (root : StructSchema) (calls : List Call) (bounds : Bounds) (s : Segments) (a : Answer) : Type 0 where
   pub same : IsAnswer (schema_around root) as_it_is (id_of root) calls (limits_view bounds) s a
   pub means : MeansAfter root calls bounds.nesting (value_within (limits_view bounds) s) a
   pub reads : ReadsAsMade root calls bounds s a
+  pub small : HasSmallSegments a
 
 -- This is the answer of calls to a message in the plain form, where it means the value after the
 -- calls itself.

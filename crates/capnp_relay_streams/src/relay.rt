@@ -28,9 +28,9 @@ use std::alloc::Global;
 ///
 /// A message is read within the options' limits. Its trimmed value is copied into the region, and
 /// the calls run there at its root, a null root as the empty struct. What they make of it is
-/// written as one canonical message, in the output form. Where each call sets a plain field of the
-/// root, and no word is put or trimmed by that, the value isn't copied, but edited where it is
-/// written from. A message is skipped
+/// written as one canonical message of fewer than 2^29 words, in the output form. Where each call
+/// sets a plain field of the root, and no word is put or trimmed by that, the value isn't copied,
+/// but edited where it is written from. A message is skipped
 /// - as `value`, where it has no value within the limits, or one with a capability;
 /// - as `root`, where its root is a list;
 /// - as `depth`, where the calls nest it too deep.
@@ -39,7 +39,8 @@ use std::alloc::Global;
 /// is written reads as the record that the calls make of the message's record.
 ///
 /// In the plain form the message that the calls make goes out as it is built, not trimmed, in 1 to
-/// 511 segments. Only their used words are written. It means what the calls make of the message.
+/// 511 segments of fewer than 2^29 words each. Only their used words are written. It means what the
+/// calls make of the message.
 /// Every word but the root word that no object or pad reached from the root covers is zero: nothing
 /// of an overwritten value goes out.
 ///

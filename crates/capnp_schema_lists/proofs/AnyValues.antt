@@ -18,20 +18,21 @@ use Rattle.capnp_wire_objects.specs.Places.{place_view}
 use Rattle.capnp_wire.specs.Views.{StructView}
 use Rattle.capnp_copy_arenas.specs.declared.fields.StructPlace.{StructPlace}
 use Rattle.capnp_copy_arenas.specs.declared.init.ListPlace.{ListPlace}
+use Rattle.capnp_copy_arenas.proofs.lemmas.RoomLaws.{sizes_grow}
 use Rattle.capnp_copy_values.specs.Copies.{GrowsByZeros, BecomesCopy, StructSource, CopyGives}
 use Rattle.capnp_copy_values.specs.Contents.{TakesContent, TakesPart as TakesPartOf, CopiesContent}
 use Rattle.capnp_layout_builders.specs.Making.{ArenaState}
-use Rattle.capnp_layout_builders.specs.Copied.{TakesOver}
+use Rattle.capnp_layout_builders.specs.Copied.{TakesDataAlone, TakesOver}
 use Rattle.capnp_values.specs.Sources.{WithoutLimit}
 use Rattle.capnp_values.specs.declared.dynamic_value.Reader.{Reader}
 use Rattle.capnp_schema_structs.specs.Sources.{SourceView, SetsSource, PutsSource}
 use Rattle.capnp_schema_structs.specs.Values.{is_capability, struct_given, IsStructType}
-use Rattle.capnp_schema_structs.proofs.lemmas.Sources.{walk_map, walk_to, same_words, source_put, source_refused}
+use Rattle.capnp_schema_structs.proofs.lemmas.Sources.{walk_map, walk_to, source_put, source_refused}
 use Rattle.capnp_schema_lists.specs.Elements.{Holds, HoldsStructs, flat_element, element_edit}
 use Rattle.capnp_schema_lists.specs.Lists.{IsListThere, HasPointer}
 use Rattle.capnp_schema_lists.specs.Parts.{cell_in}
 use Rattle.capnp_schema_lists.specs.Places.{IsStructAt, IsElementPointer}
-use Rattle.capnp_schema_lists.specs.Values.{GivenElement, made, copied, taken, list_given, are_capabilities, made_element, element_given, ElementWithin, fitted_edit, part_edit, ElementTakesPart, TakesFields, TakesStruct, LeavesUnlessTaken, PutsElementGiven, AreStructs, IsListType}
+use Rattle.capnp_schema_lists.specs.Values.{GivenElement, made, copied, taken, list_given, are_capabilities, made_element, element_given, ElementWithin, fitted_edit, part_edit, data_edit, ElementTakesData, ElementTakesPart, TakesFields, TakesStruct, LeavesUnlessTaken, PutsElementGiven, AreStructs, IsListType}
 use Rattle.capnp_schema_lists.proofs.Parts.{struct_part}
 use Rattle.capnp_schema_lists.proofs.Pointers.{pointer_parts}
 
@@ -79,8 +80,20 @@ module _ (s u : Segments) (o : ListPlace) (i : ℕ) (p : StructPlace) (l : i < o
       subst (λ (k : ℕ). CopyGives from (each (tree_at levels from) (place_view x.first) (min x.pointers k)) (from_each (visits levels from) (place_view x.first) (min x.pointers k)) (λ ts. ElementWithin levels s u o (fitted_edit x.section ts) i) (ElementTakesPart levels from x s u o i) s u old r new)
       at.pointers (gives levels from x old r new h)
 
+  data_put : (v : StructView) (old : ReadLimiter) (r : Result ⊤ Error) (new : ReadLimiter) → TakesDataAlone v s u p old r new → ElementTakesData v s u o i old r new
+  data_put v old r new h =
+      record {
+        refused = h.refused;
+        unread = h.unread;
+        grows = sizes_grow s u h.sizes;
+        left = λ n t deep is own.
+            (let x = struct_part s o i p l at n t is own in
+            let c = cell_in t i in
+            x.lifts n u (data_edit v.section) (omega arith) (h.section n c.section c.kids x.owns));
+      }
+
   pub content_taken : (v : StructView) (r : Result ⊤ Error) → WithoutLimit (TakesOver v s u p) r → WithoutLimit (TakesStruct v s u o i) r
-  content_taken v r h = (h.0, h.1, h.2, walk_map v.levels v.basis.paid _ _ h.0 r h.1 (λ w. w) (λ n a b w. (w.0, w.1, struct_taken n v.basis.segments w.0 a r b w.2)) h.3)
+  content_taken v r h = (h.0, h.1, h.2, walk_map v.levels v.basis.paid _ _ h.0 r h.1 (data_put v h.0 r h.1) (λ n a b w. (w.0, w.1, struct_taken n v.basis.segments w.0 a r b w.2)) h.3)
 
   -- ---- what is there later too
 
@@ -88,8 +101,11 @@ module _ (s u : Segments) (o : ListPlace) (i : ℕ) (p : StructPlace) (l : i < o
   struct_grows levels from x old (Ok y) new h = h.grows
   struct_grows levels from x old (Err e) new h = h.left.grows
 
+  data_grows : (v : StructView) (old : ReadLimiter) (r : Result ⊤ Error) (new : ReadLimiter) → TakesDataAlone v s u p old r new → Grows s u
+  data_grows v old r new h = sizes_grow s u h.sizes
+
   pub content_grows : (v : StructView) (r : Result ⊤ Error) → WithoutLimit (TakesOver v s u p) r → Grows s u
-  content_grows v r h = walk_to v.levels v.basis.paid _ h.0 r h.1 (λ w. same_words s u w.1) (λ k a b w. struct_grows k v.basis.segments w.0 a r b w.2) h.3
+  content_grows v r h = walk_to v.levels v.basis.paid _ h.0 r h.1 (data_grows v h.0 r h.1) (λ k a b w. struct_grows k v.basis.segments w.0 a r b w.2) h.3
 
 -- ---- the elements' type
 

@@ -1,5 +1,5 @@
 -- What `set` puts into an element for any value. (Encoding, "Lists", "Structs", "Blobs")
-use Rattle.std.specs.Prelude.{◌≡◌, ⊤, ℕ, ◌≤◌, min, Bool, true, false, ◌&&◌, List, Option, Some, None, MatchOption, Result, OnErr, IfErr}
+use Rattle.std.specs.Prelude.{◌≡◌, ⊤, ℕ, ◌≤◌, min, Bool, true, false, ◌&&◌, List, Option, Some, None, MatchOption, Result, Err, OnErr, IfErr}
 use Rattle.capnp_model.specs.Kinds.{ListCapabilityNotSupported}
 use Rattle.capnp_model.specs.Segments.{Segments}
 use Rattle.capnp_model.specs.Schemas.{Ty, void, plain, text, blob, untyped, interface, struct, list}
@@ -12,6 +12,8 @@ use Rattle.capnp_model.specs.Edits.{Edit, put_child, edit_list}
 use Rattle.capnp_units.specs.Segments.{words_in}
 use Rattle.capnp_units.specs.Sizes.{size_number}
 use Rattle.capnp_units.specs.declared.errors.Error.{Error}
+use Rattle.capnp_units.specs.declared.kinds.ErrorKind.TheVariants.{NestingLimitExceeded}
+use Rattle.capnp_units.specs.declared.limiter.ReadLimiter.{ReadLimiter}
 use Rattle.capnp_wire_objects.specs.Places.{place_view}
 use Rattle.capnp_wire.specs.Views.{StructView}
 use Rattle.capnp_model_writes.specs.Children.{with_first}
@@ -22,7 +24,7 @@ use Rattle.capnp_copy_arenas.specs.declared.init.ListPlace.{ListPlace}
 use Rattle.capnp_copy_values.specs.Copies.{StructSource, CopyGives, GrowsByZeros}
 use Rattle.capnp_copy_values.specs.Contents.{fitting}
 use Rattle.capnp_layout_builders.specs.Making.{ArenaState}
-use Rattle.capnp_layout_builders.specs.Copied.{Walk, Charged, WithoutLevels, IsSourceOf}
+use Rattle.capnp_layout_builders.specs.Copied.{Walk, Charged, IsSourceOf}
 use Rattle.capnp_values.specs.Sources.{WithoutLimit}
 use Rattle.capnp_values.specs.declared.dynamic_value.Reader.{Reader}
 use Rattle.capnp_values.specs.declared.dynamic_value.Reader.TheVariants as value
@@ -105,11 +107,22 @@ TakesFields levels from x s u o i old result new =
     let there = each (tree_at levels from) (place_view x.first) k in
     CopyGives from there (from_each (visits levels from) (place_view x.first) k) (λ ts. ElementWithin levels s u o (fitted_edit x.section ts) i) (ElementTakesPart levels from x s u o i) s u old result new
 
+-- Its section becomes what fits of this one, and its children stay.
+abbrev pub data_edit : ℕ → ℕ → ℕ → Edit
+data_edit section words pointers c = record { section = fitting words section; kids = c.kids }
+
+-- Nothing has levels: it is refused, but what fits of the data is taken over before.
+pub record ElementTakesData (v : StructView) (s u : Segments) (o : ListPlace) (i : ℕ) (old : ReadLimiter) (result : Result ⊤ Error) (new : ReadLimiter) : Type 0 where
+  pub refused : result ≡ Err (record { kind = NestingLimitExceeded })
+  pub unread : new ≡ old
+  pub grows : Grows s u
+  pub left : ElementWithin 0 s u o (data_edit v.section) i
+
 -- The content of a struct that is read is taken over, as far as it fits. It is refused as
 -- `TakesOver` of the builders is.
 abbrev pub TakesStruct : StructView → Segments → Segments → ListPlace → ℕ → Walk
 TakesStruct v s u o i old result new =
-    MatchOption v.levels (WithoutLevels s u old result new) (λ n.
+    MatchOption v.levels (ElementTakesData v s u o i old result new) (λ n.
     Charged v.basis.paid (λ l r m. (x : StructSource) × IsSourceOf v x × TakesFields n v.basis.segments x s u o i l r m) old result new)
 
 -- What is returned, and what the element becomes, by what is put; copies are made under no limit of

@@ -7,11 +7,11 @@ use Rattle.capnp_model.specs.Traversal.{tree_at, cost_at}
 use Rattle.capnp_model.specs.Trees.{Tree, null, capability, structure, plain_list, pointer_list, struct_list, is_null as is_null_tree, Trees, child}
 use Rattle.capnp_model.specs.Visits.{visits}
 use Rattle.capnp_model.specs.Schemas.{Ty, void, plain, text, blob, untyped, interface, struct, list, Shape, shape, Fields, no_fields, field, Field as FieldNode, Body, void_slot, plain_slot, pointer_slot, group_slot, Schema}
-use Rattle.capnp_model.specs.Readings.{Reading, inactive, null_pointer, fault, number, text_of, blob_of, list_of, record_as, opaque, whole_words, is_active, only_if, discriminant, shape_record, fields_of, body_of, read, read_child}
+use Rattle.capnp_model.specs.Readings.{Reading, inactive, null_pointer, fault, number, text_of, blob_of, list_of, record_as, opaque, Extent, whole_words, just_bits, is_active, only_if, discriminant, shape_record, fields_of, body_of, read, read_child}
 use Rattle.capnp_model.specs.Printing.{fields_in}
 use Rattle.capnp_model.specs.Accepted.{schema_of}
 use Rattle.capnp_model.specs.Groups.{or_else, pointer_fault, field_fault, is_turn, group_fault, fields_fault, body_fault}
-use Rattle.capnp_model.specs.Edits.{Cell, has_turn}
+use Rattle.capnp_model.specs.Edits.{has_turn}
 use Rattle.capnp_model.proofs.lemmas.Chaining.{some_is}
 use Rattle.capnp_model.proofs.lemmas.Depth.{tree_at_more}
 use Rattle.capnp_model.proofs.lemmas.Paths.{read_child-is}
@@ -32,12 +32,13 @@ use Rattle.capnp_values_queries.specs.Handles.{entry_of_field, IsFieldRecord}
 use Rattle.capnp_values_queries.specs.declared.structs.StructSchema.{StructSchema}
 use Rattle.capnp_values_queries.specs.declared.fields.Field.{Field}
 use Rattle.capnp_values.specs.Records.{is_live, is_there}
-use Rattle.capnp_values.specs.Standing.{LeadsToValue, Answers, null_as_empty, PointersAreRead, IsPointerType}
+use Rattle.capnp_values.specs.Standing.{IsExtent, LeadsToValue, Answers, null_as_empty, PointersAreRead, IsPointerType}
 use Rattle.capnp_values.specs.Shown.{shown_behind}
 use Rattle.capnp_values.proofs.lemmas.RecordReadings.{pointer_live, pointer_there}
 use Rattle.capnp_schema_structs.specs.GroupFaults.{StandsAt, is_member, IsFaultless, IsFieldFaultless, AreFaultless, IsGroupFaultless}
 use Rattle.capnp_schema_structs.specs.GroupRefusals.{type_tested}
-use Rattle.capnp_schema_structs.specs.GroupSets.{IsSource, entry_turn}
+use Rattle.capnp_schema_structs.specs.GroupWrites.{GroupSource}
+use Rattle.capnp_schema_structs.specs.GroupSets.{ReachesTo, IsSource, entry_turn}
 use Rattle.capnp_schema_structs.proofs.lemmas.GroupFields.{body_is}
 
 -- of an error
@@ -62,11 +63,14 @@ behind_alike : (n m : ℕ) (s : Segments) (o : Option Place) (a b : Tree) → re
 behind_alike n m s None a b e f = some_is a b (sym e ∙ f)
 behind_alike n m s (Some p) a b e f = read_alike n m s p a b e f
 
-pub source_of : (v : StructView) (from : Cell) → StandsAt v from → IsSource v from
+reaches_to : (e : Extent) (v : StructView) → IsExtent e v → ReachesTo e v
+reaches_to (just_bits size) v h = h
+reaches_to whole_words v h = (h.0, h.1)
+
+pub source_of : (v : StructView) (from : GroupSource) → StandsAt v from → IsSource v from
 source_of v from h = record {
+  extent = reaches_to from.extent v h.1.extent;
   section = h.1.same;
-  words = h.1.extent.0;
-  bits = h.1.extent.1;
   children = λ levels i t e. behind_alike h.0 levels v.basis.segments (pointer_field v i).place (child from.kids i) t (h.1.children i).tree e;
 }
 
@@ -154,11 +158,11 @@ there_fault false ty (opaque t) there h = h
 
 -- ---- the field
 
-module _ (f : Field) (r : FieldNode) (is : IsFieldRecord f.parent f.index r) (b : Body) (same : option_map (λ e. e.body) (entry_of_field f) ≡ Some b) (from : Cell) where
-  pub faultless_is : IsFieldFaultless f from → body_fault (is_member r.member) b (body_of b whole_words from.section (read_child (schema_around f.parent) from.kids)) ≡ None
+module _ (f : Field) (r : FieldNode) (is : IsFieldRecord f.parent f.index r) (b : Body) (same : option_map (λ e. e.body) (entry_of_field f) ≡ Some b) (from : GroupSource) where
+  pub faultless_is : IsFieldFaultless f from → body_fault (is_member r.member) b (body_of b from.extent from.section (read_child (schema_around f.parent) from.kids)) ≡ None
   faultless_is h =
       let s = schema_around f.parent in
-      subst (λ y. body_fault (is_member r.member) y (body_of y whole_words from.section (read_child s from.kids)) ≡ None) (body_is f r is b same) (subst (λ o. IsFaultless s o from) is.entry h)
+      subst (λ y. body_fault (is_member r.member) y (body_of y from.extent from.section (read_child s from.kids)) ≡ None) (body_is f r is b same) (subst (λ o. IsFaultless s o from) is.entry h)
 
   -- a pointer that is null, of a member
   pub null_faultless : (i : ℕ) (ty : Ty) (d : Option Tree) (m : ℕ) → b ≡ pointer_slot i ty d → r.member ≡ Some m → child from.kids i ≡ null → IsFieldFaultless f from → pointer_fault ty null_pointer ≡ None
@@ -166,7 +170,7 @@ module _ (f : Field) (r : FieldNode) (is : IsFieldRecord f.parent f.index r) (b 
   null_faultless i ty d m e member empty h =
       let s = schema_around f.parent in
       let here : body_fault true (pointer_slot i ty d) (read_child s from.kids i ty) ≡ None =
-      subst (λ z. body_fault z (pointer_slot i ty d) (read_child s from.kids i ty) ≡ None) (ap is_member member) (subst (λ y. body_fault (is_member r.member) y (body_of y whole_words from.section (read_child s from.kids)) ≡ None) e (faultless_is h)) in
+      subst (λ z. body_fault z (pointer_slot i ty d) (read_child s from.kids i ty) ≡ None) (ap is_member member) (subst (λ y. body_fault (is_member r.member) y (body_of y from.extent from.section (read_child s from.kids)) ≡ None) e (faultless_is h)) in
       let null_there : read_child s from.kids i ty ≡ null_pointer = read_child-is s from.kids i ty ∙ ap (λ t. read s t ty) empty in
       subst (λ z. pointer_fault ty z ≡ None) null_there here
 
@@ -175,7 +179,7 @@ module _ (f : Field) (r : FieldNode) (is : IsFieldRecord f.parent f.index r) (b 
   unfolding body_of group_fault
   some_faultless i ty d e some h =
       let s = schema_around f.parent in
-      let here : field_fault (is_member r.member) ty (read_child s from.kids i ty) ≡ None = subst (λ y. body_fault (is_member r.member) y (body_of y whole_words from.section (read_child s from.kids)) ≡ None) e (faultless_is h) in
+      let here : field_fault (is_member r.member) ty (read_child s from.kids i ty) ≡ None = subst (λ y. body_fault (is_member r.member) y (body_of y from.extent from.section (read_child s from.kids)) ≡ None) e (faultless_is h) in
       let at : read_child s from.kids i ty ≡ read s (child from.kids i) ty = read_child-is s from.kids i ty in
       there_fault (is_member r.member) ty (read s (child from.kids i) ty) (pointer_there s ty (child from.kids i) ∙ some) (subst (λ z. field_fault (is_member r.member) ty z ≡ None) at here)
 
@@ -183,8 +187,8 @@ module _ (f : Field) (r : FieldNode) (is : IsFieldRecord f.parent f.index r) (b 
   unfolding body_of group_fault
   group_faultless g e nodes h =
       let own = shape_of_struct g in
-      let here : body_fault (is_member r.member) (group_slot own) (body_of (group_slot own) whole_words from.section (read_child (schema_around f.parent) from.kids)) ≡ None = subst (λ y. body_fault (is_member r.member) y (body_of y whole_words from.section (read_child (schema_around f.parent) from.kids)) ≡ None) e (faultless_is h) in
-      subst (λ ns. group_fault own (shape_record own whole_words from.section (read_child (schema_of ns) from.kids)) ≡ None) (sym nodes) here
+      let here : body_fault (is_member r.member) (group_slot own) (body_of (group_slot own) from.extent from.section (read_child (schema_around f.parent) from.kids)) ≡ None = subst (λ y. body_fault (is_member r.member) y (body_of y from.extent from.section (read_child (schema_around f.parent) from.kids)) ≡ None) e (faultless_is h) in
+      subst (λ ns. group_fault own (shape_record own from.extent from.section (read_child (schema_of ns) from.kids)) ≡ None) (sym nodes) here
 
 -- ---- turns
 
@@ -241,38 +245,38 @@ turn_body members m d b x turn live h =
     let there : body_fault members b x ≡ None = subst (λ (a : Bool). by_turn a members b x ≡ None) (in_turn members m x member live) here in
     subst (λ (a : Bool). body_fault a b x ≡ None) (sym member) there
 
-body_live : (s : Schema) (kids : Trees) (section : ℕ) (b : Body) → is_live (body_of b whole_words section (read_child s kids)) ≡ true
+body_live : (s : Schema) (kids : Trees) (size : Extent) (section : ℕ) (b : Body) → is_live (body_of b size section (read_child s kids)) ≡ true
 unfolding body_of
-body_live s kids section (void_slot j) = refl
-body_live s kids section (plain_slot p at d) = refl
-body_live s kids section (pointer_slot i ty d) = ap is_live (read_child-is s kids i ty) ∙ pointer_live s ty (child kids i)
-body_live s kids section (group_slot g) = refl
+body_live s kids size section (void_slot j) = refl
+body_live s kids size section (plain_slot p at d) = refl
+body_live s kids size section (pointer_slot i ty d) = ap is_live (read_child-is s kids i ty) ∙ pointer_live s ty (child kids i)
+body_live s kids size section (group_slot g) = refl
 
-one_of : (s : Schema) (members : Bool) (d : Option ℕ) (section : ℕ) (kids : Trees) (fs : Fields) (i : ℕ) (x : Entry) → fields_fault members fs (fields_of fs d whole_words section (read_child s kids)) ≡ None → field_at fs i ≡ Some x → has_turn members x.member d ≡ true
-    → body_fault (is_member x.member) x.body (body_of x.body whole_words section (read_child s kids)) ≡ None
+one_of : (s : Schema) (members : Bool) (d : Option ℕ) (size : Extent) (section : ℕ) (kids : Trees) (fs : Fields) (i : ℕ) (x : Entry) → fields_fault members fs (fields_of fs d size section (read_child s kids)) ≡ None → field_at fs i ≡ Some x → has_turn members x.member d ≡ true
+    → body_fault (is_member x.member) x.body (body_of x.body size section (read_child s kids)) ≡ None
 unfolding group_fault shape_record
-one_of s members d section kids no_fields zero x h at turn = absurd (cc at)
-one_of s members d section kids no_fields (suc i) x h at turn = absurd (cc at)
-one_of s members d section kids (field n m b fs) zero x h at turn =
+one_of s members d size section kids no_fields zero x h at turn = absurd (cc at)
+one_of s members d size section kids no_fields (suc i) x h at turn = absurd (cc at)
+one_of s members d size section kids (field n m b fs) zero x h at turn =
     let e : record { name = n; member = m; body = b } ≡ x = same_some at in
     let turn' : has_turn members m d ≡ true = subst (λ (y : Entry). has_turn members y.member d ≡ true) (sym e) turn in
-    subst (λ (y : Entry). body_fault (is_member y.member) y.body (body_of y.body whole_words section (read_child s kids)) ≡ None) e
-    (turn_body members m d b (body_of b whole_words section (read_child s kids)) turn' (body_live s kids section b) (first_none _ _ h))
-one_of s members d section kids (field n m b fs) (suc i) x h at turn = one_of s members d section kids fs i x (second_none _ _ h) at turn
+    subst (λ (y : Entry). body_fault (is_member y.member) y.body (body_of y.body size section (read_child s kids)) ≡ None) e
+    (turn_body members m d b (body_of b size section (read_child s kids)) turn' (body_live s kids size section b) (first_none _ _ h))
+one_of s members d size section kids (field n m b fs) (suc i) x h at turn = one_of s members d size section kids fs i x (second_none _ _ h) at turn
 
-shape_one : (s : Schema) (members : Bool) (g : Shape) (from : Cell) (i : ℕ) (o : Option Entry) → AreFaultless s members g from → field_at (fields_in g) i ≡ o → entry_turn members (union_in g) o from ≡ true → IsFaultless s o from
+shape_one : (s : Schema) (members : Bool) (g : Shape) (from : GroupSource) (i : ℕ) (o : Option Entry) → AreFaultless s members g from → field_at (fields_in g) i ≡ o → entry_turn members (union_in g) o from ≡ true → IsFaultless s o from
 unfolding shape_record
 shape_one s members (shape nid w p u fs) from i None h at turn = tt
-shape_one s members (shape nid w p u fs) from i (Some x) h at turn = one_of s members (discriminant u whole_words from.section) from.section from.kids fs i x h at turn
+shape_one s members (shape nid w p u fs) from i (Some x) h at turn = one_of s members (discriminant u from.extent from.section) from.extent from.section from.kids fs i x h at turn
 
-pub one_faultless : (g : StructSchema) (f : Field) → f.parent ≡ g → (members : Bool) (from : Cell) → AreFaultless (schema_around g) members (shape_of_struct g) from → entry_turn members (union_in (shape_of_struct f.parent)) (entry_of_field f) from ≡ true → IsFieldFaultless f from
+pub one_faultless : (g : StructSchema) (f : Field) → f.parent ≡ g → (members : Bool) (from : GroupSource) → AreFaultless (schema_around g) members (shape_of_struct g) from → entry_turn members (union_in (shape_of_struct f.parent)) (entry_of_field f) from ≡ true → IsFieldFaultless f from
 one_faultless g f parent members from h turn =
     shape_one (schema_around f.parent) members (shape_of_struct f.parent) from f.index (entry_of_field f) (subst (λ (y : StructSchema). AreFaultless (schema_around y) members (shape_of_struct y) from) (sym parent) h) refl turn
 
-pub first_turn : (s : Schema) (g : Shape) (from : Cell) → IsGroupFaultless s g from → AreFaultless s true g from
+pub first_turn : (s : Schema) (g : Shape) (from : GroupSource) → IsGroupFaultless s g from → AreFaultless s true g from
 unfolding group_fault
 first_turn s (shape nid w p u fs) from h = first_none _ _ h
 
-pub second_turn : (s : Schema) (g : Shape) (from : Cell) → IsGroupFaultless s g from → AreFaultless s false g from
+pub second_turn : (s : Schema) (g : Shape) (from : GroupSource) → IsGroupFaultless s g from → AreFaultless s false g from
 unfolding group_fault
 second_turn s (shape nid w p u fs) from h = second_none _ _ h

@@ -19,8 +19,9 @@ use Rattle.capnp_copy_values.specs.Copies.{Unplaced}
 use Rattle.capnp_copy_values.specs.Defaults.{default_segments}
 use Rattle.capnp_layout_builders.specs.Making.{ArenaState}
 use Rattle.capnp_values_queries.specs.Fields.{Entry}
-use Rattle.capnp_values_queries.specs.Structs.{schema_around}
+use Rattle.capnp_values_queries.specs.Structs.{schema_around, fields_of_struct}
 use Rattle.capnp_values_queries.specs.Handles.{entry_of_field}
+use Rattle.capnp_values_queries.specs.declared.structs.StructSchema.{StructSchema}
 use Rattle.capnp_values_queries.specs.declared.fields.Field.{Field}
 use Rattle.capnp_values.specs.Shown.{shown_behind}
 use Rattle.capnp_schema_structs.specs.NewLists.{ObjectNotMade}
@@ -131,3 +132,7 @@ EntryRefused told s (Some x) v u e = BodyRefused told s x.body v u e
 
 abbrev pub FieldRefused : (Error → Type 0) → Field → StructView → Segments → Error → Type 0
 FieldRefused told f v u e = EntryRefused told (schema_around f.parent) (entry_of_field f) v u e
+
+-- One of the fields of a struct or a group isn't.
+abbrev pub OneRefused : (Error → Type 0) → StructSchema → StructView → Segments → Error → Type 0
+OneRefused told g v u e = FieldsRefused told (schema_around g) (fields_of_struct g) v u e

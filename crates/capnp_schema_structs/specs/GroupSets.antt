@@ -1,5 +1,5 @@
 -- Groups that are set to structs. (Encoding, "Structs")
-use Rattle.std.specs.Prelude.{◌≡◌, ⊤, ℕ, ◌+◌, ◌*◌, Bool, true, false, List, [], ◌++◌, Option, Some, None, option_map, IsSome, Result, Ok, Err, OnOk, IfErr}
+use Rattle.std.specs.Prelude.{◌≡◌, ◌≢◌, ⊤, ℕ, ◌+◌, ◌*◌, Bool, true, false, List, [], ◌++◌, Option, Some, None, option_map, IsSome, Result, Ok, Err, OnOk, IfErr}
 use Rattle.capnp_model.specs.Segments.{Segments, Place, root}
 use Rattle.capnp_model.specs.Trees.{Tree, null, child, Trees, structure}
 use Rattle.capnp_model.specs.Traversal.{tree_at}
@@ -7,15 +7,16 @@ use Rattle.capnp_model.specs.Decoding.{decode}
 use Rattle.capnp_model.specs.Schemas.{Ty, void, plain, text, blob, untyped, interface, struct, list, Value, list_segment, struct_segment, pointer_slot, Shape, Schema, default_or_null}
 use Rattle.capnp_model.specs.Accepted.{default_tree}
 use Rattle.capnp_model.specs.Printing.{fields_in}
-use Rattle.capnp_model.specs.Readings.{discriminant, whole_words}
+use Rattle.capnp_model.specs.Readings.{Extent, whole_words, just_bits, discriminant}
 use Rattle.capnp_model.specs.Groups.{source_tree}
-use Rattle.capnp_model.specs.Edits.{Cell, Edit, mark, has_turn, field_writes, body_writes, after_writes}
+use Rattle.capnp_model.specs.Edits.{Edit, mark, has_turn, after_writes}
 use Rattle.capnp_units.specs.Segments.{words_in}
 use Rattle.capnp_units.specs.declared.errors.Error.{Error}
 use Rattle.capnp_wire_objects.specs.Places.{place_view}
 use Rattle.capnp_wire_objects.specs.declared.place.Place as code
 use Rattle.capnp_model_writes.specs.Footprints.{Owns, OwnsObject}
 use Rattle.capnp_model_writes.specs.Changes.{Replaces, ReplacesObject}
+use Rattle.capnp_wire.specs.Reads.{is_null_pointer}
 use Rattle.capnp_wire.specs.Views.{StructView, pointer_field}
 use Rattle.capnp_wire.specs.Laws.{reads_behind}
 use Rattle.capnp_copy_arenas.specs.Structs.{object_of_struct}
@@ -26,15 +27,21 @@ use Rattle.capnp_values_queries.specs.Structs.{schema_around, shape_of_struct}
 use Rattle.capnp_values_queries.specs.Handles.{entry_of_field}
 use Rattle.capnp_values_queries.specs.declared.fields.Field.{Field}
 use Rattle.capnp_layout_builders.specs.Making.{ArenaState}
+use Rattle.capnp_schema_structs.specs.GroupWrites.{GroupSource, writes_of_fields, writes_of_body}
 use Rattle.capnp_schema_structs.specs.GroupFaults.{StandsAt, IsFieldFaultless}
 use Rattle.capnp_schema_structs.specs.GroupRefusals.{NotPut, FieldRefused}
 use Rattle.capnp_schema_structs.specs.Sources.{StandsIfRefused}
 
--- A struct that is read has these data, in whole words, and these children, where they can be read.
-pub record IsSource (v : StructView) (from : Cell) : Type 0 where
+-- The data section of a struct that is read goes so far.
+abbrev pub ReachesTo : Extent → StructView → Type 0
+ReachesTo (just_bits size) v = v.bits ≡ size
+ReachesTo whole_words v = (words : ℕ) × (v.bits ≡ 64 * words)
+
+-- A struct that is read has these data, which go so far, and these children, where they can be read.
+-- Each has just its bits, so that there is one for every struct.
+pub record IsSource (v : StructView) (from : GroupSource) : Type 0 where
+  pub extent : ReachesTo from.extent v
   pub section : v.section ≡ from.section
-  pub words : ℕ
-  pub bits : v.bits ≡ 64 * words
   pub children : (levels i : ℕ) (t : Tree) → reads_behind (tree_at levels v.basis.segments) (pointer_field v i).place ≡ Some t → child from.kids i ≡ t
 
 -- ---- what the struct becomes
@@ -54,19 +61,28 @@ abbrev pub WritesAsFar : Segments → Segments → StructPlace → List Edit →
 WritesAsFar s u p fs (Ok _) = EditsAny s u p (after_writes fs)
 WritesAsFar s u p fs (Err _) = (front : List Edit) × (back : List Edit) × (fs ≡ front ++ back) × EditsAny s u p (after_writes front)
 
+-- The same in an arena, by what tells its bytes.
+module _ {A : Type 0} (bytes : A → List (List ℕ)) where
+  abbrev pub WritesIn : A → A → StructPlace → List Edit → Result ⊤ Error → Type 0
+  WritesIn old new = WritesAsFar (words_in (bytes old)) (words_in (bytes new))
+
+  -- The value becomes the tree, which isn't null.
+  abbrev pub PutsChild : A → A → code.Place → Tree → Type 0
+  PutsChild old new slot t = (t ≢ null) × PutsAny (words_in (bytes old)) (words_in (bytes new)) (place_view slot) t
+
 -- ---- the writes
 
 -- Whether it is the field's turn: first that of the member that is active in what is read, then of the fields that are no members.
-abbrev pub entry_turn : Bool → Option ℕ → Option Entry → Cell → Bool
+abbrev pub entry_turn : Bool → Option ℕ → Option Entry → GroupSource → Bool
 entry_turn members union None from = false
-entry_turn members union (Some e) from = has_turn members e.member (discriminant union whole_words from.section)
+entry_turn members union (Some e) from = has_turn members e.member (discriminant union from.extent from.section)
 
 -- The model's writes of a field, the first of which marks its union.
-abbrev pub entry_writes : Schema → Option ℕ → Option Entry → Cell → List Edit
+abbrev pub entry_writes : Schema → Option ℕ → Option Entry → GroupSource → List Edit
 entry_writes s union None from = []
-entry_writes s union (Some e) from = body_writes s e.body e.member (mark union e.member) from
+entry_writes s union (Some e) from = writes_of_body s e.body e.member (mark union e.member) from
 
-abbrev pub copied_field : Field → Cell → List Edit
+abbrev pub copied_field : Field → GroupSource → List Edit
 copied_field f from = entry_writes (schema_around f.parent) (union_in (shape_of_struct f.parent)) (entry_of_field f) from
 
 -- The model's writes of a field in its turn, the first of which marks its union.
@@ -74,28 +90,36 @@ abbrev pub writes_if : Bool → List Edit → List Edit
 writes_if true fs = fs
 writes_if false fs = []
 
-abbrev pub turn_writes : Schema → Bool → Option ℕ → Option Entry → Cell → List Edit
+abbrev pub turn_writes : Schema → Bool → Option ℕ → Option Entry → GroupSource → List Edit
 turn_writes s members union o from = writes_if (entry_turn members union o from) (entry_writes s union o from)
 
-abbrev pub copied_turn : Field → Bool → Cell → List Edit
+abbrev pub copied_turn : Field → Bool → GroupSource → List Edit
 copied_turn f members from = turn_writes (schema_around f.parent) members (union_in (shape_of_struct f.parent)) (entry_of_field f) from
 
 -- The writes of the fields of a group that have their turn.
-abbrev pub copied_fields : Schema → Bool → Shape → Cell → List Edit
-copied_fields s members g from = field_writes s members (fields_in g) (union_in g) (discriminant (union_in g) whole_words from.section) from
+abbrev pub copied_fields : Schema → Bool → Shape → GroupSource → List Edit
+copied_fields s members g from = writes_of_fields s members (fields_in g) (union_in g) (discriminant (union_in g) from.extent from.section) from
 
 -- Those of a group that is cleared: of its active member, and then of its other fields.
-abbrev pub copied_group : Schema → Shape → Cell → List Edit
+abbrev pub copied_group : Schema → Shape → GroupSource → List Edit
 copied_group s g from = copied_fields s true g from ++ copied_fields s false g from
 
+-- Where it is a field's turn, what it reads as has no fault.
+abbrev pub IsFaultlessInTurn : Field → Bool → GroupSource → Type 0
+IsFaultlessInTurn f members from = entry_turn members (union_in (shape_of_struct f.parent)) (entry_of_field f) from ≡ true → IsFieldFaultless f from
+
+-- The pointer of an index isn't null.
+abbrev pub IsNotNull : StructView → ℕ → Type 0
+IsNotNull v i = is_null_pointer (pointer_field v i) ≡ false
+
 -- A field that is a group is set to the fields of a struct that is read: the model's writes of the
--- group (`group_writes`) are done. Or a beginning of them is, and then one of the fields isn't set.
+-- group (`writes_of_group`) are done. Or a beginning of them is, and then one of the fields isn't set.
 -- Where memory lacks, `told` says why; that is the only reason where the model finds no fault in
 -- what is read.
 pub record SetsFields (told : Error → Type 0) (v : StructView) (s u : Segments) (p : StructPlace) (f : Field) (r : Result ⊤ Error) : Type 0 where
-  pub writes : (from : Cell) → IsSource v from → WritesAsFar s u p (copied_field f from) r
+  pub writes : (from : GroupSource) → IsSource v from → WritesAsFar s u p (copied_field f from) r
   pub why : IfErr r (FieldRefused told f v u)
-  pub cause : (from : Cell) → StandsAt v from → IfErr r (λ e. IsFieldFaultless f from → told e)
+  pub cause : (from : GroupSource) → StandsAt v from → IfErr r (λ e. IsFieldFaultless f from → told e)
 
 -- ---- pointers
 

@@ -7,6 +7,7 @@ pub mod Given
 pub mod Blobs
 pub mod Puts
 pub mod Sources
+pub mod GroupWrites
 pub mod GroupSets
 pub mod GroupFaults
 pub mod GroupRefusals

@@ -248,7 +248,8 @@ impl<'a, A: BuilderArena> Builder<'a, A> {
         ensures same { self.new.memory.ghost_name ≡ self.old.memory.ghost_name }
         ensures puts { Puts A.segments A.room A.books (IsSizeOrRefusal A.refuses)
             self.old self.new (edit_of field.entry init)
-            (field_init_content (schema_around field.entry.parent) (entry_of_field field.entry)) result }
+            (field_init_content (schema_around field.entry.parent) (entry_of_field field.entry))
+            result }
         ensures part { IfOk result (IsPartOf A.segments self.old self.new field.entry) }
         ensures refused { OnErr result (StructStays A.segments self.old self.new) }
         ensures books { A.books self.new.memory.now.arena ≡ A.books self.old.memory.now.arena }
@@ -296,7 +297,8 @@ impl<'a, A: BuilderArena> Builder<'a, A> {
         ensures same { self.new.memory.ghost_name ≡ self.old.memory.ghost_name }
         ensures puts { Puts A.segments A.room A.books (IsSizeOrRefusal A.refuses)
             self.old self.new (edit_of field.entry (initn count))
-            (initn_field (schema_around field.entry.parent) count (entry_of_field field.entry)) result }
+            (initn_field (schema_around field.entry.parent) count (entry_of_field field.entry))
+            result }
         ensures refused { OnErr result (StructStays A.segments self.old self.new) }
         ensures books { A.books self.new.memory.now.arena ≡ A.books self.old.memory.now.arena }
         ensures ready { IsReady A.segments self.new }
@@ -311,9 +313,11 @@ impl<'a, A: BuilderArena> Builder<'a, A> {
         requires ready { IsReady A.segments self.old }
         ensures same { self.new.memory.ghost_name ≡ self.old.memory.ghost_name }
         ensures puts { AnswersNamed self.old.schema name.now (λ f r. Puts A.segments A.room A.books
-            (IsSizeOrRefusal A.refuses) self.old self.new (edit_of f init) (begun_field (schema_around f.parent) (entry_of_field f)) r
+            (IsSizeOrRefusal A.refuses) self.old self.new (edit_of f init)
+            (begun_field (schema_around f.parent) (entry_of_field f)) r
             × IfOk r (IsBegunBy A.segments self.old self.new f)) result }
-        ensures there { IfOk result (IsThereIfTold (words_in (A.segments self.new.memory.now.arena))) }
+        ensures there { IfOk result
+            (IsThereIfTold (words_in (A.segments self.new.memory.now.arena))) }
         ensures refused { OnErr result (StructStays A.segments self.old self.new) }
         ensures books { A.books self.new.memory.now.arena ≡ A.books self.old.memory.now.arena }
         ensures ready { IsReady A.segments self.new }
@@ -372,7 +376,8 @@ impl<'a, A: BuilderArena> Builder<'a, A> {
     /// and where the field's pointer is null; else true, for groups too. It never refuses.
     pub fn has(&self, field: Field<'_>) -> Result<bool>
         requires ready { IsReady A.segments self.now }
-        ensures { result ≡ Ok (has_field (struct_view_of A.segments A.nesting self.now) field.entry) }
+        ensures { result
+            ≡ Ok (has_field (struct_view_of A.segments A.nesting self.now) field.entry) }
     {
         self.reborrow_as_reader().has(field)
     }

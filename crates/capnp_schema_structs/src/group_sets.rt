@@ -1,25 +1,22 @@
 //! Groups that are set to structs, over places in an arena: for builders of structs, and for calls
 //! that are written where a message lies (`capnp_calls_edits`).
-ghost use Rattle.std.specs.Prelude.{◌≡◌, ◌<◌, true, false, IfErr};
-ghost use Rattle.capnp_model.specs.Accepted.{areas_of};
+ghost use Rattle.std.specs.Prelude.{◌≡◌, ◌<◌, true, IfErr};
 ghost use Rattle.capnp_model.specs.Coverage.{Grows};
-ghost use Rattle.capnp_model.specs.Edits.{Cell};
 ghost use Rattle.capnp_model.specs.Trees.{child, null};
 ghost use Rattle.capnp_units.specs.Segments.{words_in};
-ghost use Rattle.capnp_wire.specs.Reads.{is_null_pointer};
-ghost use Rattle.capnp_wire.specs.Views.{seen_struct, pointer_field};
+ghost use Rattle.capnp_wire.specs.Views.{seen_struct};
 ghost use Rattle.capnp_values_queries.specs.Handles.{entry_of_field};
-ghost use Rattle.capnp_values_queries.specs.Structs.{nodes_around, schema_around, shape_of_struct, fields_of_struct};
+ghost use Rattle.capnp_values_queries.specs.Structs.{nodes_around, schema_around, shape_of_struct};
 ghost use Rattle.capnp_values_queries.specs.Types.{ty_of, is_type_of};
 ghost use Rattle.capnp_values.specs.Sources.{struct_seen};
 ghost use Rattle.capnp_copy_arenas.specs.Refusals.{IsSizeOrRefusal};
 ghost use Rattle.capnp_schema_structs.specs.Edits.{IsThere};
-ghost use Rattle.capnp_schema_structs.specs.Inside.{LieIn};
+ghost use Rattle.capnp_schema_structs.specs.Inside.{HasFields};
 ghost use Rattle.capnp_schema_structs.specs.Puts.{answered};
-ghost use Rattle.capnp_values_queries.specs.Fields.{union_in};
 ghost use Rattle.capnp_schema_structs.specs.GroupFaults.{StandsAt, IsFieldFaultless, AreFaultless, IsGroupFaultless};
-ghost use Rattle.capnp_schema_structs.specs.GroupRefusals.{type_tested, NullFieldRefused, SomeRefused, FieldsRefused, FieldRefused};
-ghost use Rattle.capnp_schema_structs.specs.GroupSets.{IsSource, entry_turn, WritesAsFar, IsPointerAt, SetsFields, copied_field, copied_turn, copied_fields, copied_group};
+ghost use Rattle.capnp_schema_structs.specs.GroupRefusals.{type_tested, NullFieldRefused, SomeRefused, FieldRefused, OneRefused};
+ghost use Rattle.capnp_schema_structs.specs.GroupWrites.{GroupSource};
+ghost use Rattle.capnp_schema_structs.specs.GroupSets.{IsNotNull, IsSource, IsFaultlessInTurn, WritesIn, IsPointerAt, SetsFields, copied_field, copied_turn, copied_fields, copied_group};
 
 use crate::group_nulls::{default_value, put_null};
 use crate::group_sources::{bits_in, copy_child, has_turn};
@@ -62,16 +59,14 @@ fn copy_null<A: BuilderArena>(
     ty: Type,
 ) -> Result<()>
     requires there { IsThere (words_in (A.segments arena.old)) object }
-    requires inside { LieIn object.data_words object.pointers
-        (areas_of (shape_of_struct field.parent)) × (index < object.pointers) }
+    requires inside { HasFields object (shape_of_struct field.parent) × (index < object.pointers) }
     requires slot { IsPointerAt index (ty_of ty) (entry_of_field field)
         × (is_type_of (nodes_around field.parent) ty ≡ true) }
-    ensures writes { (from : Cell) → child from.kids index ≡ null
-        → WritesAsFar (words_in (A.segments arena.old)) (words_in (A.segments arena.new)) object
-        (copied_field field.entry from) result }
+    ensures writes { (from : GroupSource) → child from.kids index ≡ null
+        → WritesIn A.segments arena.old arena.new object (copied_field field.entry from) result }
     ensures why { IfErr result (NullFieldRefused (IsSizeOrRefusal A.refuses) field.entry
         (words_in (A.segments arena.new))) }
-    ensures cause { (from : Cell) → child from.kids index ≡ null → IfErr result (λ e.
+    ensures cause { (from : GroupSource) → child from.kids index ≡ null → IfErr result (λ e.
         IsFieldFaultless field.entry from → IsSizeOrRefusal A.refuses e) }
     ensures grows { Grows (words_in (A.segments arena.old)) (words_in (A.segments arena.new)) }
     ensures books { A.books arena.new ≡ A.books arena.old }
@@ -98,16 +93,15 @@ fn copy_some<'a, A: BuilderArena, B: ReaderArena>(
     ty: Type,
 ) -> Result<()>
     requires there { IsThere (words_in (A.segments arena.old)) object }
-    requires inside { LieIn object.data_words object.pointers
-        (areas_of (shape_of_struct field.parent)) × (index < object.pointers) }
+    requires inside { HasFields object (shape_of_struct field.parent) × (index < object.pointers) }
     requires slot { IsPointerAt index (ty_of ty) (entry_of_field field) }
-    requires some { is_null_pointer (pointer_field (seen_struct B.segments source.now) index) ≡ false }
-    ensures writes { (from : Cell) → IsSource (seen_struct B.segments source.now) from
-        → WritesAsFar (words_in (A.segments arena.old)) (words_in (A.segments arena.new)) object
-        (copied_field field.entry from) result }
-    ensures why { IfErr result (SomeRefused (IsSizeOrRefusal A.refuses) (schema_around field.entry.parent)
-        (seen_struct B.segments source.now) index (ty_of ty) (words_in (A.segments arena.new))) }
-    ensures cause { (from : Cell) → StandsAt (seen_struct B.segments source.now) from
+    requires some { IsNotNull (seen_struct B.segments source.now) index }
+    ensures writes { (from : GroupSource) → IsSource (seen_struct B.segments source.now) from
+        → WritesIn A.segments arena.old arena.new object (copied_field field.entry from) result }
+    ensures why { let v = seen_struct B.segments source.now in IfErr result (SomeRefused
+        (IsSizeOrRefusal A.refuses) (schema_around field.entry.parent) v index (ty_of ty)
+        (words_in (A.segments arena.new))) }
+    ensures cause { (from : GroupSource) → StandsAt (seen_struct B.segments source.now) from
         → IfErr result (λ e. IsFieldFaultless field.entry from → IsSizeOrRefusal A.refuses e) }
     ensures grows { Grows (words_in (A.segments arena.old)) (words_in (A.segments arena.new)) }
     ensures books { A.books arena.new ≡ A.books arena.old }
@@ -131,14 +125,12 @@ fn copy_field<'a, A: BuilderArena, B: ReaderArena>(
     source: &StructReader<'a, B>,
 ) -> Result<()>
     requires there { IsThere (words_in (A.segments arena.old)) object }
-    requires inside { LieIn object.data_words object.pointers
-        (areas_of (shape_of_struct field.parent)) }
-    ensures writes { (from : Cell) → IsSource (seen_struct B.segments source.now) from
-        → WritesAsFar (words_in (A.segments arena.old)) (words_in (A.segments arena.new)) object
-        (copied_field field.entry from) result }
+    requires inside { HasFields object (shape_of_struct field.parent) }
+    ensures writes { (from : GroupSource) → IsSource (seen_struct B.segments source.now) from
+        → WritesIn A.segments arena.old arena.new object (copied_field field.entry from) result }
     ensures why { IfErr result (FieldRefused (IsSizeOrRefusal A.refuses) field.entry
         (seen_struct B.segments source.now) (words_in (A.segments arena.new))) }
-    ensures cause { (from : Cell) → StandsAt (seen_struct B.segments source.now) from
+    ensures cause { (from : GroupSource) → StandsAt (seen_struct B.segments source.now) from
         → IfErr result (λ e. IsFieldFaultless field.entry from → IsSizeOrRefusal A.refuses e) }
     ensures grows { Grows (words_in (A.segments arena.old)) (words_in (A.segments arena.new)) }
     ensures books { A.books arena.new ≡ A.books arena.old }
@@ -181,16 +173,14 @@ fn copy_turn<'a, A: BuilderArena, B: ReaderArena>(
     members: bool,
 ) -> Result<()>
     requires there { IsThere (words_in (A.segments arena.old)) object }
-    requires inside { LieIn object.data_words object.pointers
-        (areas_of (shape_of_struct field.parent)) }
-    ensures writes { (from : Cell) → IsSource (seen_struct B.segments source.now) from
-        → WritesAsFar (words_in (A.segments arena.old)) (words_in (A.segments arena.new)) object
+    requires inside { HasFields object (shape_of_struct field.parent) }
+    ensures writes { (from : GroupSource) → IsSource (seen_struct B.segments source.now) from
+        → WritesIn A.segments arena.old arena.new object
         (copied_turn field.entry members from) result }
     ensures why { IfErr result (FieldRefused (IsSizeOrRefusal A.refuses) field.entry
         (seen_struct B.segments source.now) (words_in (A.segments arena.new))) }
-    ensures cause { (from : Cell) → StandsAt (seen_struct B.segments source.now) from
-        → IfErr result (λ e. (entry_turn members (union_in (shape_of_struct field.entry.parent))
-        (entry_of_field field.entry) from ≡ true → IsFieldFaultless field.entry from)
+    ensures cause { (from : GroupSource) → StandsAt (seen_struct B.segments source.now) from
+        → IfErr result (λ e. IsFaultlessInTurn field.entry members from
         → IsSizeOrRefusal A.refuses e) }
     ensures grows { Grows (words_in (A.segments arena.old)) (words_in (A.segments arena.new)) }
     ensures books { A.books arena.new ≡ A.books arena.old }
@@ -211,15 +201,14 @@ fn copy_fields<'a, A: BuilderArena, B: ReaderArena>(
     members: bool,
 ) -> Result<()>
     requires there { IsThere (words_in (A.segments arena.old)) object }
-    requires inside { LieIn object.data_words object.pointers (areas_of (shape_of_struct schema)) }
-    ensures writes { (from : Cell) → IsSource (seen_struct B.segments source.now) from
-        → WritesAsFar (words_in (A.segments arena.old)) (words_in (A.segments arena.new)) object
+    requires inside { HasFields object (shape_of_struct schema) }
+    ensures writes { (from : GroupSource) → IsSource (seen_struct B.segments source.now) from
+        → WritesIn A.segments arena.old arena.new object
         (copied_fields (schema_around schema.entry) members (shape_of_struct schema.entry) from)
         result }
-    ensures why { IfErr result (FieldsRefused (IsSizeOrRefusal A.refuses)
-        (schema_around schema.entry) (fields_of_struct schema.entry)
+    ensures why { IfErr result (OneRefused (IsSizeOrRefusal A.refuses) schema.entry
         (seen_struct B.segments source.now) (words_in (A.segments arena.new))) }
-    ensures cause { (from : Cell) → StandsAt (seen_struct B.segments source.now) from
+    ensures cause { (from : GroupSource) → StandsAt (seen_struct B.segments source.now) from
         → IfErr result (λ e. AreFaultless (schema_around schema.entry) members
         (shape_of_struct schema.entry) from → IsSizeOrRefusal A.refuses e) }
     ensures grows { Grows (words_in (A.segments arena.old)) (words_in (A.segments arena.new)) }
@@ -243,14 +232,13 @@ fn copy_group<'a, A: BuilderArena, B: ReaderArena>(
     source: &StructReader<'a, B>,
 ) -> Result<()>
     requires there { IsThere (words_in (A.segments arena.old)) object }
-    requires inside { LieIn object.data_words object.pointers (areas_of (shape_of_struct schema)) }
-    ensures writes { (from : Cell) → IsSource (seen_struct B.segments source.now) from
-        → WritesAsFar (words_in (A.segments arena.old)) (words_in (A.segments arena.new)) object
+    requires inside { HasFields object (shape_of_struct schema) }
+    ensures writes { (from : GroupSource) → IsSource (seen_struct B.segments source.now) from
+        → WritesIn A.segments arena.old arena.new object
         (copied_group (schema_around schema.entry) (shape_of_struct schema.entry) from) result }
-    ensures why { IfErr result (FieldsRefused (IsSizeOrRefusal A.refuses)
-        (schema_around schema.entry) (fields_of_struct schema.entry)
+    ensures why { IfErr result (OneRefused (IsSizeOrRefusal A.refuses) schema.entry
         (seen_struct B.segments source.now) (words_in (A.segments arena.new))) }
-    ensures cause { (from : Cell) → StandsAt (seen_struct B.segments source.now) from
+    ensures cause { (from : GroupSource) → StandsAt (seen_struct B.segments source.now) from
         → IfErr result (λ e. IsGroupFaultless (schema_around schema.entry)
         (shape_of_struct schema.entry) from → IsSizeOrRefusal A.refuses e) }
     ensures grows { Grows (words_in (A.segments arena.old)) (words_in (A.segments arena.new)) }
@@ -263,7 +251,9 @@ fn copy_group<'a, A: BuilderArena, B: ReaderArena>(
 /// Sets a field that is a group to a struct, of a message or of a default, whatever its schema, and
 /// marks its union. The group is cleared, then the struct's active member is set, then its other
 /// fields by index, nested groups in this way too. A null pointer is left, but that of an active
-/// member becomes its default, else the empty value of its type.
+/// member becomes its default, else the empty value of its type. What lies past the struct's data
+/// section reads as zero, also where this isn't whole words, as that of an element of a list of
+/// numbers.
 ///
 /// It is refused at the first of these fields that can't be set:
 /// - with `CannotSetAnyPointerFieldToAPrimitiveValue` at an untyped pointer that isn't null or is
@@ -283,8 +273,7 @@ pub fn set_group<'a, A: BuilderArena, B: ReaderArena>(
     source: StructSource<'a, B>,
 ) -> Result<()>
     requires there { IsThere (words_in (A.segments arena.old)) object }
-    requires inside { LieIn object.data_words object.pointers
-        (areas_of (shape_of_struct field.parent)) }
+    requires inside { HasFields object (shape_of_struct field.parent) }
     ensures sets { SetsFields (IsSizeOrRefusal A.refuses) (struct_seen B.segments source.entry)
         (words_in (A.segments arena.old)) (words_in (A.segments arena.new)) object field.entry
         result }

@@ -1,22 +1,19 @@
 //! Structs that are read, as groups are set from them.
-ghost use Rattle.std.specs.Prelude.{ℕ, ◌≡◌, ◌≢◌, ◌*◌, ◌<◌, ◌^◌, true, false, IfErr, OnOk};
-ghost use Rattle.std.specs.Option.{is_some};
-ghost use Rattle.capnp_model.specs.Edits.{Cell};
-ghost use Rattle.capnp_model.specs.Readings.{discriminant, field_bits, is_active, whole_words};
+ghost use Rattle.std.specs.Prelude.{ℕ, ◌≡◌, ◌*◌, ◌<◌, ◌^◌, IfErr, OnOk};
+ghost use Rattle.capnp_model.specs.Readings.{discriminant, field_bits, is_active};
 ghost use Rattle.capnp_model.specs.Schemas.{width};
-ghost use Rattle.capnp_model.specs.Segments.{words_at};
-ghost use Rattle.capnp_model.specs.Trees.{Tree, child, null};
+ghost use Rattle.capnp_model.specs.Trees.{Tree, child};
 ghost use Rattle.capnp_units.specs.Segments.{words_in};
-ghost use Rattle.capnp_wire_objects.specs.Places.{place_view};
-ghost use Rattle.capnp_wire.specs.Reads.{is_null_pointer};
 ghost use Rattle.capnp_wire.specs.Views.{seen_struct, pointer_field};
 ghost use Rattle.capnp_values_queries.specs.Fields.{union_in};
 ghost use Rattle.capnp_values_queries.specs.Handles.{entry_of_field, plain_of};
 ghost use Rattle.capnp_values_queries.specs.Structs.{shape_of_struct};
 ghost use Rattle.capnp_copy_arenas.specs.Refusals.{IsSizeOrRefusal};
+ghost use Rattle.capnp_copy_arenas.specs.States.{HasWords};
 ghost use Rattle.capnp_schema_structs.specs.GroupRefusals.{ChildRefused};
 ghost use Rattle.capnp_values.specs.Standing.{LeadsToValue};
-ghost use Rattle.capnp_schema_structs.specs.GroupSets.{IsSource, PutsAny, entry_turn};
+ghost use Rattle.capnp_schema_structs.specs.GroupWrites.{GroupSource};
+ghost use Rattle.capnp_schema_structs.specs.GroupSets.{IsNotNull, IsSource, PutsChild, entry_turn};
 ghost use Rattle.capnp_schema_structs.specs.Sources.{StandsIfRefused};
 
 use capnp_copy_arenas::arena::BuilderArena;
@@ -38,9 +35,9 @@ fn is_active<B: ReaderArena>(
     schema: StructSchema<'_>,
     member: u16,
 ) -> bool
-    ensures { (from : Cell) → IsSource (seen_struct B.segments source.now) from
+    ensures { (from : GroupSource) → IsSource (seen_struct B.segments source.now) from
         → result ≡ is_active (Some member)
-        (discriminant (union_in (shape_of_struct schema.entry)) whole_words from.section) }
+        (discriminant (union_in (shape_of_struct schema.entry)) from.extent from.section) }
 {
     // For the proof, which cites how many bits the section has.
     let _section = source.section();
@@ -57,7 +54,7 @@ pub(crate) fn has_turn<B: ReaderArena>(
     field: Field<'_>,
     members: bool,
 ) -> bool
-    ensures { (from : Cell) → IsSource (seen_struct B.segments source.now) from
+    ensures { (from : GroupSource) → IsSource (seen_struct B.segments source.now) from
         → result ≡ entry_turn members (union_in (shape_of_struct field.entry.parent))
         (entry_of_field field.entry) from }
 {
@@ -68,14 +65,14 @@ pub(crate) fn has_turn<B: ReaderArena>(
     members && is_active(source, field.parent(), member)
 }
 
-/// The bits of a plain slot of what is read.
+/// The bits of a plain slot of what is read: zero unless they lie wholly in its data section.
 pub(crate) fn bits_in<B: ReaderArena>(
     source: &StructReader<'_, B>,
     ty: PlainType,
     offset: u32,
 ) -> u64
-    ensures bits { (from : Cell) → IsSource (seen_struct B.segments source.now) from
-        → result ≡ field_bits whole_words from.section (width (plain_of ty) * offset)
+    ensures bits { (from : GroupSource) → IsSource (seen_struct B.segments source.now) from
+        → result ≡ field_bits from.extent from.section (width (plain_of ty) * offset)
         (width (plain_of ty)) }
     ensures fit { result < 2 ^ width (plain_of ty) }
 {
@@ -100,20 +97,17 @@ pub(crate) fn copy_child<A: BuilderArena, B: ReaderArena>(
     source: &StructReader<'_, B>,
     index: u32,
 ) -> Result<()>
-    requires there { is_some (words_at (words_in (A.segments arena.old)) (place_view slot) 1)
-        ≡ true }
+    requires there { HasWords (A.segments arena.old) slot 1 }
     requires near { slot.position < 2 ^ 61 }
-    requires some { is_null_pointer (pointer_field (seen_struct B.segments source.now) index) ≡ false }
-    ensures puts { (from : Cell) → IsSource (seen_struct B.segments source.now) from
-        → OnOk result ((child from.kids index ≢ null) × PutsAny (words_in (A.segments arena.old))
-        (words_in (A.segments arena.new)) (place_view slot) (child from.kids index)) }
-    ensures stands { StandsIfRefused (words_in (A.segments arena.old)) (words_in (A.segments arena.new))
-        result }
+    requires some { IsNotNull (seen_struct B.segments source.now) index }
+    ensures puts { (from : GroupSource) → IsSource (seen_struct B.segments source.now) from
+        → OnOk result (PutsChild A.segments arena.old arena.new slot (child from.kids index)) }
+    ensures stands { StandsIfRefused (words_in (A.segments arena.old))
+        (words_in (A.segments arena.new)) result }
     ensures why { IfErr result (ChildRefused (IsSizeOrRefusal A.refuses)
         (seen_struct B.segments source.now) index (words_in (A.segments arena.new))) }
-    ensures cause { (n : ℕ) (t : Tree)
-        → LeadsToValue n (pointer_field (seen_struct B.segments source.now) index) t
-        → IfErr result (IsSizeOrRefusal A.refuses) }
+    ensures cause { let p = pointer_field (seen_struct B.segments source.now) index in
+        (n : ℕ) (t : Tree) → LeadsToValue n p t → IfErr result (IsSizeOrRefusal A.refuses) }
     ensures books { A.books arena.new ≡ A.books arena.old }
 {
     let Some(levels) = source.levels() else {

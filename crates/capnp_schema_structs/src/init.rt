@@ -1,11 +1,8 @@
 //! Structs of zeros and nulls, put into slots.
 ghost use Rattle.std.specs.Prelude.{◌≡◌, ◌<◌, ◌^◌, true, option_map, IfSome, IfOk, IfErr, OnOk, OnErr};
-ghost use Rattle.std.specs.Option.{is_some};
 ghost use Rattle.capnp_model.specs.Coverage.{Grows};
-ghost use Rattle.capnp_model.specs.Segments.{words_at};
 ghost use Rattle.capnp_units.specs.Segments.{words_in};
 ghost use Rattle.capnp_units.specs.Errors.{kind_of};
-ghost use Rattle.capnp_wire_objects.specs.Places.{place_view};
 ghost use Rattle.capnp_records.specs.Sets.{nodes_of};
 ghost use Rattle.capnp_values_queries.specs.Structs.{nodes_around, schema_around, shape_of_struct, id_of};
 ghost use Rattle.capnp_values_queries.specs.Handles.{entry_of_field};
@@ -14,7 +11,7 @@ ghost use Rattle.capnp_schema_structs.specs.Inside.{HasFields, size_of_shape};
 ghost use Rattle.capnp_schema_structs.specs.Edits.{IsThere, HoldsShape};
 ghost use Rattle.capnp_schema_structs.specs.Inits.{struct_named, no_struct, is_slot, field_init_content, MakesEmptyStruct, LeadsToStruct, PutsNewStruct, LiesInField, StructNotMade};
 ghost use Rattle.capnp_copy_arenas.specs.Refusals.{IsSizeOrRefusal};
-ghost use Rattle.capnp_copy_arenas.specs.States.{state_in};
+ghost use Rattle.capnp_copy_arenas.specs.States.{HasWords, state_in};
 ghost use Rattle.capnp_schema_structs.specs.Puts.{BytesGrow, HasCause};
 
 use crate::slots::{mark, pointer_place};
@@ -79,8 +76,7 @@ fn put_struct<A: BuilderArena>(
     slot: Place,
     schema: StructSchema<'_>,
 ) -> Result<StructPlace>
-    requires there { is_some (words_at (words_in (A.segments arena.old)) (place_view slot) 1)
-        ≡ true }
+    requires there { HasWords (A.segments arena.old) slot 1 }
     requires near { slot.position < 2 ^ 61 }
     ensures made { let at = state_in A.segments A.room A.books in OnOk result
         (MakesEmptyStruct (at arena.old) (at arena.new) slot (shape_of_struct schema.entry)) }

@@ -1,16 +1,13 @@
 //! Lists of zeros, nulls and empty structs, and texts and data of zero bytes, put into slots.
 ghost use Rattle.std.specs.Prelude.{◌≡◌, ◌<◌, ◌^◌, ℕ, suc, true, IfSome, IfErr, OnOk, OnErr};
-ghost use Rattle.std.specs.Option.{is_some};
 ghost use Rattle.capnp_model.specs.Accepted.{areas_of, schema_of};
 ghost use Rattle.capnp_model.specs.Calls.{initn, initn_content, new_list};
 ghost use Rattle.capnp_model.specs.Coverage.{Grows};
 ghost use Rattle.capnp_model.specs.Kinds.{InitnIsOnlyValidForListTextOrDataFields};
-ghost use Rattle.capnp_model.specs.Segments.{words_at};
 ghost use Rattle.capnp_model.specs.Sizes.{object_words};
 ghost use Rattle.capnp_model.specs.Trees.{plain_list, struct_list};
 ghost use Rattle.capnp_units.specs.Segments.{words_in};
 ghost use Rattle.capnp_units.specs.Sizes.{size_number};
-ghost use Rattle.capnp_wire_objects.specs.Places.{place_view};
 ghost use Rattle.capnp_records.specs.Sets.{nodes_of};
 ghost use Rattle.capnp_model_writes.specs.NewObjects.{new_tree, zero_elements};
 ghost use Rattle.capnp_copy_arenas.specs.Lists.{zeros_of};
@@ -23,7 +20,7 @@ ghost use Rattle.capnp_schema_structs.specs.Edits.{IsThere};
 ghost use Rattle.capnp_schema_structs.specs.Calls.{edit_of};
 ghost use Rattle.capnp_schema_structs.specs.NewLists.{tree_of_new, IsMade, content_of_list, initn_field, ObjectNotMade};
 ghost use Rattle.capnp_copy_arenas.specs.Refusals.{IsSizeOrRefusal};
-ghost use Rattle.capnp_copy_arenas.specs.States.{state_in};
+ghost use Rattle.capnp_copy_arenas.specs.States.{HasWords, state_in};
 ghost use Rattle.capnp_schema_structs.specs.Puts.{BytesGrow, HasCause, PutsContent};
 
 use crate::init::struct_size;
@@ -97,8 +94,7 @@ pub fn list_for(set: &SchemaSet, ty: Type) -> Option<NewList>
 /// Puts a text of n zero bytes, and one behind them, in place of the value of the pointer at a
 /// place, which is cleared.
 fn put_text<A: BuilderArena>(arena: &mut A, slot: Place, count: u32) -> Result<()>
-    requires there { is_some (words_at (words_in (A.segments arena.old)) (place_view slot) 1)
-        ≡ true }
+    requires there { HasWords (A.segments arena.old) slot 1 }
     requires near { slot.position < 2 ^ 61 }
     ensures made { let at = state_in A.segments A.room A.books in
         let t = plain_list 2 (suc count) 0 in
@@ -123,8 +119,7 @@ fn put_elements<A: BuilderArena>(
     size: ElementSize,
     count: u32,
 ) -> Result<()>
-    requires there { is_some (words_at (words_in (A.segments arena.old)) (place_view slot) 1)
-        ≡ true }
+    requires there { HasWords (A.segments arena.old) slot 1 }
     requires near { slot.position < 2 ^ 61 }
     requires plain { size_number size < 7 }
     ensures made { let at = state_in A.segments A.room A.books in
@@ -149,8 +144,7 @@ fn put_structs<A: BuilderArena>(
     size: StructSize,
     count: u32,
 ) -> Result<()>
-    requires there { is_some (words_at (words_in (A.segments arena.old)) (place_view slot) 1)
-        ≡ true }
+    requires there { HasWords (A.segments arena.old) slot 1 }
     requires near { slot.position < 2 ^ 61 }
     ensures made { let at = state_in A.segments A.room A.books in
         let t = struct_list size.data_words size.pointers (zero_elements count size.pointers) in
@@ -173,8 +167,7 @@ pub fn put_list<A: BuilderArena>(
     list: NewList,
     count: u32,
 ) -> Result<()>
-    requires there { is_some (words_at (words_in (A.segments arena.old)) (place_view slot) 1)
-        ≡ true }
+    requires there { HasWords (A.segments arena.old) slot 1 }
     requires near { slot.position < 2 ^ 61 }
     requires made { IsMade list }
     ensures made { let at = state_in A.segments A.room A.books in let t = tree_of_new list count in

@@ -84,8 +84,8 @@ pub fn copy_root<A: BuilderArena>(arena: &mut A, slot: Place, words: &[Word]) ->
     ensures puts { (t : Tree) → tree_at 64 (default_segments words.now) root ≡ Some t
         → OnOk result (PutsAny (words_in (A.segments arena.old)) (words_in (A.segments arena.new))
         (place_view slot) t) }
-    ensures stands { StandsIfRefused (words_in (A.segments arena.old)) (words_in (A.segments arena.new))
-        result }
+    ensures stands { StandsIfRefused (words_in (A.segments arena.old))
+        (words_in (A.segments arena.new)) result }
     ensures why { IfErr result (CopyRefused (IsSizeOrRefusal A.refuses) 64
         (default_segments words.now) root (words_in (A.segments arena.new))) }
     ensures books { A.books arena.new ≡ A.books arena.old }

@@ -1,15 +1,12 @@
 //! Values without pointers, set into slots.
-ghost use Rattle.std.specs.Prelude.{◌≡◌, ◌*◌, ◌<◌, ◌^◌, true, length, option_map, IfSome, IfErr, OnOk, OnErr};
-ghost use Rattle.std.specs.Option.{is_some};
+ghost use Rattle.std.specs.Prelude.{◌≡◌, ◌*◌, ◌<◌, ◌^◌, length, option_map, IfSome, IfErr, OnOk, OnErr};
 ghost use Rattle.capnp_model.specs.Accepted.{areas_of};
 ghost use Rattle.capnp_model.specs.Calls.{blob_tree};
 ghost use Rattle.capnp_model.specs.Coverage.{Grows};
 ghost use Rattle.capnp_model.specs.Schemas.{width};
 ghost use Rattle.capnp_model.specs.Sections.{words_for};
-ghost use Rattle.capnp_model.specs.Segments.{words_at};
 ghost use Rattle.capnp_units.specs.Segments.{words_in};
 ghost use Rattle.capnp_units.specs.Errors.{kind_of};
-ghost use Rattle.capnp_wire_objects.specs.Places.{place_view};
 ghost use Rattle.capnp_layout_builders.specs.Making.{Makes, BytesNotSet};
 ghost use Rattle.capnp_values_queries.specs.Structs.{shape_of_struct};
 ghost use Rattle.capnp_values_queries.specs.Handles.{entry_of_field, plain_of};
@@ -19,7 +16,7 @@ ghost use Rattle.capnp_schema_structs.specs.Blobs.{list_bytes_of};
 ghost use Rattle.capnp_schema_structs.specs.Edits.{IsThere};
 ghost use Rattle.capnp_schema_structs.specs.Given.{plain_given, bits_given, bytes_given, pointer_refusal, set_content, set_edit};
 ghost use Rattle.capnp_copy_arenas.specs.Refusals.{IsSizeOrRefusal};
-ghost use Rattle.capnp_copy_arenas.specs.States.{state_in};
+ghost use Rattle.capnp_copy_arenas.specs.States.{HasWords, state_in};
 ghost use Rattle.capnp_schema_structs.specs.Puts.{HasCause, PutsContent};
 
 use crate::slots::{mark, pointer_place, width_of};
@@ -91,14 +88,14 @@ fn blob_for<'a, B>(ty: Type, value: &Reader<'a, B>) -> Option<Blob<'a>>
 ///   pad counted, would pass 2^29 - 1;
 /// - else as the allocator refuses.
 pub fn put_blob<A: BuilderArena>(arena: &mut A, slot: Place, blob: Blob<'_>) -> Result<()>
-    requires there { is_some (words_at (words_in (A.segments arena.old)) (place_view slot) 1)
-        ≡ true }
+    requires there { HasWords (A.segments arena.old) slot 1 }
     requires near { slot.position < 2 ^ 61 }
     ensures made { let at = state_in A.segments A.room A.books in OnOk result
         (Makes (at arena.old) (at arena.new) slot (blob_tree (list_bytes_of blob.entry))
         (words_for (8 * length (list_bytes_of blob.entry)))) }
     ensures refused { let at = state_in A.segments A.room A.books in IfErr result
-        (BytesNotSet (at arena.old) (at arena.new) slot.segment (length (list_bytes_of blob.entry))) }
+        (BytesNotSet (at arena.old) (at arena.new) slot.segment
+        (length (list_bytes_of blob.entry))) }
     ensures cause { IfErr result (IsSizeOrRefusal A.refuses) }
     ensures grows { OnOk result
         (Grows (words_in (A.segments arena.old)) (words_in (A.segments arena.new))) }

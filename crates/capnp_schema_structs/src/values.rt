@@ -231,7 +231,8 @@ pub fn set_value<'a, A: BuilderArena, B: ReaderArena>(
     ensures puts { let at = state_of A.segments A.room A.books in
         PutsGiven (IsSizeOrRefusal A.refuses) (at memory.old) (at memory.new) object field.entry
         (value_given B.segments value.now (entry_of_field field.entry)) result }
-    ensures leaves { LeavesUnlessGroup (value_given B.segments value.now (entry_of_field field.entry))
+    ensures leaves { LeavesUnlessGroup
+        (value_given B.segments value.now (entry_of_field field.entry))
         (words_in (A.segments memory.old.arena)) (words_in (A.segments memory.new.arena)) result }
     ensures flat { is_flat value.now ≡ true → OnErr result
         (A.segments memory.new.arena ≡ A.segments memory.old.arena) }

@@ -8,7 +8,7 @@ ghost use Rattle.capnp_schema_structs.specs.Builders.{IsReady};
 ghost use Rattle.capnp_schema_structs.specs.Edits.{IsThere, HoldsShape};
 ghost use Rattle.capnp_calls.specs.Roots.{IsRoot};
 
-use crate::fixtures::set_of;
+use crate::fixtures::{root, schema_of, set_of};
 use crate::own_type::{begun, finish};
 use capnp_calls::reply::Reply;
 use capnp_calls::{Call, CallValue, Step, Verb};
@@ -20,20 +20,29 @@ use capnp_copy_arenas::laws_of_arenas::arenas_are_deep;
 use capnp_copy_arenas::segments::BuilderArenaImpl;
 use capnp_layout_builders::struct_builder::StructBuilder;
 use capnp_message_allocators::heap::HeapAllocator;
+use capnp_records::set::SchemaSet;
 use capnp_schema_structs::dynamic_struct::Builder;
 use capnp_units::kinds::ErrorKind;
+use capnp_values::dynamic_value::Reader;
 use capnp_values_queries::laws::struct_is_node;
 use capnp_values_queries::structs::StructSchema;
+use capnp_wire_objects::arena::ReaderArenaImpl;
 use std::alloc::Global;
 use std::test::Fail;
 
-/// U (3): u, v UInt16 in a union. D (4): n UInt16 with default 5.
+/// U (3): u, v UInt16 in a union. D (4): n UInt16 with default 5. G (5): group g (6) of x UInt16.
+/// L (7): gs a list of G.
 const SCHEMAS: &str = r#"[
     {"id":3,"name":"U","data":1,"pointers":0,"union":1,"fields":[
         {"name":"u","discriminant":0,"type":"UInt16","offset":0},
         {"name":"v","discriminant":1,"type":"UInt16","offset":0}]},
     {"id":4,"name":"D","data":1,"pointers":0,"fields":[
-        {"name":"n","type":"UInt16","offset":0,"default":5}]}]"#;
+        {"name":"n","type":"UInt16","offset":0,"default":5}]},
+    {"id":5,"name":"G","data":1,"pointers":0,"fields":[{"name":"g","group":6}]},
+    {"id":6,"name":"g","data":1,"pointers":0,"group":true,"fields":[
+        {"name":"x","type":"UInt16","offset":0}]},
+    {"id":7,"name":"L","data":0,"pointers":1,"fields":[
+        {"name":"gs","type":{"list":{"struct":5}},"offset":0}]}]"#;
 
 /// A call at the field of a name.
 fn at(alloc: Global, name: &str, verb: Verb, value: Option<CallValue>) -> Result<Call, Fail> {
@@ -151,5 +160,66 @@ fn numbers_are_set_beside_their_defaults(rt: HostRuntime) -> Result<(), Fail> {
     assert!(rt; *missing == ErrorKind::FieldNotFound);
     assert!(rt; zero.as_slice() == b"0".as_slice());
     assert!(rt; bytes.as_slice() == &[0, 0, 0, 0, 1, 0, 0, 0, 5, 0, 0, 0, 0, 0, 0, 0][..]);
+    Ok(())
+}
+
+/// L, whose list has one element, 7: of one byte and of two.
+const BYTE: &[u8] = &[
+    0, 0, 0, 0, 0, 0, 1, 0, 1, 0, 0, 0, 10, 0, 0, 0, 7, 0, 0, 0, 0, 0, 0, 0,
+];
+
+const SHORT: &[u8] = &[
+    0, 0, 0, 0, 0, 0, 1, 0, 1, 0, 0, 0, 11, 0, 0, 0, 7, 0, 0, 0, 0, 0, 0, 0,
+];
+
+/// Sets the group of a struct to that of such an element.
+fn set_from<A: BuilderArena>(
+    builder: &mut Builder<'_, A>,
+    set: &SchemaSet,
+    words: &[u8],
+) -> Result<(), Fail>
+    requires { IsReady A.segments builder.old }
+    ensures same { builder.new.memory.ghost_name ≡ builder.old.memory.ghost_name }
+    ensures ready { IsReady A.segments builder.new }
+{
+    let segments = [words];
+    let arena = ReaderArenaImpl::new(segments.as_slice(), 64);
+    if let Reader::List(list) = root(&arena, set, 7)?.get_named("gs")? {
+        if list.len() > 0 {
+            if let Reader::Struct(element) = list.get(0)? {
+                return Ok(builder.set_named("g", element.get_named("g")?)?);
+            }
+        }
+    }
+    Err("no element".into())
+}
+
+/// The same of two elements, one after the other, at a new struct at the root.
+fn set_twice<A: BuilderArena>(
+    memory: &mut Memory<A>,
+    set: &SchemaSet,
+    words: [&[u8]; 2],
+) -> Result<(), Fail> {
+    let schema = schema_of(set, 5)?;
+    let place = begun(memory, schema)?;
+    let mut builder = builder_of(memory, place, schema);
+    set_from(&mut builder, set, words[0])?;
+    set_from(&mut builder, set, words[1])
+}
+
+/// A number that doesn't lie wholly in the element is set to zero.
+#[test]
+fn groups_of_elements_of_numbers(rt: HostRuntime) -> Result<(), Fail> {
+    let set = set_of(rt.alloc(), SCHEMAS)?;
+    for (words, left) in [([BYTE, SHORT], 7), ([SHORT, BYTE], 0)] {
+        let mut memory = Memory {
+            arena: BuilderArenaImpl::new(rt.alloc(), HeapAllocator::new(rt.alloc())),
+        };
+        let done = set_twice(&mut memory, &set, words);
+        let Memory { arena } = memory;
+        let bytes = finish(rt.alloc(), arena);
+        done?;
+        assert!(rt; bytes?.as_slice() == &[0, 0, 0, 0, 1, 0, 0, 0, left, 0, 0, 0, 0, 0, 0, 0][..]);
+    }
     Ok(())
 }

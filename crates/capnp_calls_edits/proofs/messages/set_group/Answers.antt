@@ -13,6 +13,7 @@ use Rattle.std.proofs.lemmas.Result.{err_from_is_err_and}
 use Rattle.capnp_copy_arenas.specs.Refusals.{IsSizeOrRefusal}
 use Rattle.capnp_model.specs.Calls.{set_to, message}
 use Rattle.capnp_values_queries.specs.Structs.{schema_around}
+use Rattle.capnp_schema_structs.specs.GroupWrites.{in_words}
 use Rattle.capnp_schema_structs.specs.GroupFaults.{IsFieldFaultless}
 use Rattle.capnp_calls_edits.specs.Written.{WhereFieldTakes}
 use Rattle.capnp_calls_edits.proofs.Claims.{on_err}
@@ -34,7 +35,7 @@ returns-clause-writes g c =
     let x = root_behind c.gets_are_readings.ensures.structs _ (default_segments ws) (Some 2147483646) (ap (λ (x : PointerView). x.place) c.at.ensures) segments level t holds gives.0 gives.1 _ gives.3 in
     let s = words_in (g.A.ReaderArena.segments c.args.arena.now) in
     let u = words_in (g.A.ReaderArena.segments c.set_fields.new.arena) in
-    group_set c.groups_set_by_writes.ensures.whole x.from t x.words x.root c.args.field c.requires.group.0 c.requires.group.1 s u c.args.object c.set_fields.result (c.set_fields.ensures.sets.writes x.from x.source)
+    group_set c.groups_set_by_writes.ensures.whole x.from t x.words x.root c.args.field c.requires.group.0 c.requires.group.1 s u c.args.object c.set_fields.result (c.set_fields.ensures.sets.writes (in_words x.from) x.source)
 
 pub returns-in_err-root-clause-cause : goal.returns-in_err-root-clause-cause
 returns-in_err-root-clause-cause g c =
@@ -58,5 +59,5 @@ returns-clause-cause g c =
     let segments = ap (λ (x : PointerView). x.basis.segments) c.at.ensures ∙ ap (λ (x : Ground). x.segments) c.default_backing-backing.ensures in
     let levels = ap (λ (x : PointerView). x.levels) c.at.ensures in
     let x = root_stands c.gets_are_readings.ensures.structs _ (default_segments ws) 2147483646 (ap (λ (x : PointerView). x.place) c.at.ensures) segments levels refl t holds (omega arith) gives.0 gives.1 _ gives.3 in
-    on_err c.set_fields.result (λ e. IsFieldFaultless f x.from → IsSizeOrRefusal g.A.BuilderArena.refuses e) (λ e. WhereFieldTakes f (set_to (message t)) (IsSizeOrRefusal g.A.BuilderArena.refuses e))
-    (λ e told cell is_done. told (field_faultless f c.requires.group.0 c.requires.group.1 t cell x.words x.from x.root_is is_done)) (c.set_fields.ensures.sets.cause x.from x.stands)
+    on_err c.set_fields.result (λ e. IsFieldFaultless f (in_words x.from) → IsSizeOrRefusal g.A.BuilderArena.refuses e) (λ e. WhereFieldTakes f (set_to (message t)) (IsSizeOrRefusal g.A.BuilderArena.refuses e))
+    (λ e told cell is_done. told (field_faultless f c.requires.group.0 c.requires.group.1 t cell x.words x.from x.root_is is_done)) (c.set_fields.ensures.sets.cause (in_words x.from) x.stands)

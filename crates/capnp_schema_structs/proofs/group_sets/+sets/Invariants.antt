@@ -1,11 +1,12 @@
 -- A field of a group is less deep than the group.
 use Rattle.std.proofs.Common.{◌≡◌, ◌+◌, ◌*◌}
 use Rattle.capnp_model.specs.Coverage.{Grows}
-use Rattle.capnp_model.specs.Edits.{Cell, after_writes}
+use Rattle.capnp_model.specs.Edits.{after_writes}
 use Rattle.capnp_units.specs.Segments.{words_in}
 use Rattle.capnp_wire.specs.Views.{seen_struct}
 use Rattle.capnp_values_queries.specs.Structs.{shape_of_struct, fields_of_struct}
 use Rattle.capnp_schema_structs.proofs.Groups.{shape_depth, fields_depth}
+use Rattle.capnp_schema_structs.specs.GroupWrites.{GroupSource}
 use Rattle.capnp_schema_structs.specs.GroupSets.{IsSource, EditsAny}
 use Rattle.capnp_schema_structs.proofs.CopiedFields.{front}
 use Rattle.capnp_schema_structs.proofs.group_sets.+sets.Given as goal
@@ -27,4 +28,4 @@ abbrev pub invariant-copy_fields-loop-i : goal.invariant-copy_fields-loop-i
 invariant-copy_fields-loop-i g l =
     let s = words_in (g.A.ReaderArena.segments l.fn.arena) in
     let u = words_in (g.A.ReaderArena.segments l.arena) in
-    ((from : Cell) → IsSource (seen_struct g.B.ReaderArena.segments l.source) from → EditsAny s u l.object (after_writes (front l.schema l.members from l.i))) × Grows s u × (g.A.BuilderArena.books l.arena ≡ g.A.BuilderArena.books l.fn.arena)
+    ((from : GroupSource) → IsSource (seen_struct g.B.ReaderArena.segments l.source) from → EditsAny s u l.object (after_writes (front l.schema l.members from l.i))) × Grows s u × (g.A.BuilderArena.books l.arena ≡ g.A.BuilderArena.books l.fn.arena)
