@@ -162,8 +162,7 @@ impl<'a, A: BuilderArena> Builder<'a, A> {
     /// - one of texts or of data to one of its own;
     /// - one of structs to any struct and one of lists to any list, whatever their schema, which
     ///   are copied whole; an untyped one to these two, a text or data;
-    /// - a group to a struct of its own schema, as by
-    ///   `capnp_schema_structs::group_sets::set_group`.
+    /// - a group to a struct of its own schema, as by `group_sets::set_group`.
     ///
     /// A union member becomes the active one. A plain value takes no memory. A text or data takes
     /// the words of its list where the struct's segment has room for them, else at most one more. A
@@ -191,8 +190,7 @@ impl<'a, A: BuilderArena> Builder<'a, A> {
         set_value(self.memory, place, field, &value)
     }
 
-    /// Sets the field of a name, as by `set`. A name that the struct lacks is refused by
-    /// `FieldNotFound`, and all is as it was.
+    /// Sets the field of a name, as by `set`. `FieldNotFound`: it has none such, and all stands.
     pub fn set_named<B: ReaderArena>(
         &mut self,
         name: &str,
@@ -221,8 +219,7 @@ impl<'a, A: BuilderArena> Builder<'a, A> {
     pub fn clear_named(&mut self, name: &str) -> Result<()>
         requires ready { IsReady A.segments self.old }
         ensures same { self.new.memory.ghost_name ≡ self.old.memory.ghost_name }
-        ensures cleared { AnswersNamed self.old.schema
-            name.now (λ f r.
+        ensures cleared { AnswersNamed self.old.schema name.now (λ f r.
             (r ≡ Ok tt) × WritesInPlace A.segments self.old self.new (edit_of f clear)) result }
         ensures refused { OnErr result (StructStays A.segments self.old self.new) }
         ensures books { A.books self.new.memory.now.arena ≡ A.books self.old.memory.now.arena }
@@ -265,8 +262,7 @@ impl<'a, A: BuilderArena> Builder<'a, A> {
     /// group lies, which `part` lends as it stands, and nothing of an untyped field. A group and an
     /// untyped field take no memory.
     ///
-    /// It is refused as `capnp_schema_structs::begin::begin_field`, and the struct is then as it
-    /// was.
+    /// It is refused as `capnp_schema_structs::begin::begin_field`; the struct is then as it was.
     pub fn init<'b>(&mut self, field: Field<'b>) -> Result<Option<Part<'b>>>
         requires ready { IsReady A.segments self.old }
         requires field { field.parent ≡ self.old.schema }
@@ -289,8 +285,7 @@ impl<'a, A: BuilderArena> Builder<'a, A> {
     /// becomes the active one. The list takes its words, the tag of structs among them, where this
     /// one's segment has room for them, else at most one more.
     ///
-    /// It is refused as `capnp_schema_structs::initn::initn_slot`, and the struct is then as it
-    /// was.
+    /// It is refused as `capnp_schema_structs::initn::initn_slot`; the struct is then as it was.
     pub fn initn(&mut self, field: Field<'_>, count: u32) -> Result<()>
         requires ready { IsReady A.segments self.old }
         requires field { field.parent ≡ self.old.schema }
@@ -346,8 +341,7 @@ impl<'a, A: BuilderArena> Builder<'a, A> {
         initn_slot(&mut self.memory.arena, place, found, count)
     }
 
-    /// The struct to read, under its schema. Its pointers are followed under the arena's nesting
-    /// limit.
+    /// The struct to read, under its schema and the arena's nesting limit.
     pub fn reborrow_as_reader(&self) -> dynamic_struct::Reader<'_, A>
         requires ready { IsReady A.segments self.now }
         ensures source { struct_seen A.segments result.source
