@@ -5,5 +5,6 @@ mod Rooms
 mod Owning
 mod Building
 mod Blobs
+mod Slots
 mod NullRoot
 mod Refused

@@ -1,7 +1,6 @@
 //! Handles that know where their values lie, and are made at a pointer of a message that is built.
 ghost use Rattle.std.specs.Prelude.{◌≡◌, ◌⊎◌, ◌+◌, ◌<◌, ◌^◌, ◌↔◌, ℕ, None, IfOk, IfErr, OnErr};
 ghost use Rattle.capnp_model.specs.Segments.{Segments};
-ghost use Rattle.capnp_units.specs.Segments.{words_in};
 ghost use Rattle.capnp_units.specs.declared.errors.Error.{Error};
 ghost use Rattle.capnp_units.specs.declared.kinds.ErrorKind.TheVariants.{SizeOverflow};
 ghost use Rattle.capnp_units.specs.declared.sizes.StructSize.{StructSize};
@@ -14,6 +13,7 @@ ghost use Rattle.capnp_copy_arenas.specs.States.{HasWords};
 ghost use Rattle.capnp_copy_arenas.specs.declared.fields.StructPlace.{StructPlace};
 ghost use Rattle.capnp_layout_builders.specs.Blobs.{DataMade, TextMade, DataGot, NoDataGot, TextGot, NoTextGot};
 ghost use Rattle.capnp_layout_builders.specs.Inputs.{IsTooLong};
+ghost use Rattle.capnp_layout_builders.specs.Making.{memory_words};
 ghost use Rattle.capnp_message.specs.Built.{rooted, words_held, place_held, loans_held, NoRootMade, IsSizeOrRefusalOf};
 ghost use Rattle.capnp_message.specs.Placed.{root_slot, StructPlaced, StructIsTooLarge, StructFound, NoStructFound, NoRootFound};
 
@@ -34,7 +34,7 @@ pub use capnp_units::sizes::StructSize;
 use capnp_wire_objects::place::{Place, ROOT};
 
 /// A handle that knows where its value lies and holds no memory, so that its calls take the memory
-/// of the message. One over a struct is a `PlacedStruct`.
+/// of the message. One over a struct is a `PlacedStruct`. The pointer's word stays where it is.
 pub trait Placed: Sized {
     /// From the segments before to those then, what is made in place of the value at a place, with
     /// a count, and the handle.
@@ -58,16 +58,14 @@ pub trait Placed: Sized {
     fn init_at<A: BuilderArena>(memory: &mut Memory<A>, place: Place, length: u32) -> Result<Self>
         requires there { HasWords (A.segments memory.old.arena) place 1 }
         requires near { place.position < 2 ^ 61 }
+        ensures there { HasWords (A.segments memory.new.arena) place 1 }
         ensures books { A.books memory.new.arena ≡ A.books memory.old.arena }
-        ensures made { IfOk result (λ o.
-            is_made (words_in (A.segments memory.old.arena))
-            (words_in (A.segments memory.new.arena)) place length o) }
+        ensures made { let at = memory_words A.segments in IfOk result (λ o.
+            is_made (at memory.old) (at memory.new) place length o) }
         ensures refused { OnErr result
             (A.segments memory.new.arena ≡ A.segments memory.old.arena) }
-        ensures kind { IfErr result (λ e.
-            (e.kind ≡ SizeOverflow)
-            ↔ is_too_large length
-            (total_words (words_in (A.segments memory.old.arena)))) }
+        ensures kind { let at = memory_words A.segments in IfErr result (λ e.
+            (e.kind ≡ SizeOverflow) ↔ is_too_large length (total_words (at memory.old))) }
         ensures cause { IfErr result (λ e. IsSizeOrRefusal A.refuses e) };
 
     /// The value that the pointer names.
@@ -76,13 +74,12 @@ pub trait Placed: Sized {
     fn get_at<A: BuilderArena>(memory: &mut Memory<A>, place: Place) -> Result<Self>
         requires there { HasWords (A.segments memory.old.arena) place 1 }
         requires near { place.position < 2 ^ 61 }
+        ensures there { HasWords (A.segments memory.new.arena) place 1 }
         ensures books { A.books memory.new.arena ≡ A.books memory.old.arena }
-        ensures got { IfOk result (λ o.
-            is_got (words_in (A.segments memory.old.arena))
-            (words_in (A.segments memory.new.arena)) place o) }
-        ensures refused { IfErr result (λ e.
-            is_not_got (words_in (A.segments memory.old.arena))
-            (words_in (A.segments memory.new.arena)) place e) };
+        ensures got { let at = memory_words A.segments in IfOk result (λ o.
+            is_got (at memory.old) (at memory.new) place o) }
+        ensures refused { let at = memory_words A.segments in IfErr result (λ e.
+            is_not_got (at memory.old) (at memory.new) place e) };
 }
 
 /// A handle over a struct, which is made of the place where the struct lies.
@@ -120,16 +117,14 @@ fn init_struct_at<A: BuilderArena>(
 ) -> Result<StructPlace>
     requires there { HasWords (A.segments memory.old.arena) place 1 }
     requires near { place.position < 2 ^ 61 }
+    ensures there { HasWords (A.segments memory.new.arena) place 1 }
     ensures books { A.books memory.new.arena ≡ A.books memory.old.arena }
-    ensures made { IfOk result
-        (StructPlaced size (words_in (A.segments memory.old.arena))
-        (words_in (A.segments memory.new.arena)) place) }
+    ensures made { let at = memory_words A.segments in IfOk result
+        (StructPlaced size (at memory.old) (at memory.new) place) }
     ensures refused { OnErr result
         (A.segments memory.new.arena ≡ A.segments memory.old.arena) }
-    ensures kind { IfErr result (λ e.
-        (e.kind ≡ SizeOverflow)
-        ↔ StructIsTooLarge size
-        (total_words (words_in (A.segments memory.old.arena)))) }
+    ensures kind { let at = memory_words A.segments in IfErr result (λ e.
+        (e.kind ≡ SizeOverflow) ↔ StructIsTooLarge size (total_words (at memory.old))) }
     ensures cause { IfErr result (λ e. IsSizeOrRefusal A.refuses e) }
 {
     init_struct(&mut memory.arena, place, size)
@@ -144,13 +139,12 @@ fn get_struct_at<A: BuilderArena>(
 ) -> Result<StructPlace>
     requires there { HasWords (A.segments memory.old.arena) place 1 }
     requires near { place.position < 2 ^ 61 }
+    ensures there { HasWords (A.segments memory.new.arena) place 1 }
     ensures books { A.books memory.new.arena ≡ A.books memory.old.arena }
-    ensures got { IfOk result
-        (StructFound size (words_in (A.segments memory.old.arena))
-        (words_in (A.segments memory.new.arena)) place) }
-    ensures refused { IfErr result
-        (NoStructFound size (words_in (A.segments memory.old.arena))
-        (words_in (A.segments memory.new.arena)) place) }
+    ensures got { let at = memory_words A.segments in IfOk result
+        (StructFound size (at memory.old) (at memory.new) place) }
+    ensures refused { let at = memory_words A.segments in IfErr result
+        (NoStructFound size (at memory.old) (at memory.new) place) }
 {
     struct_or_default(&mut memory.arena, place, size, None)
 }

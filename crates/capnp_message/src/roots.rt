@@ -10,6 +10,7 @@ ghost use Rattle.capnp_units.specs.declared.kinds.ErrorKind.TheVariants.{SizeOve
 ghost use Rattle.capnp_copy_arenas.specs.Allocations.{total_words};
 ghost use Rattle.capnp_copy_arenas.specs.States.{HasWords};
 ghost use Rattle.capnp_copy_arenas.specs.Values.{Becomes};
+ghost use Rattle.capnp_layout_builders.specs.Making.{StaysAt, memory_words};
 ghost use Rattle.capnp_wire_objects.specs.Places.{seen};
 ghost use Rattle.capnp_wire.specs.Views.{seen_pointer};
 ghost use Rattle.capnp_message.specs.Built.{used_bytes, rooted, words_held, place_held, loans_held, HasNoRootWord, NoRootMade, IsSizeOrRefusalOf};
@@ -76,19 +77,16 @@ pub(crate) fn begin<A: BuilderArena>(arena: &mut A) -> Result<()>
 pub fn root_of<A: BuilderArena>(memory: &mut Memory<A>) -> Result<PointerBuilder<'_, A>>
     ensures same { IfOk result (λ p. p.memory.ghost_name ≡ memory.entry.ghost_name) }
     ensures place { IfOk result (λ p. p.place ≡ root_slot) }
-    ensures rooted { IfOk result (λ p. words_in (A.segments p.memory.now.arena)
-        ≡ rooted (words_in (A.segments memory.entry.now.arena))) }
+    ensures rooted { let at = memory_words A.segments in IfOk result (λ p.
+        at p.memory.now ≡ rooted (at memory.entry.now)) }
     ensures there { IfOk result (λ p. HasWords (A.segments p.memory.now.arena) root_slot 1) }
-    ensures books { IfOk result (λ p. A.books p.memory.now.arena
-        ≡ A.books memory.entry.now.arena) }
+    ensures books { IfOk result (λ p.
+        A.books p.memory.now.arena ≡ A.books memory.entry.now.arena) }
     ensures kind { IfErr result (λ e. e.kind ≢ SizeOverflow) }
-    ensures cause { IfErr result (λ e.
-        HasNoRootWord (words_in (A.segments memory.entry.now.arena)) e
-        ⊎ A.refuses memory.entry.now.arena 1 e.kind) }
-    ensures* refused { sem 𝓛 (RestsIfErr (the_row A.row) memory.entry
-        (λ p. p.memory.ghost_name) result (λ n. (A.segments n.arena
-        ≡ A.segments memory.entry.now.arena)
-        × (A.books n.arena ≡ A.books memory.entry.now.arena))) }
+    ensures cause { let m = memory.entry.now in IfErr result (λ e.
+        HasNoRootWord (memory_words A.segments m) e ⊎ A.refuses m.arena 1 e.kind) }
+    ensures* refused { let m = memory.entry in sem 𝓛 (RestsIfErr (the_row A.row) m
+        (λ p. p.memory.ghost_name) result (StaysAt A.segments A.books m.now)) }
 {
     begin(&mut memory.arena)?;
     Ok(PointerBuilder {

@@ -44,12 +44,12 @@ pub(crate) fn put_blob<A: BuilderArena>(
     requires there { IsListThere (words_in (A.segments arena.old)) list }
     requires pointer { HasPointer list }
     requires index { index < list.count }
-    ensures puts { let at = state_in A.segments A.room A.books in OnOk result
-        (PutsElementObject (at arena.old) (at arena.new) list
-        (λ words pointers. put_child 0 (blob_tree (list_bytes_of blob.entry))) index
-        (object_words (blob_tree (list_bytes_of blob.entry)))) }
-    ensures refused { let at = state_in A.segments A.room A.books in IfErr result
-        (NewObjectRefused (at arena.old) list.start.segment (blob_tree (list_bytes_of blob.entry))) }
+    ensures puts { let t = blob_tree (list_bytes_of blob.entry) in
+        let at = state_in A.segments A.room A.books in OnOk result (PutsElementObject
+        (at arena.old) (at arena.new) list (λ words pointers. put_child 0 t) index
+        (object_words t)) }
+    ensures refused { let t = blob_tree (list_bytes_of blob.entry) in IfErr result
+        (NewObjectRefused (state_in A.segments A.room A.books arena.old) list.start.segment t) }
     ensures cause { IfErr result (IsSizeOrRefusal A.refuses) }
     ensures stays { OnErr result (A.segments arena.new ≡ A.segments arena.old) }
     ensures grows { Grows (words_in (A.segments arena.old)) (words_in (A.segments arena.new)) }

@@ -271,9 +271,9 @@ impl<'a, A: BuilderArena> Builder<'a, A> {
         requires ready { IsReadyList A.segments self.old }
         requires index { index < self.old.place.count }
         ensures same { self.new.memory.ghost_name ≡ self.old.memory.ghost_name }
-        ensures sets { let ty = ty_of self.old.element_type in
-            SetsElementByHandle A.segments A.room A.books (IsSizeOrRefusal A.refuses) self.old self.new
-            (element_edit value.entry ty) index (element_given B.segments value.entry ty) result }
+        ensures sets { let ty = ty_of self.old.element_type in SetsElementByHandle A.segments A.room
+            A.books (IsSizeOrRefusal A.refuses) self.old self.new (element_edit value.entry ty)
+            index (element_given B.segments value.entry ty) result }
         ensures refused { struct_given B.segments value.entry (ty_of self.old.element_type) ≡ None
             → OnErr result (KeepsWords A.segments self.old self.new) }
         ensures flat { is_flat value.entry ≡ true

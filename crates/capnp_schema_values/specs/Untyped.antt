@@ -1,11 +1,14 @@
 -- Untyped pointers that are built. (Encoding, "Pointers")
-use Rattle.std.specs.Prelude.{◌≡◌, ◌==◌, ◌<◌, ◌^◌, ℕ, ℤ, Bool, true, List, map, length, unwrap_or, Option, Ok}
+use Rattle.std.specs.Prelude.{◌≡◌, ◌↔◌, ◌==◌, ◌<◌, ◌^◌, ℕ, ℤ, Bool, true, List, map, length, unwrap_or, Option, Result, Ok, IfOk, IfErr, OnErr}
 use Rattle.std.specs.Option.{is_some}
 use Rattle.capnp_model.specs.Segments.{Segments, word_at, words_at}
 use Rattle.capnp_units.specs.Segments.{words_in}
+use Rattle.capnp_units.specs.declared.errors.Error.{Error}
+use Rattle.capnp_units.specs.declared.kinds.ErrorKind.TheVariants.{SizeOverflow}
 use Rattle.capnp_wire_objects.specs.declared.place.Place as code
 use Rattle.capnp_wire_objects.specs.Places.{place_view}
 use Rattle.capnp_wire.specs.Views.{PointerView, pointer_at}
+use Rattle.capnp_copy_arenas.specs.Allocations.{total_words}
 use Rattle.capnp_copy_arenas.specs.Clearing.{ClearsValue}
 use Rattle.capnp_copy_arenas.specs.declared.arena.Memory.{Memory}
 use Rattle.capnp_layout_builders.specs.Gets.{Begins}
@@ -40,6 +43,15 @@ module _ {A : Type 0} (bytes : A → List (List ℕ)) where
     pub place : new.place ≡ old.place
     pub sizes : map length (words_around_pointer new) ≡ map length (words_around_pointer old)
     pub clears : ClearsValue (words_around_pointer old) (words_around_pointer new) (place_view old.place)
+
+  -- A value is made there, with a count, and its handle returned. Or it is refused, with
+  -- `SizeOverflow` exactly where it is too large, else as `told` says, and all words stand.
+  pub record InitsAs {X : Type 0} (books : A → List (List ℕ)) (told : Error → Type 0) (Made : Segments → Segments → code.Place → ℕ → X → Type 0) (TooLarge : ℕ → ℕ → Type 0) (count : ℕ) (old new : Builder A) (r : Result X Error) : Type 0 where
+    pub made : IfOk r (Made (words_around_pointer old) (words_around_pointer new) old.place count)
+    pub refused : OnErr r (bytes new.memory.now.arena ≡ bytes old.memory.now.arena)
+    pub kind : IfErr r (λ e. (e.kind ≡ SizeOverflow) ↔ TooLarge count (total_words (words_around_pointer old)))
+    pub cause : IfErr r told
+    pub books : books new.memory.now.arena ≡ books old.memory.now.arena
 
   -- The pointer that was made null, by the handle that it was made of.
   abbrev pub IsMadeNull : PointerBuilder A → Builder A → Type 0

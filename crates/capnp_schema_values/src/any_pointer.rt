@@ -7,12 +7,13 @@ ghost use Rattle.capnp_model.specs.Segments.{words_at};
 ghost use Rattle.capnp_units.specs.Segments.{words_in};
 ghost use Rattle.capnp_copy_arenas.specs.contracts.arena.Memory.{the_row};
 ghost use Rattle.capnp_copy_arenas.specs.Clearing.{ClearsValue};
+ghost use Rattle.capnp_copy_arenas.specs.Refusals.{IsSizeOrRefusal};
 ghost use Rattle.capnp_layout_builders.specs.Gets.{Begins};
 ghost use Rattle.capnp_layout_builders.specs.Making.{StaysAt};
 ghost use Rattle.capnp_wire_objects.specs.Places.{place_view};
 ghost use Rattle.capnp_wire.specs.ValueSizes.{PointerSize};
 ghost use Rattle.capnp_values.specs.Sources.{WithoutLimit, pointer_seen};
-ghost use Rattle.capnp_schema_values.specs.Untyped.{IsPointerThere, IsReadyPointer, ClearsUntyped, IsMadeNull, IsGotAsItIs, LeavesAs, is_built_null, pointer_view_of, words_around_pointer};
+ghost use Rattle.capnp_schema_values.specs.Untyped.{IsPointerThere, IsReadyPointer, ClearsUntyped, InitsAs, IsMadeNull, IsGotAsItIs, LeavesAs, is_built_null, pointer_view_of, words_around_pointer};
 
 use crate::inputs::PointerInput;
 use capnp_copy_arenas::arena::{BuilderArena, Memory};
@@ -21,7 +22,7 @@ use capnp_layout_builders::gets::begin;
 use capnp_layout_builders::owned;
 use capnp_layout_builders::owned::FromPointerBuilder;
 use capnp_layout_builders::pointer_builder::PointerBuilder;
-use capnp_message::placed::{OwnedPlaced, PointerPlace};
+use capnp_message::placed::{OwnedPlaced, Placed, PointerPlace};
 use capnp_units::errors::Result;
 use capnp_units::sizes::{MessageSize, Word};
 use capnp_values::any_pointer::Reader;
@@ -95,7 +96,8 @@ impl<'a, A: BuilderArena> Builder<'a, A> {
     /// It is refused, and bounded in time and stack, as `PointerReader::total_size` is where there
     /// is no limit of words.
     pub fn target_size(&self) -> Result<MessageSize>
-        ensures { WithoutLimit (PointerSize (pointer_view_of A.segments A.nesting self.now)) result }
+        ensures { WithoutLimit (PointerSize (pointer_view_of A.segments A.nesting self.now))
+            result }
     {
         self.reborrow_as_reader().target_size()
     }
@@ -112,59 +114,64 @@ impl<'a, A: BuilderArena> Builder<'a, A> {
         clear(&mut self.memory.arena, place);
     }
 
-    /// The value that the pointer names, as a type, to write.
-    ///
-    /// It is refused as the type says. What stands then is told by the type's own
-    /// `get_from_pointer`, which can be called of the memory and the place.
-    pub fn get_as<T: FromPointerBuilder<'a, A>>(self) -> Result<T>
-        requires ready { IsReadyPointer A.segments self }
-        ensures same { IfOk result
-            (λ o. (T.memory_of o).ghost_name ≡ self.entry.memory.ghost_name) }
-        ensures got { IfOk result (λ o. T.is_got None (words_around_pointer A.segments self.entry)
-            (words_in (A.segments (T.memory_of o).now.arena)) self.entry.place o) }
-        ensures books { IfOk result (λ o.
-            A.books (T.memory_of o).now.arena ≡ A.books self.entry.memory.now.arena) }
+    /// The pointer, of which a type's own `get_from_pointer` and `init_pointer` make handles that
+    /// hold its memory.
+    pub fn into_pointer(self) -> PointerBuilder<'a, A>
+        ensures same { result.memory.ghost_name ≡ self.entry.memory.ghost_name }
+        ensures now { result.memory.now ≡ self.entry.memory.now }
+        ensures place { result.place ≡ self.entry.place }
     {
         let Builder { memory, place } = self;
-        T::get_from_pointer(PointerBuilder { memory, place }, None)
+        PointerBuilder { memory, place }
     }
 
-    /// A new value of a type, with n bytes or elements, in place of the pointer's, which is
-    /// cleared; types that count none don't look at the size.
+    /// The handle of the value that the pointer names, as a type. It knows where the value lies.
     ///
-    /// It is refused with `SizeOverflow` exactly where the type says so, else as the allocator
-    /// refuses. That all stands then as it was is told by the type's own `init_pointer`, which can
-    /// be called of the memory and the place.
-    pub fn initn_as<T: FromPointerBuilder<'a, A>>(self, size: u32) -> Result<T>
-        requires ready { IsReadyPointer A.segments self }
-        ensures same { IfOk result
-            (λ o. (T.memory_of o).ghost_name ≡ self.entry.memory.ghost_name) }
-        ensures made { IfOk result (λ o. T.is_made (words_around_pointer A.segments self.entry)
-            (words_in (A.segments (T.memory_of o).now.arena)) self.entry.place size o) }
-        ensures books { IfOk result (λ o.
-            A.books (T.memory_of o).now.arena ≡ A.books self.entry.memory.now.arena) }
-        ensures kind { IfErr result (T.is_not_made (words_around_pointer A.segments self.entry) size) }
+    /// It is refused as the type says, which tells what stands then.
+    pub fn get_as<T: Placed>(&mut self) -> Result<T>
+        requires ready { IsReadyPointer A.segments self.old }
+        ensures same { self.new.memory.ghost_name ≡ self.old.memory.ghost_name }
+        ensures place { self.new.place ≡ self.old.place }
+        ensures got { IfOk result (T.is_got (words_around_pointer A.segments self.old)
+            (words_around_pointer A.segments self.new) self.old.place) }
+        ensures refused { IfErr result (T.is_not_got (words_around_pointer A.segments self.old)
+            (words_around_pointer A.segments self.new) self.old.place) }
+        ensures books { A.books self.new.memory.now.arena ≡ A.books self.old.memory.now.arena }
+        ensures ready { IsReadyPointer A.segments self.new }
     {
-        let Builder { memory, place } = self;
-        T::init_pointer(PointerBuilder { memory, place }, size)
+        let place = self.place;
+        T::get_at(self.memory, place)
     }
 
-    /// A new value of a type in place of the pointer's, which is cleared: `initn_as` without bytes
-    /// or elements.
+    /// Puts a new value of a type, with n bytes or elements, in place of the pointer's, which is
+    /// cleared, and returns its handle. Types that count none don't look at the size.
     ///
-    /// It is refused as by `initn_as`.
-    pub fn init_as<T: FromPointerBuilder<'a, A>>(self) -> Result<T>
-        requires ready { IsReadyPointer A.segments self }
-        ensures same { IfOk result
-            (λ o. (T.memory_of o).ghost_name ≡ self.entry.memory.ghost_name) }
-        ensures made { IfOk result (λ o. T.is_made (words_around_pointer A.segments self.entry)
-            (words_in (A.segments (T.memory_of o).now.arena)) self.entry.place 0 o) }
-        ensures books { IfOk result (λ o.
-            A.books (T.memory_of o).now.arena ≡ A.books self.entry.memory.now.arena) }
-        ensures kind { IfErr result (T.is_not_made (words_around_pointer A.segments self.entry) 0) }
+    /// It is refused, and all words stand as they were,
+    /// - with `SizeOverflow` exactly where the value is too large for the message;
+    /// - else as the allocator refuses.
+    pub fn initn_as<T: Placed>(&mut self, size: u32) -> Result<T>
+        requires ready { IsReadyPointer A.segments self.old }
+        ensures same { self.new.memory.ghost_name ≡ self.old.memory.ghost_name }
+        ensures place { self.new.place ≡ self.old.place }
+        ensures init { InitsAs A.segments A.books (IsSizeOrRefusal A.refuses) T.is_made
+            T.is_too_large size self.old self.new result }
+        ensures ready { IsReadyPointer A.segments self.new }
     {
-        let Builder { memory, place } = self;
-        T::init_pointer(PointerBuilder { memory, place }, 0)
+        let place = self.place;
+        T::init_at(self.memory, place, size)
+    }
+
+    /// Puts a new value of a type in place of the pointer's, which is cleared, and returns its
+    /// handle: `initn_as` without bytes or elements.
+    pub fn init_as<T: Placed>(&mut self) -> Result<T>
+        requires ready { IsReadyPointer A.segments self.old }
+        ensures same { self.new.memory.ghost_name ≡ self.old.memory.ghost_name }
+        ensures place { self.new.place ≡ self.old.place }
+        ensures init { InitsAs A.segments A.books (IsSizeOrRefusal A.refuses) T.is_made
+            T.is_too_large 0 self.old self.new result }
+        ensures ready { IsReadyPointer A.segments self.new }
+    {
+        self.initn_as(0)
     }
 
     /// Puts a value in place of the pointer's, which is cleared: a text, data, or the copy of an

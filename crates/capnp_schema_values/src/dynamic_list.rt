@@ -75,9 +75,9 @@ pub fn init<'b, A: BuilderArena>(
     ensures same { builder.new.memory.ghost_name ≡ builder.old.memory.ghost_name }
     ensures begins { let ty = ty_of builder.old.element_type in
         let s = schema_of (nodes_of builder.old.set.now) in
-        BeginsAndGets (λ b r. PutsElement A.segments A.room A.books (IsSizeOrRefusal A.refuses) builder.old
-        b (edit_element s [] (initn size) ty) index (element_content s (initn size) ty) r
-        × OnErr r (ListStays A.segments builder.old b))
+        BeginsAndGets (λ b r. PutsElement A.segments A.room A.books (IsSizeOrRefusal A.refuses)
+        builder.old b (edit_element s [] (initn size) ty) index
+        (element_content s (initn size) ty) r × OnErr r (ListStays A.segments builder.old b))
         (λ b r. GetsAt A.segments A.nesting b builder.new index r) builder.new result }
     ensures there { IfOk result (IsPlaced (words_around_list A.segments builder.new)) }
     ensures books { A.books builder.new.memory.now.arena ≡ A.books builder.old.memory.now.arena }

@@ -48,7 +48,8 @@ pub fn get<'b, A: BuilderArena>(
     requires ready { IsReady A.segments builder.old }
     requires field { field.parent ≡ builder.old.schema }
     ensures same { builder.new.memory.ghost_name ≡ builder.old.memory.ghost_name }
-    ensures gets { GetsFieldByHandle A.segments A.nesting builder.old builder.new field.entry result }
+    ensures gets { GetsFieldByHandle A.segments A.nesting builder.old builder.new field.entry
+        result }
     ensures there { IfOk result (IsPlaced (words_around_struct A.segments builder.new)) }
     ensures ready { KeepsReady A.segments builder.old builder.new }
     ensures books { A.books builder.new.memory.now.arena ≡ A.books builder.old.memory.now.arena }
@@ -115,7 +116,8 @@ pub fn initn<'b, A: BuilderArena>(
         (edit_of field.entry (initn_verb count))
         (initn_field (schema_around field.entry.parent) count (entry_of_field field.entry)) r
         × OnErr r (StructStays A.segments builder.old b))
-        (λ b r. GetsFieldByHandle A.segments A.nesting b builder.new field.entry r) builder.new result }
+        (λ b r. GetsFieldByHandle A.segments A.nesting b builder.new field.entry r) builder.new
+        result }
     ensures there { IfOk result (IsPlaced (words_around_struct A.segments builder.new)) }
     ensures books { A.books builder.new.memory.now.arena ≡ A.books builder.old.memory.now.arena }
 {

@@ -17,6 +17,7 @@ use crate::verbs::Call;
 use capnp_copy_arenas::arena::{BuilderArena, Memory};
 use capnp_layout_builders::data_builder::DataBuilder;
 use capnp_layout_builders::text_builder::TextBuilder;
+use capnp_message::placed::{DataPlace, PointerPlace, TextPlace};
 use capnp_schema_structs::init::Part;
 use capnp_schema_values::any_pointer;
 use capnp_schema_values::dynamic_value::Builder;
@@ -165,11 +166,11 @@ fn length<A: BuilderArena>(
     if !is_untyped(&value) {
         return Err(Stop::NoCall);
     }
-    let pointer = untyped_of(value);
+    let mut pointer = untyped_of(value);
     let text = if verb == "get_text" {
-        format!(in alloc; "text {}", pointer.get_as::<TextBuilder<'_, A>>()?.len())?
+        format!(in alloc; "text {}", pointer.get_as::<TextPlace>()?.0.count)?
     } else {
-        format!(in alloc; "data {}", pointer.get_as::<DataBuilder<'_, A>>()?.len())?
+        format!(in alloc; "data {}", pointer.get_as::<DataPlace>()?.0.count)?
     };
     told(alloc, text.as_str())
 }
@@ -186,16 +187,16 @@ fn begin<A: BuilderArena>(
     if !is_untyped(&value) {
         return Err(Stop::NoCall);
     }
-    let pointer = untyped_of(value);
+    let mut pointer = untyped_of(value);
     match call.verb {
         "init_text" => {
-            let _text = pointer.initn_as::<TextBuilder<'_, A>>(call.size)?;
+            let _text = pointer.initn_as::<TextPlace>(call.size)?;
         }
         "init_data" => {
-            let _data = pointer.initn_as::<DataBuilder<'_, A>>(call.size)?;
+            let _data = pointer.initn_as::<DataPlace>(call.size)?;
         }
         _ => {
-            let _null = pointer.init_as::<any_pointer::Builder<'_, A>>()?;
+            let _null = pointer.init_as::<PointerPlace>()?;
         }
     }
     Ok(Answer::Done)

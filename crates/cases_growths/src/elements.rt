@@ -15,9 +15,8 @@ use crate::marks;
 use crate::messages::{Segments, end, outcome, put_words, segments_of, small, stands, tree_of};
 use crate::schemas::{DEFAULTS, NEW, OLD, root_place, root_text, schema_of, set_of, struct_at};
 use capnp_copy_arenas::arena::{BuilderArena, Memory};
-use capnp_layout_builders::data_builder::DataBuilder;
 use capnp_layout_builders::list_builder::ListBuilder;
-use capnp_layout_builders::text_builder::TextBuilder;
+use capnp_message::placed::{DataPlace, PointerPlace, TextPlace};
 use capnp_schema_lists::dynamic_list;
 use capnp_schema_structs::init::Part;
 use capnp_schema_values::dynamic_struct::get;
@@ -156,19 +155,19 @@ fn edit_untyped<A: BuilderArena, B: ReaderArena>(
         "set_as_str" => pointer.set_as::<text::Owned, &str>("hi"),
         "set_as_struct" | "set_as_list" | "set_as_pointer" => set_untyped(&mut pointer, value),
         "initn_as_text" => {
-            let _text = pointer.initn_as::<TextBuilder<'_, A>>(2)?;
+            let _text = pointer.initn_as::<TextPlace>(2)?;
             Ok(())
         }
         "initn_as_data" => {
-            let _data = pointer.initn_as::<DataBuilder<'_, A>>(2)?;
+            let _data = pointer.initn_as::<DataPlace>(2)?;
             Ok(())
         }
         "init_as" => {
-            let _null = pointer.init_as::<any_pointer::Builder<'_, A>>()?;
+            let _null = pointer.init_as::<PointerPlace>()?;
             Ok(())
         }
         "get_as" => {
-            let _text = pointer.get_as::<TextBuilder<'_, A>>()?;
+            let _text = pointer.get_as::<TextPlace>()?;
             Ok(())
         }
         _ => Err(NO_CALL),

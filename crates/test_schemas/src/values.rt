@@ -118,12 +118,6 @@ fn handles_of_known_types(rt: HostRuntime) -> Result<(), Fail> {
     assert!(rt; sorts(&object) == 1 << 13);
     let untyped = root(&arena, &set, 8)?.get_named("p")?;
     assert!(rt; sorts(&untyped) == 1 << 15);
-    Ok(())
-}
-
-#[test]
-fn enums_of_known_types(rt: HostRuntime) -> Result<(), Fail> {
-    let set = set_of(rt.alloc(), SCHEMAS)?;
     let colours = EnumSchema::new(&set, set.enum_by_id(7).ok_or("7")?);
     let value: Reader<'_, Segments<'_>> = Reader::from(Enum::new(1, colours));
     assert!(rt; sorts(&value) == 1 << 10);

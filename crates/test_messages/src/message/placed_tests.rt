@@ -66,13 +66,6 @@ impl OwnedPlaced for LabelledNumbers {
     type Builder = Labelled;
 }
 
-/// The type of texts.
-struct Texts;
-
-impl OwnedPlaced for Texts {
-    type Builder = TextPlace;
-}
-
 /// Writes the number of a struct.
 fn put<A: BuilderArena>(memory: &mut Memory<A>, place: StructPlace, value: u32) -> Result<()>
     ensures { A.books memory.new.arena ≡ A.books memory.old.arena }
@@ -245,18 +238,6 @@ fn typed(alloc: Global) -> Result<((u32, u32), Vec<u8>)> {
     Ok((seen?, bytes?))
 }
 
-fn typed_text(alloc: Global) -> Result<Vec<u8>> {
-    let mut builder: TypedBuilder<Texts, HeapAllocator> = TypedBuilder::new_default(alloc);
-    let made = builder.initn_root(2);
-    if let Ok(text) = &made {
-        write(&mut builder.message.memory, text.0, "hi");
-    }
-    let bytes = bytes_of(alloc, builder.borrow_inner());
-    let _heap = builder.into_inner().into_allocator();
-    made?;
-    bytes
-}
-
 /// The first struct is cleared where another is made.
 #[test]
 fn typed_roots_are_made_and_got(rt: HostRuntime) -> std::result::Result<(), Fail> {
@@ -267,8 +248,5 @@ fn typed_roots_are_made_and_got(rt: HostRuntime) -> std::result::Result<(), Fail
         0, 0, 0, 0, 0, 0, 0, 0, 0, 0,
     ];
     assert!(rt; bytes.as_slice() == expected.as_slice());
-    let text = typed_text(rt.alloc())?;
-    let expected = [1u8, 0, 0, 0, 0x1a, 0, 0, 0, 0x68, 0x69, 0, 0, 0, 0, 0, 0];
-    assert!(rt; text.as_slice() == expected.as_slice());
     Ok(())
 }

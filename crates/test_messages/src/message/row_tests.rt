@@ -4,10 +4,10 @@ ghost use Rattle.capnp_copy_arenas.specs.Memory.{AllZero};
 
 use capnp_copy_arenas::allocator::Allocator;
 use capnp_message::message::{
-    Builder, DEFAULT_READER_OPTIONS, HeapAllocator, ReaderOptions, ScratchSpaceHeapAllocator,
+    Builder, DEFAULT_READER_OPTIONS, HeapAllocator, ScratchSpaceHeapAllocator,
     SingleSegmentAllocator,
 };
-use capnp_message::serialize::{read_message, try_read_message, write_message_to_words};
+use capnp_message::serialize::{read_message, write_message_to_words};
 use capnp_text::text;
 use capnp_units::errors::{Error, Result};
 use capnp_units::kinds::ErrorKind;
@@ -155,46 +155,5 @@ fn a_message_without_words_is_passed_by(rt: HostRuntime) -> std::result::Result<
     assert!(rt; none.err() == Some(Error::from(ErrorKind::OutOfBounds)));
     let null = over_each(rt.alloc(), input, None)?;
     assert!(rt; null.as_slice() == &NONE_THEN_NULL[8..]);
-    Ok(())
-}
-
-#[test]
-fn the_end_of_input_is_told(rt: HostRuntime) -> std::result::Result<(), Fail> {
-    let mut cut: &[u8] = &[0, 0, 0, 0];
-    let refused = try_read_message(rt.alloc(), &mut cut, ReaderOptions::new());
-    let kind = ErrorKind::FailedToFillTheWholeBuffer;
-    assert!(rt; refused.err() == Some(Error::from(kind)));
-    let mut none: &[u8] = &[];
-    assert!(rt; try_read_message(rt.alloc(), &mut none, ReaderOptions::new())?.is_none());
-    Ok(())
-}
-
-/// The words and the bytes of the frame of a message whose root is a text.
-fn greeted<L: Allocator>(alloc: Global, allocator: &mut L) -> Result<(usize, usize)>
-    requires { length (L.loans allocator.old) ≤ 1 }
-    ensures loans { L.loans allocator.new ≡ L.loans allocator.old }
-    ensures place { L.place allocator.new ≡ L.place allocator.old }
-{
-    let mut builder = Builder::new(alloc, allocator);
-    let done = builder.set_root::<text::Owned, &str>("Hello, World!");
-    let words = builder.size_in_words();
-    let bytes = match done {
-        Ok(()) if builder.memory.arena.len() > 0 => write_message_to_words(alloc, &builder),
-        Ok(()) => Err(Error::from(ErrorKind::OutOfBounds)),
-        Err(e) => Err(e),
-    };
-    let _back = builder.into_allocator();
-    Ok((words, bytes?.len()))
-}
-
-#[test]
-fn a_text_is_three_words_over_each_allocator(rt: HostRuntime) -> std::result::Result<(), Fail> {
-    assert!(rt; greeted(rt.alloc(), &mut HeapAllocator::new(rt.alloc()))? == (3, 32));
-    let mut region = [0xeeu8; 24];
-    let mut scratch = ScratchSpaceHeapAllocator::new(rt.alloc(), &mut region);
-    assert!(rt; greeted(rt.alloc(), &mut scratch)? == (3, 32));
-    drop(scratch);
-    let mut single = SingleSegmentAllocator::new(&mut region);
-    assert!(rt; greeted(rt.alloc(), &mut single)? == (3, 32));
     Ok(())
 }

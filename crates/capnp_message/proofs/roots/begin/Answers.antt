@@ -1,4 +1,4 @@
-use Rattle.std.proofs.Common.{◌≡◌, inr, sym, [], refl}
+use Rattle.std.proofs.Common.{◌≡◌, inr, sym, []}
 use Rattle.capnp_model.specs.Segments.{Segments}
 use Rattle.capnp_units.specs.Segments.{words_in}
 use Rattle.capnp_message.proofs.Building.{no_first, rooted_none, root_there}

@@ -1,4 +1,4 @@
-use Rattle.std.proofs.Common.{◌≡◌, ◌⊎◌, ◌^◌, ◌≤◌, inl, inr, length, ℕ, Option, ap, sym, ◌∙◌, arith}
+use Rattle.std.proofs.Common.{inl, inr, length, ℕ, Option, ap, sym, ◌∙◌, arith}
 use Rattle.std.specs.Prelude.{unwrap_or}
 use Rattle.capnp_model.specs.Answers.{levels}
 use Rattle.capnp_model.specs.Segments.{root}

@@ -1,5 +1,4 @@
-use Rattle.std.proofs.Common.{◌≡◌, inl, inr, ℕ, ◌*◌, ◌/◌, length, map, take, ap, sym, ◌∙◌, arith}
-use Rattle.capnp_units.specs.Segments.{words_in}
+use Rattle.std.proofs.Common.{◌≡◌, inl, inr, ◌/◌, length, ap, arith}
 use Rattle.capnp_message.specs.Built.{used_words}
 use Rattle.capnp_message.proofs.Building.{first_there, first_words, no_words}
 use Rattle.capnp_message.proofs.builder.Builder.set_words.Goals as goal
