@@ -22,7 +22,6 @@ pub enum Backing<'a, A> {
 }
 
 /// The default value of these words.
-#[inline(always)]
 pub fn default_backing<'a, A: ReaderArena>(words: &'a [Word]) -> Backing<'a, A>
     ensures { ground_of A.segments result ≡ default_ground words.now }
 {
@@ -30,7 +29,6 @@ pub fn default_backing<'a, A: ReaderArena>(words: &'a [Word]) -> Backing<'a, A>
 }
 
 /// n words of bytes, from a position on.
-#[inline(always)]
 fn words_of(bytes: &[u8], position: usize, words: usize) -> &[u8]
     requires { position + words ≤ length bytes.now / 8 }
     ensures len { length result.now ≡ 8 * words }
@@ -42,7 +40,6 @@ fn words_of(bytes: &[u8], position: usize, words: usize) -> &[u8]
 
 impl<'a, A: ReaderArena> Backing<'a, A> {
     /// The bytes of a segment, or none past the last.
-    #[inline(always)]
     pub fn segment(self, id: SegmentId) -> Option<&'a [u8]>
         ensures { option_copied result ≡ slice_get (backing_bytes A.segments self.entry) id }
     {
@@ -53,7 +50,6 @@ impl<'a, A: ReaderArena> Backing<'a, A> {
     }
 
     /// The bytes of n words from a place on, lent in place.
-    #[inline(always)]
     pub fn lend(self, start: Place, words: usize) -> &'a [u8]
         requires { AreThere (words_in (backing_bytes A.segments self)) (place_view start) words }
         ensures len { length result.now ≡ 8 * words }
@@ -72,7 +68,6 @@ impl<A: ReaderArena> ReaderArena for Backing<'_, A> {
 
     ghost nesting = { λ b. pos 2147483647 };
 
-    #[inline(always)]
     fn get_segment(&self, id: SegmentId) -> Option<&[u8]> {
         self.segment(id)
     }

@@ -8,7 +8,6 @@ use capnp_units::errors::{Error, Result};
 use capnp_units::kinds::ErrorKind;
 
 /// The levels of a nesting limit. No value keeps a negative one, null included.
-#[inline(always)]
 pub fn levels_of(nesting_limit: i32) -> Option<u32>
     ensures { result ≡ levels nesting_limit }
 {
@@ -20,7 +19,6 @@ pub fn levels_of(nesting_limit: i32) -> Option<u32>
 
 /// The levels that are left behind the pointers of a struct or a list, which takes one. It is
 /// refused with `NestingLimitExceeded` where there is none.
-#[inline(always)]
 pub fn level_below(levels: Option<u32>) -> Result<Option<u32>>
     ensures { seen (λ l. l) result ≡ level_below levels }
 {

@@ -3,9 +3,6 @@
 //!
 //! Numbers lie in words of eight bytes, the lowest byte first. A reader stands over an arena of
 //! segments or over a default value, and what it follows is paid for from a `ReadLimiter`.
-//!
-//! Gets are inlined into their callers: there the compiler drops the cases that can't come, and
-//! readers aren't passed through memory. The relay's program costs as much with it as without.
 #![tactic(auto)]
 
 pub mod backing;

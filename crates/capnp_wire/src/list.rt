@@ -49,7 +49,6 @@ impl<A> Clone for ListReader<'_, A> {
 impl<A> Copy for ListReader<'_, A> {}
 
 /// The words from the first of n elements to the end of the last; those of pointers aren't counted.
-#[inline(always)]
 fn words_of_steps(size: ElementSize, count: u32, data_words: u16, pointers: u16) -> usize
     ensures { result ≡ words_for (step_bits (size_number size) data_words pointers * count) }
 {
@@ -65,7 +64,6 @@ impl<'a, A: ReaderArena> ListReader<'a, A> {
     ghost use Rattle.capnp_wire.specs.Views.{ground_of, seen_pointer, seen_struct, seen_list, list_view, list_at, element_as_struct, element_number, pointer_field};
 
     /// A list of these parts.
-    #[inline(always)]
     pub(crate) fn of_parts(
         backing: Backing<'a, A>,
         bytes: &'a [u8],
@@ -97,7 +95,6 @@ impl<'a, A: ReaderArena> ListReader<'a, A> {
     }
 
     /// The empty list of elements of a size.
-    #[inline(always)]
     pub(crate) fn empty(backing: Backing<'a, A>, size: ElementSize, levels: Option<u32>) -> Self
         ensures { seen_list A.segments result
             ≡ list_view (ground_of A.segments backing.entry) size 0 0 root 0 0 levels }
@@ -120,7 +117,6 @@ impl<'a, A: ReaderArena> ListReader<'a, A> {
     /// The list of n elements of a size that begins at a place of an arena, where its words are:
     /// behind the tag for structs, which have such sections. Its pointers are followed under the
     /// arena's nesting limit.
-    #[inline(always)]
     pub fn at(
         arena: &'a A,
         start: Place,
@@ -147,7 +143,6 @@ impl<'a, A: ReaderArena> ListReader<'a, A> {
     }
 
     /// What the list stands on, where its pointers are followed.
-    #[inline(always)]
     pub fn backing(&self) -> Backing<'a, A>
         ensures { ground_of A.segments result ≡ (seen_list A.segments self.now).basis }
     {
@@ -156,7 +151,6 @@ impl<'a, A: ReaderArena> ListReader<'a, A> {
 
     /// The bytes of the elements from the first to the end of the last, lent in place, with those
     /// of the structs' pointers. Bits behind the last element may be any.
-    #[inline(always)]
     pub fn bytes(&self) -> &'a [u8]
         ensures section { let l = seen_list A.segments self.now in
             let bits = step_bits (size_number l.size) l.data_words l.pointers * l.count in
@@ -169,7 +163,6 @@ impl<'a, A: ReaderArena> ListReader<'a, A> {
     }
 
     /// Where the first element begins, if there is one.
-    #[inline(always)]
     pub fn start(&self) -> Place
         ensures place { place_view result ≡ (seen_list A.segments self.now).start }
         ensures near { let l = seen_list A.segments self.now in
@@ -180,7 +173,6 @@ impl<'a, A: ReaderArena> ListReader<'a, A> {
     }
 
     /// The size of the elements, as the list has it.
-    #[inline(always)]
     pub fn element_size(&self) -> ElementSize
         ensures { result ≡ (seen_list A.segments self.now).size }
     {
@@ -188,7 +180,6 @@ impl<'a, A: ReaderArena> ListReader<'a, A> {
     }
 
     /// How many data words and pointers each struct has; 0 and 0 where there are no structs.
-    #[inline(always)]
     pub fn struct_size(&self) -> StructSize
         ensures { let l = seen_list A.segments self.now in
             (result.data_words ≡ l.data_words) × (result.pointers ≡ l.pointers) }
@@ -201,7 +192,6 @@ impl<'a, A: ReaderArena> ListReader<'a, A> {
 
     /// How many levels may be followed from each pointer; `None` where not even the list's own was
     /// left.
-    #[inline(always)]
     pub fn levels(&self) -> Option<u32>
         ensures { result ≡ (seen_list A.segments self.now).levels }
     {
@@ -209,7 +199,6 @@ impl<'a, A: ReaderArena> ListReader<'a, A> {
     }
 
     /// How many elements there are.
-    #[inline(always)]
     pub fn len(&self) -> u32
         ensures { result ≡ (seen_list A.segments self.now).count }
     {
@@ -217,7 +206,6 @@ impl<'a, A: ReaderArena> ListReader<'a, A> {
     }
 
     /// Whether there is no element.
-    #[inline(always)]
     pub fn is_empty(&self) -> bool
         ensures { result ≡ ((seen_list A.segments self.now).count == 0) }
     {
@@ -225,7 +213,6 @@ impl<'a, A: ReaderArena> ListReader<'a, A> {
     }
 
     /// The bits from one element to the next; those of pointers aren't counted.
-    #[inline(always)]
     fn step_bits(&self) -> usize
         ensures { result ≡ step_bits (size_number self.now.size) self.now.data_words
             self.now.pointers }
@@ -239,7 +226,6 @@ impl<'a, A: ReaderArena> ListReader<'a, A> {
     }
 
     /// The bits of data in an element.
-    #[inline(always)]
     fn element_bits(&self) -> usize
         ensures { result ≡ element_bits (size_number self.now.size) self.now.data_words }
     {
@@ -250,7 +236,6 @@ impl<'a, A: ReaderArena> ListReader<'a, A> {
     }
 
     /// The words from the pointers of one element to those of the next.
-    #[inline(always)]
     fn step_words(&self) -> usize
         ensures { result ≡ step_words (size_number self.now.size) self.now.data_words
             self.now.pointers }
@@ -262,7 +247,6 @@ impl<'a, A: ReaderArena> ListReader<'a, A> {
     }
 
     /// The pointers in an element.
-    #[inline(always)]
     fn element_pointers(&self) -> u16
         ensures { result ≡ element_pointers (size_number self.now.size) self.now.pointers }
     {
@@ -274,7 +258,6 @@ impl<'a, A: ReaderArena> ListReader<'a, A> {
     }
 
     /// The bytes of an element's data.
-    #[inline(always)]
     fn element_section(&self, index: u32) -> &'a [u8]
         requires index { index < self.now.count }
         requires bytes { size_number self.now.size ≢ 1 }
@@ -293,7 +276,6 @@ impl<'a, A: ReaderArena> ListReader<'a, A> {
 
     /// An element as a struct: a plain one has exactly its bits, a pointer is its only pointer.
     /// Elements of one bit can't be read so.
-    #[inline(always)]
     pub fn get_struct_element(&self, index: u32) -> StructReader<'a, A>
         requires index { index < (seen_list A.segments self.now).count }
         requires bytes { size_number (seen_list A.segments self.now).size ≢ 1 }
@@ -316,7 +298,6 @@ impl<'a, A: ReaderArena> ListReader<'a, A> {
     }
 
     /// The first pointer of an element; null where it has none.
-    #[inline(always)]
     pub fn get_pointer_element(&self, index: u32) -> PointerReader<'a, A>
         requires { index < (seen_list A.segments self.now).count }
         ensures { seen_pointer A.segments result
@@ -340,7 +321,6 @@ impl<'a, A: ReaderArena> ListReader<'a, A> {
     }
 
     /// The number at the front of an element, 0 where the element is narrower.
-    #[inline(always)]
     pub fn number<T: Primitive + Zero>(&self, index: u32) -> T
         requires { index < (seen_list A.segments self.now).count }
         ensures { result ≡ T.from_bits
@@ -353,7 +333,6 @@ impl<'a, A: ReaderArena> ListReader<'a, A> {
     }
 
     /// The lowest bit of an element, false where it has none.
-    #[inline(always)]
     pub fn bit(&self, index: u32) -> bool
         requires { index < (seen_list A.segments self.now).count }
         ensures { result ≡ (element_number (seen_list A.segments self.now) index 1 == 1) }

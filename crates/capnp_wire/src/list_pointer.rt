@@ -22,7 +22,6 @@ use capnp_wire_objects::place::Place;
 impl<'a, A: ReaderArena> PointerReader<'a, A> {
     /// A list whose bytes are lent, where a level is left and its elements can be read as ones of
     /// the expected size.
-    #[inline(always)]
     fn list_of(
         &self,
         expected: ElementSize,
@@ -62,7 +61,6 @@ impl<'a, A: ReaderArena> PointerReader<'a, A> {
     }
 
     /// The list behind the pointer; null is the empty list of the expected size.
-    #[inline(always)]
     fn list_here(
         &self,
         limiter: &mut ReadLimiter,
@@ -109,7 +107,6 @@ impl<'a, A: ReaderArena> PointerReader<'a, A> {
     /// It is refused as a struct is, and with `WrongElementSize` where its elements are too narrow.
     /// Single bits are read as single bits alone, and never from structs. Any other element has to
     /// have the bits and the pointers of the expected one, which for `InlineComposite` are none.
-    #[inline(always)]
     pub fn get_list(
         &self,
         limiter: &mut ReadLimiter,
@@ -131,7 +128,6 @@ impl<'a, A: ReaderArena> PointerReader<'a, A> {
 
 /// Whether elements of a size can be read as ones of an expected size. Structs have n data words
 /// and pointers.
-#[inline(always)]
 fn is_accepted(expected: ElementSize, size: ElementSize, data_words: u16, pointers: u16) -> bool
     ensures { result ≡ is_accepted_as (size_number expected) (list_head size data_words pointers) }
 {

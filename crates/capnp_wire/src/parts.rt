@@ -11,7 +11,6 @@ impl<'a, A: ReaderArena> PointerReader<'a, A> {
     ghost use Rattle.capnp_wire.specs.Views.{ground_of, seen_pointer};
 
     /// What the pointer stands on, where its value is.
-    #[inline(always)]
     pub fn backing(&self) -> Backing<'a, A>
         ensures { ground_of A.segments result ≡ (seen_pointer A.segments self.now).basis }
     {
@@ -19,7 +18,6 @@ impl<'a, A: ReaderArena> PointerReader<'a, A> {
     }
 
     /// Where the pointer stands, if it does; a pointer that stands nowhere is null.
-    #[inline(always)]
     pub fn place(&self) -> Option<Place>
         ensures { option_map place_view result ≡ (seen_pointer A.segments self.now).place }
     {
@@ -27,7 +25,6 @@ impl<'a, A: ReaderArena> PointerReader<'a, A> {
     }
 
     /// How many levels may be followed from the pointer; none under a negative limit.
-    #[inline(always)]
     pub fn levels(&self) -> Option<u32>
         ensures { result ≡ (seen_pointer A.segments self.now).levels }
     {

@@ -53,7 +53,6 @@ impl<'a, A: ReaderArena> PointerReader<'a, A> {
 
     /// The pointer at a place of an arena, under the arena's nesting limit. Whether its word is
     /// there is seen when it is read.
-    #[inline(always)]
     pub fn at(arena: &'a A, place: Place) -> Self
         ensures { seen_pointer A.segments result
             ≡ pointer_at (A.segments arena.now) (A.nesting arena.now) (place_view place) }
@@ -66,7 +65,6 @@ impl<'a, A: ReaderArena> PointerReader<'a, A> {
     }
 
     /// The pointer again, lent for a shorter time.
-    #[inline(always)]
     pub fn reborrow(&self) -> Self
         ensures { result ≡ self.now }
     {
@@ -74,7 +72,6 @@ impl<'a, A: ReaderArena> PointerReader<'a, A> {
     }
 
     /// Whether there is no pointer here, or a word of zeros.
-    #[inline(always)]
     pub fn is_null(&self) -> bool
         ensures { result ≡ is_null_pointer (seen_pointer A.segments self.now) }
     {
@@ -87,7 +84,6 @@ impl<'a, A: ReaderArena> PointerReader<'a, A> {
     /// The root of a default, read in place, with the levels that are left here. It is the pointer
     /// itself where it isn't null, where there is no default, or where the default's root is null.
     /// Nothing is followed or paid for.
-    #[inline(always)]
     pub fn with_default(&self, default: Option<&'a [Word]>) -> Self
         ensures { seen_pointer A.segments result
             ≡ with_default (seen_pointer A.segments self.now) (option_copied default.entry) }
@@ -110,7 +106,6 @@ impl<'a, A: ReaderArena> PointerReader<'a, A> {
     }
 
     /// What the pointer names, paid for; null is followed to nothing, and a default costs nothing.
-    #[inline(always)]
     pub(crate) fn reach(&self, limiter: &mut ReadLimiter) -> Result<Object>
         ensures object { GetGives (λ o. o) (λ o. Ok o) (seen_pointer A.segments self.now)
             limiter.old result limiter.new }
@@ -133,7 +128,6 @@ impl<'a, A: ReaderArena> PointerReader<'a, A> {
     }
 
     /// The struct behind the pointer; null is the empty struct.
-    #[inline(always)]
     fn struct_here(&self, limiter: &mut ReadLimiter) -> Result<StructReader<'a, A>>
         ensures { GetGives (seen_struct A.segments)
             (read_struct (ground_of A.segments self.now.backing) self.now.levels)
@@ -159,7 +153,6 @@ impl<'a, A: ReaderArena> PointerReader<'a, A> {
     }
 
     /// The bytes of the byte list behind the pointer, and none of null.
-    #[inline(always)]
     fn bytes_here(&self, limiter: &mut ReadLimiter) -> Result<Option<&'a [u8]>>
         ensures { GetGives option_copied
             (read_bytes (ground_of A.segments self.now.backing) self.now.levels)
@@ -186,7 +179,6 @@ impl<'a, A: ReaderArena> PointerReader<'a, A> {
     }
 
     /// The data behind the pointer; null is none.
-    #[inline(always)]
     fn data_here(&self, limiter: &mut ReadLimiter) -> Result<&'a [u8]>
         ensures { GetGives (λ r. r.now)
             (read_blob (ground_of A.segments self.now.backing) self.now.levels)
@@ -199,7 +191,6 @@ impl<'a, A: ReaderArena> PointerReader<'a, A> {
     }
 
     /// The text behind the pointer without its zero byte; null is the empty text.
-    #[inline(always)]
     fn text_here(&self, limiter: &mut ReadLimiter) -> Result<&'a [u8]>
         ensures { GetGives (λ r. r.now)
             (read_text (ground_of A.segments self.now.backing) self.now.levels)
@@ -228,7 +219,6 @@ impl<'a, A: ReaderArena> PointerReader<'a, A> {
     ///
     /// The words are granted where they don't pass what is left, also where the get is refused
     /// then.
-    #[inline(always)]
     pub fn get_struct(
         &self,
         limiter: &mut ReadLimiter,
@@ -247,7 +237,6 @@ impl<'a, A: ReaderArena> PointerReader<'a, A> {
     ///
     /// It is refused as a struct is; with `WrongElementSize` where a list of other elements than
     /// bytes is there.
-    #[inline(always)]
     pub fn get_data(
         &self,
         limiter: &mut ReadLimiter,
@@ -265,7 +254,6 @@ impl<'a, A: ReaderArena> PointerReader<'a, A> {
     ///
     /// It is refused as data are, and with `TextWithoutZeroByte` where the last byte isn't zero or
     /// there is none.
-    #[inline(always)]
     pub fn get_text(
         &self,
         limiter: &mut ReadLimiter,
