@@ -74,7 +74,8 @@ fn base_default(alloc: Global, base: BaseType, json: &Json) -> Result<Value, Fil
 fn default_in(alloc: Global, ty: TypeRecord, json: &Json) -> Result<Value, FileFault>
     ensures ok { IfOk result (λ v. default_in_file (type_record_of ty) (view json.now)
         ≡ Some (value_of v)) }
-    ensures refused { IfErr result (IsFileRefusal (default_in_file (type_record_of ty) (view json.now))) }
+    ensures refused { IfErr result (IsFileRefusal (default_in_file (type_record_of ty)
+        (view json.now))) }
 {
     if ty.list_count > 0 {
         Ok(Value::List(hex_in(alloc, json)?))

@@ -145,7 +145,8 @@ fn annotations_of<A: ReaderArena>(
         IfOk result (λ v. annotations_among (context_view context.now) spot l l.count
         ≡ Ok (map annotation_of v.items)) }
     ensures refused { let l = seen_list A.segments list.now in
-        IfErr result (IsRequestRefusal (annotations_among (context_view context.now) spot l l.count)) }
+        IfErr result (IsRequestRefusal (annotations_among (context_view context.now) spot l
+        l.count)) }
 {
     let mut annotations = Vec::new(alloc);
     for i in 0..list.len() {
@@ -165,7 +166,8 @@ pub(crate) fn annotations_at<A: ReaderArena>(
 ) -> Result<Vec<AnnotationRecord>, RequestFault>
     ensures ok { IfOk result (λ v. annotations_at (context_view context.now) spot index
         (seen_struct A.segments reader.now) ≡ Ok (map annotation_of v.items)) }
-    ensures refused { IfErr result (IsRequestRefusal (annotations_at (context_view context.now) spot index
+    ensures refused { IfErr result (IsRequestRefusal
+        (annotations_at (context_view context.now) spot index
         (seen_struct A.segments reader.now))) }
 {
     let fault = unread(spot, Part::Annotations);

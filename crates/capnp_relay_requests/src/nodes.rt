@@ -53,7 +53,8 @@ fn enumerant_of<A: ReaderArena>(
 ) -> Result<EnumerantRecord, RequestFault>
     ensures ok { IfOk result (λ e. request_enumerant (context_view context.now) spot
         (seen_struct A.segments enumerant.now) ≡ Ok (enumerant_of e)) }
-    ensures refused { IfErr result (IsRequestRefusal (request_enumerant (context_view context.now) spot
+    ensures refused { IfErr result (IsRequestRefusal
+        (request_enumerant (context_view context.now) spot
         (seen_struct A.segments enumerant.now))) }
 {
     let name = member_name(alloc, unread(spot, Part::Name), enumerant)?;
@@ -73,7 +74,8 @@ fn enumerants_of<A: ReaderArena>(
         IfOk result (λ v. enumerants_among (context_view context.now) node l l.count
         ≡ Ok (map enumerant_of v.items)) }
     ensures refused { let l = seen_list A.segments list.now in
-        IfErr result (IsRequestRefusal (enumerants_among (context_view context.now) node l l.count)) }
+        IfErr result (IsRequestRefusal (enumerants_among (context_view context.now) node l
+        l.count)) }
 {
     let mut enumerants = Vec::new(alloc);
     for index in 0..list.len() {
@@ -110,7 +112,8 @@ fn body_of<A: ReaderArena>(
 ) -> Result<Option<NodeBody>, RequestFault>
     ensures ok { IfOk result (λ b. request_node_kind (context_view context.now) id
         (seen_struct A.segments node.now) ≡ Ok (option_map node_kind_of b)) }
-    ensures refused { IfErr result (IsRequestRefusal (request_node_kind (context_view context.now) id
+    ensures refused { IfErr result (IsRequestRefusal
+        (request_node_kind (context_view context.now) id
         (seen_struct A.segments node.now))) }
 {
     let kind = node.get_data_field::<u16>(6);

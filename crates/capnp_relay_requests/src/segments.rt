@@ -82,7 +82,8 @@ fn words_behind<A: ReaderArena>(
     alloc: Global,
     reader: &StructReader<'_, A>,
 ) -> Result<Vec<Word>, AllocError>
-    ensures { IfOk result (λ v. canonical_words_behind (pointer_field (seen_struct A.segments reader.now) 0)
+    ensures { IfOk result (λ v. canonical_words_behind
+        (pointer_field (seen_struct A.segments reader.now) 0)
         ≡ Some (words_view v.items)) }
 {
     let mut unlimited = ReadLimiter::new(None);

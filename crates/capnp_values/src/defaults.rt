@@ -57,7 +57,8 @@ pub(crate) fn null<'a>() -> PointerReader<'a, Defaults>
 ///
 /// It is refused as `PointerReader::get_struct` is; over an accepted set it isn't.
 pub(crate) fn default_struct<'a>(bytes: &'a [u8]) -> Result<StructReader<'a, Defaults>>
-    ensures { seen (seen_struct null_root_segments) result ≡ pointed_struct (default_pointer bytes.now) }
+    ensures { seen (seen_struct null_root_segments) result ≡ pointed_struct
+        (default_pointer bytes.now) }
 {
     let (words, _) = bytes.as_chunks::<8>();
     let mut unlimited = ReadLimiter::new(None);

@@ -47,14 +47,16 @@ pub fn element_size(ty: Type) -> ElementSize
 
 fn open_text<'a, A: ReaderArena>(pointer: PointerSource<'a, A>) -> Result<Reader<'a, A>>
     ensures { seen (shown A.segments) result
-        ≡ (pointed_text (pointer_seen A.segments pointer.entry) and_then λ bytes. Ok (a_text bytes)) }
+        ≡ (pointed_text (pointer_seen A.segments pointer.entry) and_then λ bytes. Ok
+        (a_text bytes)) }
 {
     Ok(Reader::Text(text::Reader(pointer.text()?)))
 }
 
 fn open_data<'a, A: ReaderArena>(pointer: PointerSource<'a, A>) -> Result<Reader<'a, A>>
     ensures { seen (shown A.segments) result
-        ≡ (pointed_data (pointer_seen A.segments pointer.entry) and_then λ bytes. Ok (a_blob bytes)) }
+        ≡ (pointed_data (pointer_seen A.segments pointer.entry) and_then λ bytes. Ok
+        (a_blob bytes)) }
 {
     Ok(Reader::Data(pointer.data()?))
 }

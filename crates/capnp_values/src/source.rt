@@ -261,7 +261,8 @@ impl<'a, A: ReaderArena> ListSource<'a, A> {
     pub(crate) fn structure(&self, index: u32) -> StructSource<'a, A>
         requires index { index < (list_seen A.segments self.now).count }
         requires bytes { size_number (size_in self.now) ≢ 1 }
-        ensures { struct_seen A.segments result ≡ element_as_struct (list_seen A.segments self.now) index }
+        ensures { struct_seen A.segments result ≡ element_as_struct
+            (list_seen A.segments self.now) index }
     {
         match self {
             ListSource::Message(reader) => StructSource::Message(reader.get_struct_element(index)),

@@ -89,7 +89,8 @@ impl<'a> Field<'a> {
 
     /// Where the field lies in its struct, with its default, or the group that it is.
     pub fn place(&self) -> FieldPlace<'a>
-        ensures body { option_map (λ e. e.body) (entry_of_field self.now) ≡ Some (body_of_place result) }
+        ensures body { option_map (λ e. e.body) (entry_of_field self.now) ≡ Some
+            (body_of_place result) }
         ensures of_set { IsPlaceIn (nodes_around self.now.parent) result }
     {
         let set = self.parent.set();

@@ -279,7 +279,8 @@ impl<'a, A: ReaderArena> ListReader<'a, A> {
     pub fn get_struct_element(&self, index: u32) -> StructReader<'a, A>
         requires index { index < (seen_list A.segments self.now).count }
         requires bytes { size_number (seen_list A.segments self.now).size ≢ 1 }
-        ensures { seen_struct A.segments result ≡ element_as_struct (seen_list A.segments self.now) index }
+        ensures { seen_struct A.segments result
+            ≡ element_as_struct (seen_list A.segments self.now) index }
     {
         let section = self.element_section(index);
         let first = Place {

@@ -220,7 +220,8 @@ impl<'a, A: ReaderArena> StructReader<'a, A> {
 
     /// Whether a pointer of the pointer section is null, as it is past its end.
     pub fn is_pointer_field_null(&self, ptr_index: WirePointerCount) -> bool
-        ensures { result ≡ is_null_pointer (pointer_field (seen_struct A.segments self.now) ptr_index) }
+        ensures { result
+            ≡ is_null_pointer (pointer_field (seen_struct A.segments self.now) ptr_index) }
     {
         self.get_pointer_field(ptr_index).is_null()
     }
