@@ -46,12 +46,12 @@ module _ {A : Type 0} (bytes : A → List (List ℕ)) where
 
   -- A value is made there, with a count, and its handle returned. Or it is refused, with
   -- `SizeOverflow` exactly where it is too large, else as `told` says, and all words stand.
-  pub record InitsAs {X : Type 0} (books : A → List (List ℕ)) (told : Error → Type 0) (Made : Segments → Segments → code.Place → ℕ → X → Type 0) (TooLarge : ℕ → ℕ → Type 0) (count : ℕ) (old new : Builder A) (r : Result X Error) : Type 0 where
+  pub record InitsAs {X : Type 0} (borrowed : A → List (List ℕ)) (told : Error → Type 0) (Made : Segments → Segments → code.Place → ℕ → X → Type 0) (TooLarge : ℕ → ℕ → Type 0) (count : ℕ) (old new : Builder A) (r : Result X Error) : Type 0 where
     pub made : IfOk r (Made (words_around_pointer old) (words_around_pointer new) old.place count)
     pub refused : OnErr r (bytes new.memory.now.arena ≡ bytes old.memory.now.arena)
     pub kind : IfErr r (λ e. (e.kind ≡ SizeOverflow) ↔ TooLarge count (total_words (words_around_pointer old)))
     pub cause : IfErr r told
-    pub books : books new.memory.now.arena ≡ books old.memory.now.arena
+    pub books : borrowed new.memory.now.arena ≡ borrowed old.memory.now.arena
 
   -- The pointer that was made null, by the handle that it was made of.
   abbrev pub IsMadeNull : PointerBuilder A → Builder A → Type 0
