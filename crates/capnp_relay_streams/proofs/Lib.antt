@@ -1,3 +1,4 @@
+mod Small
 mod Whole
 mod Reading
 mod Structs
