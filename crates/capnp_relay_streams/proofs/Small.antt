@@ -1,5 +1,5 @@
 -- What is written in the canonical form stands in a buffer, and has few words.
-use Rattle.std.proofs.Common.{◌≡◌, ℕ, ◌<◌, ◌≤◌, ◌^◌, List, [], ◌∷◌, length, omega, arith, absurd, tt}
+use Rattle.std.proofs.Common.{ℕ, ◌<◌, ◌^◌, List, [], ◌∷◌, length, arith}
 use Rattle.std.specs.Prelude.{All}
 use Rattle.std.proofs.lemmas.List.Elements.{All-push}
 use Rattle.capnp_model.proofs.lemmas.Lists.{length-take-short}
