@@ -157,3 +157,33 @@ fn a_message_without_words_is_passed_by(rt: HostRuntime) -> std::result::Result<
     assert!(rt; null.as_slice() == &NONE_THEN_NULL[8..]);
     Ok(())
 }
+
+/// The words and the bytes of the frame of a message whose root is a text.
+fn greeted<L: Allocator>(alloc: Global, allocator: &mut L) -> Result<(usize, usize)>
+    requires { length (L.loans allocator.old) ≤ 1 }
+    ensures loans { L.loans allocator.new ≡ L.loans allocator.old }
+    ensures place { L.place allocator.new ≡ L.place allocator.old }
+{
+    let mut builder = Builder::new(alloc, allocator);
+    let done = builder.set_root::<text::Owned, &str>("Hello, World!");
+    let words = builder.size_in_words();
+    let bytes = match done {
+        Ok(()) if builder.memory.arena.len() > 0 => write_message_to_words(alloc, &builder),
+        Ok(()) => Err(Error::from(ErrorKind::OutOfBounds)),
+        Err(e) => Err(e),
+    };
+    let _back = builder.into_allocator();
+    Ok((words, bytes?.len()))
+}
+
+#[test]
+fn a_text_is_three_words_over_each_allocator(rt: HostRuntime) -> std::result::Result<(), Fail> {
+    assert!(rt; greeted(rt.alloc(), &mut HeapAllocator::new(rt.alloc()))? == (3, 32));
+    let mut region = [0xeeu8; 24];
+    let mut scratch = ScratchSpaceHeapAllocator::new(rt.alloc(), &mut region);
+    assert!(rt; greeted(rt.alloc(), &mut scratch)? == (3, 32));
+    drop(scratch);
+    let mut single = SingleSegmentAllocator::new(&mut region);
+    assert!(rt; greeted(rt.alloc(), &mut single)? == (3, 32));
+    Ok(())
+}
