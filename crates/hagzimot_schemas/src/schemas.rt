@@ -166,8 +166,9 @@ fn json_file(alloc: Global, bytes: &[u8]) -> Result<Vec<NodeRecord>, FileFault>
     ensures refused { IfErr result (IsFileRefusal (json_nodes bytes.now)) }
 {
     match schema_file(alloc, bytes) {
+        Ok(nodes) => return Ok(nodes),
+        Err(FileFault::Memory) => return Err(FileFault::Memory),
         Err(FileFault::Form) => {}
-        read => return read,
     }
     match ids_as_numbers(alloc, bytes) {
         Ok(numbered) => schema_file(alloc, &numbered),
