@@ -210,7 +210,7 @@ impl Teller<'_> {
         if self.word.is_empty() {
             return Ok(());
         }
-        let word = core::mem::replace(&mut self.word, String::new(self.alloc));
+        let word = std::mem::replace(&mut self.word, String::new(self.alloc));
         let told = match self.place {
             Some(place) if place.is_float => float_word(self.alloc, place, word.as_str())?,
             _ => None,
