@@ -84,7 +84,8 @@ impl Failure {
         Failure::about(alloc, name, why)
     }
 
-    /// The failure of a JSON file that isn't one of this sort, with what is wrong where a closer look finds it.
+    /// The failure of a JSON file that isn't one of this sort, with what is wrong where a closer
+    /// look finds it.
     pub fn form(
         alloc: Global,
         name: &str,

@@ -135,7 +135,8 @@ pub fn keep(rt: &HostRuntime, name: Option<&str>) -> Result<(), Failure> {
     }
 }
 
-/// Removes the file that was written beside a name, if there is one; where it can't be removed it stays.
+/// Removes the file that was written beside a name, if there is one; where it can't be removed it
+/// stays.
 pub fn give_up(rt: &HostRuntime, name: Option<&str>) {
     let Some(name) = name else {
         return;

@@ -1,10 +1,11 @@
 //! The log of a run.
 ghost use Rattle.std.specs.Prelude.{◌≡◌, OnOk, OnErr, IfErr, ⊤};
 ghost use Rattle.std.specs.Io.Buffered.{writer_buffer};
-ghost use Rattle.capnp_stream_io.specs.Adapters.{sink_inner};
+ghost use Rattle.capnp_stream_io.specs.Adapters.{source_window, sink_inner};
 ghost use Rattle.capnp_stream_io.specs.Counting.{Rose};
 ghost use Rattle.capnp_relay_loop.specs.Streams.{sink_of};
 ghost use Rattle.capnp_relay_loop.specs.Pauses.{SinkRests, FailsInPause};
+ghost use Rattle.capnp_relay_program.specs.Flushing.{HoldsNothing};
 ghost use Rattle.capnp_units.specs.declared.kinds.ErrorKind.{ErrorKind};
 
 use crate::faults::Failure;
@@ -23,6 +24,7 @@ use capnp_stream_io::adapters::Source;
 use capnp_stream_io::traits::Write;
 use capnp_units::errors::Error;
 use capnp_units::kinds::ErrorKind;
+use hagzimot_commands::float_replies::FloatReplies;
 use hagzimot_commands::log_lines::{json_line, unedited_line};
 use std::alloc::{AllocError, Global};
 use std::cell::Cell;
@@ -46,9 +48,9 @@ pub trait RunLog: Flush + Drop {
     /// Begins with another input, and returns its tape.
     fn begin(&mut self) -> Result<Rc<Tape>, Failure>;
 
-    /// Sees to the message that was read last, before the next one, and flushes both sinks where the
-    /// source may wait. `Out`, `Log`: the sink's device failed. `Log` too: the run has to end, `end`
-    /// says why.
+    /// Sees to the message that was read last, before the next one, and flushes both sinks where
+    /// the source may wait. `Out`, `Log`: the sink's device failed. `Log` too: the run has to end,
+    /// `end` says why.
     fn turn_and_flush<F: BoundedForm>(
         &mut self,
         source: &Source<Input>,
@@ -61,7 +63,9 @@ pub trait RunLog: Flush + Drop {
         ensures err { let sink = sink_of ⟦<OutSink as Write>⟧ in
             let line = sink_of ⟦<Self as Write>⟧ in
             IfErr result (λ f. FailsInPause f (sink out.old) (sink out.new)
-            (line self.old) (line self.new)) };
+            (line self.old) (line self.new)) }
+        ensures held { OnOk result (HoldsNothing F.reader (source_window source.now)
+            (writer_buffer (sink_inner out.new)) (Self.held self.new)) };
 
     /// Hands on what the log's sinks hold at the end of an input. False where the messages that
     /// were refused can't be written.
@@ -88,6 +92,8 @@ pub struct Log {
     /// The tape of the input that is read.
     tape: Rc<Tape>,
     noted: Noted,
+    /// Where replies tell floats, if some do.
+    floats: Option<FloatReplies>,
     stats: Option<Stats>,
     /// Whether the last line was that of a message that is refused.
     at_refusal: bool,
@@ -109,6 +115,7 @@ impl Log {
             refusals,
             tape,
             noted: Rc::new(alloc, Cell::new(None))?,
+            floats: None,
             stats: None,
             at_refusal: false,
             has_unedited: false,
@@ -204,12 +211,26 @@ impl Log {
         }
     }
 
+    /// Writes the line of a message, with decimal numbers for floats where replies tell some.
+    fn put_replies(&mut self, line: &[u8]) -> Result<(), Error>
+        ensures { self.new.failures ≡ self.old.failures }
+    {
+        let told = match (&self.floats, str::from_utf8(line)) {
+            (Some(floats), Ok(text)) => floats.line(self.alloc, text),
+            _ => return self.put_line(line),
+        };
+        match told {
+            Ok(told) => self.put_line(told.as_bytes()),
+            Err(_) => Err(Error::from(ErrorKind::OutOfMemory)),
+        }
+    }
+
     /// Writes the line of a message, which is passed on unedited where a reason is given.
     fn put_told(&mut self, line: &[u8], unedited: Option<Reason>) -> Result<(), Error>
         ensures { self.new.failures ≡ self.old.failures }
     {
         let Some(reason) = unedited else {
-            return self.put_line(line);
+            return self.put_replies(line);
         };
         match unedited_line(self.alloc, line, reason) {
             Ok(line) => self.put_line(&line),
@@ -306,6 +327,7 @@ impl RunLog for Log {
         };
         let mut log = Log::new(rt, words.lines, refusals)?;
         log.noted = words.noted;
+        log.floats = words.floats;
         if words.stats {
             log.stats = Some(Stats::new(rt));
         }
@@ -356,6 +378,9 @@ pub struct TurnAndFlush<F> {
 
 impl<F: BoundedForm, L: RunLog> Pause<Source<Input>, OutSink, L> for TurnAndFlush<F> {
     ghost may_fail = { ⊤ };
+
+    ghost holds = { λ source out log. HoldsNothing F.reader (source_window source)
+        (writer_buffer (sink_inner out)) (L.held log) };
 
     #[inline(always)]
     fn pause(source: &Source<Input>, out: &mut OutSink, log: &mut L) -> Result<(), Fault> {

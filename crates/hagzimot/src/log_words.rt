@@ -2,6 +2,7 @@
 
 use crate::files::OutSink;
 use capnp_relay_loop::answer::Reason;
+use hagzimot_commands::float_replies::FloatReplies;
 use std::cell::Cell;
 use std::rc::Rc;
 
@@ -67,6 +68,8 @@ pub struct LogWords<'a> {
     /// Whether messages and bytes are counted and told.
     pub stats: bool,
     pub noted: Noted,
+    /// Where replies tell floats, if some do.
+    pub floats: Option<FloatReplies>,
 }
 
 impl LogWords<'_> {
@@ -76,6 +79,7 @@ impl LogWords<'_> {
             && self.on_refused == OnRefused::Skip
             && self.refused.is_none()
             && !self.stats
+            && self.floats.is_none()
     }
 }
 

@@ -1,15 +1,20 @@
-//! The command `hagzimot`: messages of files and pipes converted, made canonical, shown, checked and edited.
+//! The command `hagzimot`: messages of files and pipes converted, made canonical, shown, checked
+//! and edited.
 //!
-//! `hagzimot --help` says more. The status is 0 where all was done and written, 3 where messages were skipped or passed on unedited, 1 at a fault, 2 where the words are wrong.
+//! `hagzimot --help` says more. The status is 0 where all was done and written, 3 where messages
+//! were skipped or passed on unedited. It is 1 at a fault, 2 where the words are wrong.
 #![tactic(auto)]
 
+mod arguments;
 mod command_line;
 mod faults;
 mod files;
 mod log;
 mod log_words;
+mod options;
 mod passes;
 mod plain_log;
+mod relay_calls;
 mod relay_task;
 mod reports;
 mod shows;
@@ -18,8 +23,11 @@ mod tape;
 mod versions;
 mod words;
 
+use crate::command_line::command_line;
 use crate::faults::Failure;
-use clap::ArgMatches;
+use crate::options::Taken;
+use clap::{ArgMatches, Error};
+use std::alloc::Global;
 use std::process::ExitCode;
 use std::{env, io};
 
@@ -40,7 +48,19 @@ fn run_subcommand(rt: &HostRuntime, matches: &ArgMatches<'_>) -> Result<u8, Fail
     }
 }
 
-/// The status of the words behind the program's name; an error where there is no way to say what is wrong.
+/// What the words say, or why they are wrong, or help that they ask for.
+fn matches_of(alloc: Global, words: &[String]) -> Result<ArgMatches<'_>, Error> {
+    let called = words.get(1).map(|word| word.as_str());
+    let named = command_line(alloc, Taken::Named(words), called)?;
+    match named.try_get_matches_from(words) {
+        Ok(matches) => Ok(matches),
+        // What is said of the words tells of each option.
+        Err(_) => command_line(alloc, Taken::All, called)?.try_get_matches_from(words),
+    }
+}
+
+/// The status of the words behind the program's name; an error where there is no way to say what is
+/// wrong.
 fn run(rt: &HostRuntime) -> io::Result<u8> {
     let given = match env::args(rt) {
         Err(e) if e.kind() == io::ErrorKind::InvalidData => {
@@ -50,9 +70,7 @@ fn run(rt: &HostRuntime) -> io::Result<u8> {
         given => given?,
     };
     let words: Vec<String> = given.collect(rt.alloc())?;
-    let called = words.get(1).map(|word| word.as_str());
-    let command = command_line::command_line(rt.alloc(), called)?;
-    let matches = match command.try_get_matches_from(words.as_slice()) {
+    let matches = match matches_of(rt.alloc(), &words) {
         Ok(matches) => matches,
         Err(error) => {
             error.print(rt)?;

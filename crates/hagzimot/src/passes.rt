@@ -299,12 +299,16 @@ fn asked<'a>(
         refused: words::refused_name(matches),
         stats: words::has_stats(matches),
         noted: Rc::new(rt.alloc(), Cell::new(None))?,
+        floats: None,
     })
 }
 
-/// The lines of the log that the words name.
-fn lines(matches: &ArgMatches<'_>) -> Lines {
-    Lines::named(words::text(matches, "log"))
+/// The lines of the log that the words name, or else these.
+fn lines(matches: &ArgMatches<'_>, absent: Lines) -> Lines {
+    match matches.get_str("log") {
+        Some(word) => Lines::named(word),
+        None => absent,
+    }
 }
 
 /// `hagzimot convert`.
@@ -320,7 +324,7 @@ pub fn canonical(rt: &HostRuntime, matches: &ArgMatches<'_>) -> Result<u8, Failu
         words: words::limit_of_words(matches),
         nesting: words::nesting(matches),
     };
-    let asked = asked(rt, matches, lines(matches))?;
+    let asked = asked(rt, matches, lines(matches, Lines::Refused))?;
     if asked.on_refused != OnRefused::Pass {
         return pass_all::<Canonical, Log>(rt, matches, &task, asked);
     }
@@ -332,7 +336,8 @@ pub fn canonical(rt: &HostRuntime, matches: &ArgMatches<'_>) -> Result<u8, Failu
 /// `hagzimot relay`.
 pub fn relay(rt: &HostRuntime, matches: &ArgMatches<'_>) -> Result<u8, Failure> {
     let task = RelayTask::new(rt, matches)?;
-    let asked = asked(rt, matches, lines(matches))?;
+    let mut asked = asked(rt, matches, lines(matches, Lines::All))?;
+    asked.floats = task.float_replies(rt.alloc())?;
     if asked.are_plain() {
         return pass_all::<RelayTask, PlainLog>(rt, matches, &task, asked);
     }

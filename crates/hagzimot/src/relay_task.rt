@@ -2,19 +2,19 @@
 ghost use Rattle.std.specs.Prelude.{◌≡◌, length, replicate, IfOk};
 
 use crate::faults::Failure;
-use crate::files::{Input, OutSink, read_file};
+use crate::files::{Input, OutSink};
 use crate::log::{RunLog, TurnAndFlush};
 use crate::log_words::Noted;
+use crate::relay_calls::{all_calls, named_calls};
 use crate::words;
-use capnp_calls::{Call, CallFault};
+use capnp_calls::{Action, Call};
 use capnp_calls_versions::admitted::{Admission, admitted_with};
 use capnp_calls_versions::compatible::compatible_with;
 use capnp_calls_versions::renamings::Renamings;
 use capnp_calls_versions::root::Root;
 use capnp_relay_answers::bounds::Bounds;
 use capnp_relay_answers::root_calls::RootCalls;
-use capnp_relay_files::calls_file::{CallsFile, calls_file};
-use capnp_relay_files::fault::FileFault;
+use capnp_relay_files::calls_file::CallsFile;
 use capnp_relay_loop::answers::Answers;
 use capnp_relay_loop::ends::Counts;
 use capnp_relay_program::ahead::BoundedForm;
@@ -25,15 +25,13 @@ use capnp_relay_streams::relay::relay_pausing;
 use capnp_stream::forms::MessageForm;
 use capnp_stream_io::adapters::Source;
 use clap::ArgMatches;
+use hagzimot_commands::float_replies::FloatReplies;
 use hagzimot_commands::passing::pass_on_all;
-use hagzimot_commands::strict::check_call;
-use hagzimot_commands::word_calls::{CallParts, WordVerb, call_of_words};
-use hagzimot_forms::calls_form::calls_form_fault;
 use hagzimot_schemas::schemas::RootedSchema;
 use std::alloc::Global;
-use std::fmt::Display;
 
-/// The most bytes of the region in which messages are edited; a message that doesn't fit is edited in other memory.
+/// The most bytes of the region in which messages are edited; a message that doesn't fit is edited
+/// in other memory.
 const REGION_LEN: usize = 64 * 1024;
 
 /// A relay: its schemas, its calls and its options.
@@ -46,156 +44,6 @@ pub struct RelayTask {
     limits: ReaderOptions,
     is_plain: bool,
     options: RelayOptions,
-}
-
-/// An option that makes calls.
-struct CallOption {
-    id: &'static str,
-    verb: WordVerb,
-}
-
-/// The options that make calls.
-static CALL_OPTIONS: [CallOption; 5] = [
-    CallOption {
-        id: "set",
-        verb: WordVerb::Set,
-    },
-    CallOption {
-        id: "get",
-        verb: WordVerb::Get,
-    },
-    CallOption {
-        id: "clear",
-        verb: WordVerb::Clear,
-    },
-    CallOption {
-        id: "init",
-        verb: WordVerb::Init,
-    },
-    CallOption {
-        id: "initn",
-        verb: WordVerb::Initn,
-    },
-];
-
-/// A call that words ask for, and where they stand.
-#[derive(Clone, Copy)]
-struct Asked<'a> {
-    place: usize,
-    verb: WordVerb,
-    id: &'static str,
-    text: &'a str,
-}
-
-/// The calls that words ask for, in the order in which they stand.
-fn asked_calls<'a>(alloc: Global, matches: &ArgMatches<'a>) -> Result<Vec<Asked<'a>>, Failure> {
-    let mut asked = Vec::new(alloc);
-    for option in CALL_OPTIONS.iter() {
-        let (Some(texts), Some(places)) = (
-            matches.get_strs(option.id),
-            matches.indices_of(option.id),
-        ) else {
-            continue;
-        };
-        for (text, place) in texts.iter().zip(places.iter()) {
-            asked.push(Asked {
-                place: *place,
-                verb: option.verb,
-                id: option.id,
-                text: *text,
-            })?;
-        }
-    }
-    asked.sort_by_key(|a| a.place)?;
-    Ok(asked)
-}
-
-/// The calls file that the words name.
-fn named_calls(rt: &HostRuntime, matches: &ArgMatches<'_>) -> Result<Option<CallsFile>, Failure> {
-    let alloc = rt.alloc();
-    let Some(name) = matches.get_str("calls") else {
-        return Ok(None);
-    };
-    let bytes = read_file(rt, name)?;
-    match calls_file(alloc, &bytes) {
-        Ok(file) => Ok(Some(file)),
-        Err(FileFault::Memory) => Err(Failure::Memory),
-        Err(FileFault::Form) => {
-            let fault = calls_form_fault(alloc, &bytes);
-            Err(Failure::form(alloc, name, "calls", fault))
-        }
-    }
-}
-
-/// What is said of the call of a number that is refused.
-fn call_failure<T: Display>(alloc: Global, number: usize, why: &T) -> Failure {
-    match format!(in alloc; "call {number}") {
-        Ok(name) => Failure::about(alloc, name.as_str(), why),
-        Err(_) => Failure::Memory,
-    }
-}
-
-/// What is said of an option that makes no call.
-fn option_failure<T: Display>(alloc: Global, asked: Asked<'_>, why: &T) -> Failure {
-    let id = asked.id;
-    let text = asked.text;
-    match format!(in alloc; "--{id} {text}") {
-        Ok(name) => Failure::about(alloc, name.as_str(), why),
-        Err(_) => Failure::Memory,
-    }
-}
-
-/// Adds a call, where it is one; a strict one only where some message could take it.
-fn push_call(
-    alloc: Global,
-    schema: &RootedSchema,
-    parts: CallParts,
-    is_strict: bool,
-    calls: &mut Vec<Call>,
-) -> Result<(), Failure> {
-    let number = calls.len() + 1;
-    let (path, verb, value) = parts;
-    let call = match Call::new(alloc, path, verb, value) {
-        Ok(call) => call,
-        Err(CallFault::Memory) => return Err(Failure::Memory),
-        Err(why) => return Err(call_failure(alloc, number, &why)),
-    };
-    if is_strict {
-        if let Err(why) = check_call(alloc, schema.nodes(), schema.root_id(), &call) {
-            return Err(call_failure(alloc, number, &why));
-        }
-    }
-    calls.push(call)?;
-    Ok(())
-}
-
-/// The calls of the calls file and of the words, in this order.
-fn all_calls(
-    alloc: Global,
-    schema: &RootedSchema,
-    file: Vec<CallParts>,
-    matches: &ArgMatches<'_>,
-) -> Result<Vec<Call>, Failure> {
-    let is_strict = !matches.get_flag("lenient");
-    let mut calls = Vec::new(alloc);
-    for parts in file {
-        push_call(alloc, schema, parts, is_strict, &mut calls)?;
-    }
-    for asked in asked_calls(alloc, matches)? {
-        let made = call_of_words(
-            alloc,
-            schema.nodes(),
-            schema.floats(),
-            schema.root_id(),
-            asked.verb,
-            asked.text,
-        );
-        match made {
-            Ok(parts) => push_call(alloc, schema, parts, is_strict, &mut calls)?,
-            Err(why) => return Err(option_failure(alloc, asked, &why)),
-        }
-    }
-    Ok(calls)
 }
 
 /// The limits that the words set, or else the calls file.
@@ -244,7 +92,7 @@ impl RelayTask {
             None => None,
         };
         let renamings = words::renamings(rt, matches)?;
-        let file = named_calls(rt, matches)?;
+        let file = named_calls(rt, &schema, matches)?;
         let limits = limits(matches, file.as_ref());
         let options = options(alloc, matches, limits)?;
         let parts = match file {
@@ -261,6 +109,18 @@ impl RelayTask {
             is_plain: matches.get_flag("plain"),
             options,
         })
+    }
+
+    /// Where the replies tell floats; `None` where none does.
+    pub fn float_replies(&self, alloc: Global) -> Result<Option<FloatReplies>, Failure> {
+        let schema = &self.schema;
+        let is_get = |call: &Call| matches!(call.action(), Action::Get);
+        if schema.floats().is_empty() || !self.calls.iter().any(is_get) {
+            return Ok(None);
+        }
+        let (nodes, root) = (schema.nodes(), schema.root_id());
+        let replies = FloatReplies::new(alloc, nodes, schema.floats(), root, &self.calls)?;
+        Ok(Some(replies))
     }
 
     /// Relays the messages of a source in this form.

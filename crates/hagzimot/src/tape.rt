@@ -3,7 +3,8 @@
 use std::alloc::Global;
 use std::cell::{Cell, RefCell};
 
-/// Notes how many bytes an input gave, where the message begins that is read, and, where they are kept, its bytes.
+/// Notes how many bytes an input gave, where the message begins that is read, and, where they are
+/// kept, its bytes.
 #[derive(Drop)]
 pub struct Tape {
     /// How many bytes the input gave.
@@ -65,13 +66,14 @@ impl Tape {
         self.is_torn.get()
     }
 
-    /// Notes that so many of the bytes that were given are still to be read, and that the next message begins there.
+    /// Notes that so many of the bytes that were given are still to be read, and that the next
+    /// message begins there.
     pub fn turn(&self, ahead: usize) {
-        self.start
-            .set(self.given.get().saturating_sub(ahead as u64));
+        self.start.set(self.given.get().wrapping_sub(ahead as u64));
     }
 
-    /// The bytes from the message's beginning to the last ones, which are so many and are still to be read.
+    /// The bytes from the message's beginning to the last ones, which are so many and are still to
+    /// be read.
     pub fn message(&self, alloc: Global, ahead: usize) -> Option<Vec<u8>> {
         let kept = self.kept.try_borrow().ok()?;
         let held = self.given.get().saturating_sub(self.start.get());

@@ -34,7 +34,8 @@ impl<'a> Side<'a> {
     }
 }
 
-/// Says whether what is written under one side reads the same under another, with this text in front of each line. Returns the status.
+/// Says whether what is written under one side reads the same under another, with this text in
+/// front of each line. Returns the status.
 fn tell(
     rt: &HostRuntime,
     from: Side<'_>,
@@ -63,7 +64,8 @@ fn tell(
     Ok(1)
 }
 
-/// `hagzimot compatible`: whether a newer schema keeps an older one, and with `--both` whether the older keeps the newer too.
+/// `hagzimot compatible`: whether a newer schema keeps an older one, and with `--both` whether the
+/// older keeps the newer too.
 pub fn compatible(rt: &HostRuntime, matches: &ArgMatches<'_>) -> Result<u8, Failure> {
     let older_schema = words::rooted(rt, matches, "older")?;
     let newer_schema = words::rooted(rt, matches, "newer")?;

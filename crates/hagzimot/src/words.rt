@@ -13,7 +13,8 @@ use hagzimot_forms::renames_form::renames_form_fault;
 use hagzimot_schemas::schemas::RootedSchema;
 use std::alloc::Global;
 
-/// The most words of a message, and the most that following it may cost, where no word says otherwise.
+/// The most words of a message, and the most that following it may cost, where no word says
+/// otherwise.
 const WORDS: u32 = 8_388_608;
 
 /// The most levels of pointers, where no word says otherwise.

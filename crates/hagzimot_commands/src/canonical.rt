@@ -29,7 +29,8 @@ use std::alloc::Global;
 pub struct Canonical {
     /// The most words that a message may have, and that following it may cost.
     pub words: u32,
-    /// The most levels of pointers, the root's the first; a null pointer is none. Following a message takes up to 850 bytes of stack for each.
+    /// The most levels of pointers, the root's the first; a null pointer is none. Following a
+    /// message takes up to 850 bytes of stack for each.
     pub nesting: u32,
 }
 
@@ -43,14 +44,16 @@ fn make_room(words: &mut Vec<Word>, count: usize) -> Result<(), Error>
     Ok(())
 }
 
-/// Writes the canonical words of a message's value to the front of a buffer, and returns how many they are; none where it has no value within the limits, or one with a capability. `BufferNotLargeEnough`: the buffer has no room for them.
+/// Writes the canonical words of a message's value to the front of a buffer, and returns how many
+/// they are. None: it has no value within the limits, or one with a capability.
+/// `BufferNotLargeEnough`: the buffer has no room for them.
 fn write_within<M: ReaderArena>(
     message: &M,
     limits: Canonical,
     words: &mut Vec<Word>,
 ) -> Result<Option<usize>, Error>
-    ensures { IfOk result (ReadsWithinLimits (canonical_limits limits) (words_in (M.segments message.now))
-        words.new.items) }
+    ensures { IfOk result (ReadsWithinLimits (canonical_limits limits)
+        (words_in (M.segments message.now)) words.new.items) }
 {
     values_on_walks();
     copies_as_walks();
@@ -65,14 +68,16 @@ fn write_within<M: ReaderArena>(
     }
 }
 
-/// As `write_within`, but the buffer grows where it has no room: first to as many words as the message has, and where its pointers share words, to a word more than the limits allow. `OutOfMemory`: it can't grow. `BufferNotLargeEnough`: the canonical words are 2^29 or more.
+/// As `write_within`, but the buffer grows where it has no room: first to as many words as the
+/// message has. Where its pointers share words it grows to a word more than the limits allow.
+/// `OutOfMemory`: it can't grow. `BufferNotLargeEnough`: the canonical words are 2^29 or more.
 pub fn write_value<M: ReaderArena>(
     message: &M,
     limits: Canonical,
     words: &mut Vec<Word>,
 ) -> Result<Option<usize>, Error>
-    ensures { IfOk result (ReadsWithinLimits (canonical_limits limits) (words_in (M.segments message.now))
-        words.new.items) }
+    ensures { IfOk result (ReadsWithinLimits (canonical_limits limits)
+        (words_in (M.segments message.now)) words.new.items) }
 {
     make_room(words, message.size_in_words())?;
     match write_within(message, limits, words) {
@@ -108,9 +113,15 @@ impl Answers for Canonical {
     }
 }
 
-/// Writes the canonical form of each message of the source in turn, in one form: its one segment is the canonical words of the value of the message's root. The log has a line for each message, `written`, or `refused: value` for one that is skipped, since it has no value within the limits, or one with a capability. A root of any kind will do. Before each read there is a pause. (Encoding, "Canonicalization")
+/// Writes the canonical form of each message of the source in turn, in one form: its one segment is
+/// the canonical words of the value of the message's root. The log has a line for each message,
+/// `written` or `refused: value`. One is refused, and skipped, that has no value within the limits,
+/// or one with a capability. A root of any kind will do. Before each read there is a pause.
+/// (Encoding, "Canonicalization")
 ///
-/// `Framing`: what is left of the source begins with no message. `Source`, `Out`, `Log`: the device failed, or a sink has no room. `Memory`: a growth was refused, or the canonical words are 2^29 or more. `Size`: it is message number 2^64. What was written before stands.
+/// `Framing`: what is left of the source begins with no message. `Source`, `Out`, `Log`: the device
+/// failed, or a sink has no room. `Memory`: a growth was refused, or the canonical words are 2^29
+/// or more. `Size`: it is message number 2^64. What was written before stands.
 pub fn canonicalize_all<
     I: MessageForm,
     O: MessageForm,

@@ -45,9 +45,14 @@ impl Answers for Unchanged {
     }
 }
 
-/// Writes each message of the source in turn in one form: the same segments, word for word, as what was read in the other has. The log has a line `message N written` for each. A message has at most so many words. Before each read there is a pause.
+/// Writes each message of the source in turn in one form: the same segments, word for word, as what
+/// was read in the other has. The log has a line `message N written` for each. A message has at
+/// most so many words. Before each read there is a pause.
 ///
-/// `Framing`: what is left of the source begins with no message. `Source`, `Out`, `Log`: the device failed, or a sink has no room. `Memory`: a growth was refused, or a segment has 2^29 words or more. `Size`: it is message number 2^64. What was written before stands. (Encoding, "Serialization Over a Stream")
+/// `Framing`: what is left of the source begins with no message. `Source`, `Out`, `Log`: the device
+/// failed, or a sink has no room. `Memory`: a growth was refused, or a segment has 2^29 words or
+/// more. `Size`: it is message number 2^64. What was written before stands. (Encoding,
+/// "Serialization Over a Stream")
 pub fn convert_all<
     I: MessageForm,
     O: MessageForm,

@@ -4,7 +4,9 @@
 pub mod canonical;
 pub mod convert;
 mod copies;
+pub mod float_calls;
 mod float_fields;
+pub mod float_replies;
 pub mod log_lines;
 pub mod passing;
 pub mod paths;

@@ -20,7 +20,7 @@ fn reason_word(reason: Reason) -> &'static [u8]
     }
 }
 
-/// The line of a message that is passed on, made of its line `message N written`: behind that it
+/// The line of a message that is passed on, made of its line `message N written`. Behind that it
 /// says that the message is unedited, and why it would be skipped. `message 2 written unedited:
 /// value` is such a line. An error where a growth was refused.
 pub fn unedited_line(alloc: Global, written: &[u8], reason: Reason) -> Result<Vec<u8>, AllocError>
@@ -115,7 +115,9 @@ impl Display for Told<'_> {
     }
 }
 
-/// A line of the log, as `message 1 written; done` or `message 2 refused: value`, as an object and a line feed. The message begins behind so many bytes of its input. Another line is an object with its text. An error where a growth was refused.
+/// A line of the log, as `message 1 written; done` or `message 2 refused: value`, as an object and
+/// a line feed. The message begins behind so many bytes of its input. Another line is an object
+/// with its text. An error where a growth was refused.
 pub fn json_line(alloc: Global, line: &str, start: u64) -> Result<String, AllocError> {
     let line = line.trim_end_matches('\n');
     let told = match line.strip_prefix("message ") {

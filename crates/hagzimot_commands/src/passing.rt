@@ -58,8 +58,8 @@ impl<A: Answers> Answers for Passing<'_, A> {
 }
 
 /// As `answer_all`, but a message that would be skipped is passed on: the same segments, word for
-/// word, go out in the output's form, and its line of the log is `message N written`. Before that
-/// line why it would be skipped is noted; whoever reads the note takes it away.
+/// word, go out in the output's form. Its line of the log is `message N written`. Before that line
+/// why it would be skipped is noted; whoever reads the note takes it away.
 ///
 /// It ends as `answer_all` does. `Memory` too: a growth for a message that is passed on was
 /// refused, or a segment of it has 2^29 words or more.

@@ -82,7 +82,8 @@ impl Display for Misstep {
     }
 }
 
-/// The name among the fields' that is nearest to a name, where at most a third of its letters, and one, are otherwise.
+/// The name among the fields' that is nearest to a name, where at most a third of its letters, and
+/// one, are otherwise.
 fn nearest_name(
     alloc: Global,
     fields: &[FieldRecord],
@@ -104,7 +105,7 @@ fn nearest_name(
 }
 
 /// The id of the struct or group that stands there.
-fn id_there(at: Landing) -> Option<u64>
+pub(crate) fn id_there(at: Landing) -> Option<u64>
     ensures { result ≡ id_at at }
 {
     match at {
@@ -118,7 +119,7 @@ fn id_there(at: Landing) -> Option<u64>
 }
 
 /// An element of the list that stands there.
-fn element_there(at: Landing) -> Option<Landing>
+pub(crate) fn element_there(at: Landing) -> Option<Landing>
     ensures { result ≡ element_landing at }
 {
     match at {
@@ -159,7 +160,7 @@ fn field_there(node: &NodeRecord, name: &str) -> Option<Landing>
 }
 
 /// What a field is.
-fn landing_at(body: &FieldBody) -> Landing
+pub(crate) fn landing_at(body: &FieldBody) -> Landing
     ensures { result ≡ landing_of body.now }
 {
     match body {

@@ -33,7 +33,8 @@ pub enum WordVerb {
 /// Why words make no call.
 #[derive(Debug, Drop)]
 pub enum WordTrouble {
-    /// The path is none: names with points between them, each with indices in brackets behind it or not.
+    /// The path is none: names with points between them, each with indices in brackets behind it or
+    /// not.
     Path,
     /// The path leads nowhere.
     Step(Misstep),
@@ -138,8 +139,8 @@ fn spells(alloc: Global, text: &str, path: &[Step]) -> Result<bool, AllocError>
     Ok(given.as_slice() == told.as_slice())
 }
 
-/// The steps of a path, as `lines[0].count`. `Path`: the text is no path, or its numbers have a sign
-/// or a zero in front. `Memory`: a growth was refused.
+/// The steps of a path, as `lines[0].count`. `Path`: the text is no path, or its numbers have a
+/// sign or a zero in front. `Memory`: a growth was refused.
 pub fn path_of(alloc: Global, text: &str) -> Result<Vec<Step>, WordTrouble>
     ensures { IfOk result (λ path. SpellsPath text.now path.items) }
 {
@@ -196,8 +197,8 @@ fn enumerant_of(nodes: &[NodeRecord], id: u64, word: &str) -> Result<u16, WordTr
     }
 }
 
-/// A value of a base type that a word spells: a number in decimal digits, `true` or `false`, an
-/// enumerant's name or number, a text as it is, or data in hex.
+/// A value of a base type that a word spells. It is a number in decimal digits, `true` or `false`,
+/// an enumerant's name or number, a text as it is, or data in hex.
 fn value_of(
     alloc: Global,
     nodes: &[NodeRecord],
@@ -246,7 +247,8 @@ fn float_value(base: BaseType, word: &str) -> Result<CallValue, WordTrouble>
     }
 }
 
-/// The value that a word spells where a path leads; a float's, where one of these fields stands there, is that of its bits.
+/// The value that a word spells where a path leads; a float's, where one of these fields stands
+/// there, is that of its bits.
 fn value_there(
     alloc: Global,
     nodes: &[NodeRecord],
@@ -272,9 +274,9 @@ fn value_there(
     value_of(alloc, nodes, ty.base, there, word)
 }
 
-/// What `Call::new` takes for the call that words make under a schema, from the struct of an id on:
-/// a path, or for `Set` and `Initn` a path, `=` and a value. Values of these fields are given as
-/// floats, whose bits are set. A refusal says what is wrong:
+/// What `Call::new` takes for the call that words make under a schema, from the struct of an id on.
+/// The words are a path, or for `Set` and `Initn` a path, `=` and a value. Values of these fields
+/// are given as floats, whose bits are set. A refusal says what is wrong:
 /// - `Path`: the path isn't one;
 /// - `Step`: it leads nowhere, where a value is set;
 /// - `NoValue`: there is no `=`;

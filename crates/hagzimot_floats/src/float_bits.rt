@@ -21,7 +21,9 @@ fn is_decimal(text: &str) -> bool {
     }
 }
 
-/// The bits of the float of 32 bits that a text spells: the nearest to a decimal number, as `1.5` or `-2e10`, or what `Float32` writes for people. `None` where it spells none, or a number past the greatest.
+/// The bits of the float of 32 bits that a text spells. It is the nearest to a decimal number, as
+/// `1.5` or `-2e10`, or what `Float32` writes for people. `None` where it spells none, or a number
+/// past the greatest.
 pub fn float32_bits(text: &str) -> Option<u32> {
     match text {
         "inf" => return Some(INFINITY_32),

@@ -7,9 +7,11 @@ use std::fmt::{Display, Formatter, Write};
 /// For which readers a float is written.
 #[derive(Clone, Copy, Debug, PartialEq, Eq)]
 pub enum FloatForm {
-    /// For people: a decimal number, `inf`, `-inf`, `nan`, or another NaN by the hex of its bits, as `nan:7fc00001`.
+    /// For people: a decimal number, `inf`, `-inf`, `nan`, or another NaN by the hex of its bits,
+    /// as `nan:7fc00001`.
     Text,
-    /// For readers of JSON, which take numbers as floats of 64 bits: the number as one of these, or one of the texts `"Infinity"`, `"-Infinity"` and `"NaN"`, which stands for every NaN.
+    /// For readers of JSON, which take numbers as floats of 64 bits: the number as one of these, or
+    /// a text. The texts are `"Infinity"`, `"-Infinity"` and `"NaN"`, which stands for every NaN.
     Json,
 }
 

@@ -58,11 +58,20 @@ impl TryFrom<i128> for Number {
     }
 }
 
+/// A float: a number, or a text of one.
+#[derive(Drop, Deserialize)]
+#[serde(untagged)]
+enum Float {
+    Number(f64),
+    Text(String),
+}
+
 /// A value.
 #[derive(Drop, Deserialize)]
 #[serde(rename_all = "lowercase")]
 enum Value {
     Number(Number),
+    Float(Float),
     Bool(bool),
     Enum(u16),
     Text(String),
@@ -112,7 +121,8 @@ struct CallsFile {
     _nesting: Option<i32>,
 }
 
-/// What is wrong with the form of a calls file, with line and column; `None` where nothing of it is seen here.
+/// What is wrong with the form of a calls file, with line and column; `None` where nothing of it is
+/// seen here.
 pub fn calls_form_fault(alloc: Global, bytes: &[u8]) -> Option<Error> {
     serde_json::from_slice::<CallsFile>(alloc, bytes).err()
 }

@@ -147,7 +147,8 @@ impl Place {
     }
 }
 
-/// A schema file in which ids that are texts of digits are numbers; the same bytes where none is. An error where a growth was refused.
+/// A schema file in which ids that are texts of digits are numbers; the same bytes where none is.
+/// An error where a growth was refused.
 pub fn ids_as_numbers(alloc: Global, bytes: &[u8]) -> Result<Vec<u8>, AllocError>
     ensures { IfOk result (λ told. told.items ≡ ids_as_numbers bytes.now) }
 {

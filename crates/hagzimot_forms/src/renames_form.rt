@@ -16,7 +16,8 @@ struct Renaming {
     _to: String,
 }
 
-/// What is wrong with the form of a renames file, with line and column; `None` where nothing of it is seen here.
+/// What is wrong with the form of a renames file, with line and column; `None` where nothing of it
+/// is seen here.
 pub fn renames_form_fault(alloc: Global, bytes: &[u8]) -> Option<Error> {
     serde_json::from_slice::<Vec<Renaming>>(alloc, bytes).err()
 }

@@ -183,7 +183,8 @@ impl TryFrom<NodeKeys> for Node {
     }
 }
 
-/// What is wrong with the form of a schema file, with line and column; `None` where nothing of it is seen here.
+/// What is wrong with the form of a schema file, with line and column; `None` where nothing of it
+/// is seen here.
 pub fn schema_form_fault(alloc: Global, bytes: &[u8]) -> Option<Error> {
     serde_json::from_slice::<Vec<Node>>(alloc, bytes).err()
 }

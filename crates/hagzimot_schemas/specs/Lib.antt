@@ -1,2 +1,3 @@
 pub mod SchemaForms
 pub mod Nodes
+pub mod Rules

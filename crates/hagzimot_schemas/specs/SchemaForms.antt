@@ -1,5 +1,6 @@
 -- The two forms of schema files.
 use Rattle.std.specs.Prelude.{ℕ, ◌==◌, Bool, false, if◌then◌else◌, Option, Some, List, [], ◌∷◌, map}
+use Rattle.std.specs.Option.{option_or}
 use Rattle.std.specs.Result.{result_ok}
 use Rattle.capnp_model.specs.Schemas.{Enumerant, Field, StructNode, NodeKind, struct_node, enum_node, Node}
 use Rattle.capnp_relay_files.specs.SchemaFiles.{schema_nodes_in}
@@ -14,9 +15,13 @@ abbrev pub is_request : List ℕ → Bool
 is_request (a ∷ b ∷ c ∷ d ∷ rest) = d == 0
 is_request _ = false
 
--- The nodes that a schema file of either form tells. In JSON an id is a number, or a text of its digits.
+-- The nodes that JSON tells. Its ids are numbers; where it tells none so, an id may be the text of its digits too.
+abbrev pub json_nodes : List ℕ → Option (List Node)
+json_nodes bytes = option_or (schema_nodes_in bytes) (schema_nodes_in (ids_as_numbers bytes))
+
+-- The nodes that a schema file of either form tells.
 abbrev pub nodes_told : Floats → List ℕ → Option (List Node)
-nodes_told floats bytes = if is_request bytes then result_ok (records_told floats bytes) else schema_nodes_in (ids_as_numbers bytes)
+nodes_told floats bytes = if is_request bytes then result_ok (records_told floats bytes) else json_nodes bytes
 
 -- The fields that are floats there, by their nodes' ids and their indices; JSON tells none.
 abbrev pub floats_of_file : List ℕ → Option (List (ℕ × ℕ))

@@ -1,7 +1,11 @@
 //! The rules of schemas, in words.
+ghost use Rattle.std.specs.Prelude.{◌≡◌};
+ghost use Rattle.hagzimot_schemas.specs.Rules.{rule_words};
 
 /// What the rule of a number says, from 1 to 12.
-pub fn rule_text(rule: u32) -> &'static str {
+pub fn rule_text(rule: u32) -> &'static str
+    ensures { result.now ≡ rule_words rule }
+{
     match rule {
         1 => "ids are distinct",
         2 =>

@@ -299,7 +299,8 @@ impl Display for SchemaText<'_> {
 /// Why nodes have no text.
 #[derive(Clone, Copy, Debug, PartialEq, Eq, thiserror::Error)]
 pub enum SchemaTextFault {
-    /// A schema file can't tell them: a default is a text that isn't UTF-8, or a union isn't as its members say.
+    /// A schema file can't tell them: a default is a text that isn't UTF-8, or a union isn't as its
+    /// members say.
     #[error("a schema file can't tell it")]
     Untold,
     /// A growth was refused.
@@ -335,7 +336,9 @@ fn read_back(alloc: Global, text: &[u8], ids: IdForm) -> Result<Vec<NodeRecord>,
     }
 }
 
-/// The text of a schema file that tells these nodes but for their annotations, which files don't hold: a line for each node, and one for each field. `Untold`: no file can tell them. `Memory`: a growth was refused.
+/// The text of a schema file that tells these nodes but for their annotations, which files don't
+/// hold. It has a line for each node, and one for each field. `Untold`: no file can tell them.
+/// `Memory`: a growth was refused.
 pub fn schema_text(
     alloc: Global,
     nodes: &[NodeRecord],

@@ -1,9 +1,10 @@
 //! Schemas that files hold, and the struct that messages have at their root.
-ghost use Rattle.std.specs.Prelude.{◌≡◌, true, map, Some, IfOk, IfSome};
+ghost use Rattle.std.specs.Prelude.{◌≡◌, true, map, Some, IfOk, IfErr, IfSome};
 ghost use Rattle.capnp_records.specs.NodeViews.{node_of};
 ghost use Rattle.capnp_records.specs.Sets.{nodes_of, IsStructOf};
+ghost use Rattle.capnp_relay_files.specs.Faults.{IsFileRefusal};
 ghost use Rattle.capnp_relay_requests.specs.Floats.{float_told};
-ghost use Rattle.hagzimot_schemas.specs.SchemaForms.{is_request, nodes_told, floats_of_file};
+ghost use Rattle.hagzimot_schemas.specs.SchemaForms.{is_request, json_nodes, nodes_told, floats_of_file};
 
 use crate::nodes::node_of_id;
 use crate::rules::rule_text;
@@ -30,11 +31,13 @@ use std::fmt::{Display, Formatter, Write};
 pub enum SchemaTrouble {
     /// It is no JSON; why, with line and column.
     Json(serde_json::Error),
-    /// It is JSON, but no array of nodes; what is wrong, with line and column, where a closer look finds it.
+    /// It is JSON, but no array of nodes; what is wrong, with line and column, where a closer look
+    /// finds it.
     Form(Option<serde_json::Error>),
     /// It is a request of the compiler that can't be read.
     Request(RequestFault),
-    /// It is a request of the compiler with a float: the node that has it, and the field or enumerant, if it isn't the node itself.
+    /// It is a request of the compiler with a float: the node that has it, and the field or
+    /// enumerant, if it isn't the node itself.
     Float {
         node: String,
         member: Option<String>,
@@ -157,7 +160,25 @@ fn request_trouble(alloc: Global, bytes: &[u8], fault: RequestFault) -> SchemaTr
     }
 }
 
-/// The nodes that a file tells: a request of the compiler, which `capnp compile -o-` writes, or a JSON schema file, whose ids are numbers or texts of their digits. The fields that are floats are those of a request.
+/// The nodes of a JSON schema file, whose ids are numbers or, where that reads none, texts too.
+fn json_file(alloc: Global, bytes: &[u8]) -> Result<Vec<NodeRecord>, FileFault>
+    ensures ok { IfOk result (λ nodes. json_nodes bytes.now ≡ Some (map node_of nodes.items)) }
+    ensures refused { IfErr result (IsFileRefusal (json_nodes bytes.now)) }
+{
+    match schema_file(alloc, bytes) {
+        Ok(nodes) => return Ok(nodes),
+        Err(FileFault::Memory) => return Err(FileFault::Memory),
+        Err(FileFault::Form) => {}
+    }
+    match ids_as_numbers(alloc, bytes) {
+        Ok(numbered) => schema_file(alloc, &numbered),
+        Err(_) => Err(FileFault::Memory),
+    }
+}
+
+/// The nodes that a file tells. It is a request of the compiler, which `capnp compile -o-` writes,
+/// or a JSON schema file, whose ids are numbers or texts of their digits. The fields that are
+/// floats are those of a request.
 pub fn read_told(alloc: Global, bytes: &[u8], floats: Floats) -> Result<Requested, SchemaTrouble>
     ensures nodes { IfOk result
         (λ told. nodes_told floats bytes.now ≡ Some (map node_of told.nodes.items)) }
@@ -170,8 +191,7 @@ pub fn read_told(alloc: Global, bytes: &[u8], floats: Floats) -> Result<Requeste
             Err(fault) => Err(request_trouble(alloc, bytes, fault)),
         };
     }
-    let numbered = ids_as_numbers(alloc, bytes)?;
-    match schema_file(alloc, &numbered) {
+    match json_file(alloc, bytes) {
         Ok(nodes) => Ok(Requested {
             nodes,
             floats: Vec::new(alloc),
@@ -229,7 +249,8 @@ pub fn read_set(alloc: Global, bytes: &[u8], floats: Floats) -> Result<CheckedSc
     }
 }
 
-/// Whether a node has a name: its own, the part of it behind the last colon, or the part behind the last point, as `Order` is of `shop.capnp:Order`.
+/// Whether a node has a name: its own, the part of it behind the last colon, or the part behind the
+/// last point, as `Order` is of `shop.capnp:Order`.
 fn is_named(node: &NodeRecord, name: &str) -> bool {
     let whole = node.display_name.as_str();
     if whole == name {
@@ -285,7 +306,8 @@ impl RootedSchema {
     ghost use Rattle.capnp_relay_requests.specs.Floats.{float_told};
     ghost use Rattle.hagzimot_schemas.specs.SchemaForms.{nodes_told, floats_of_file};
 
-    /// The schema that a file tells, with the struct of this name, or of this id in decimal digits, as root.
+    /// The schema that a file tells, with the struct of this name, or of this id in decimal digits,
+    /// as root.
     pub fn new(
         alloc: Global,
         bytes: &[u8],
@@ -333,7 +355,8 @@ impl RootedSchema {
         self.set.nodes()
     }
 
-    /// The fields that are floats in the compiler's request, whose bits they are here; none of a JSON file.
+    /// The fields that are floats in the compiler's request, whose bits they are here; none of a
+    /// JSON file.
     pub fn floats(&self) -> &[FloatField]
         ensures { result.now ≡ self.now.floats.items }
     {

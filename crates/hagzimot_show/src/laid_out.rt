@@ -87,13 +87,18 @@ fn text_of<'a, A: ReaderArena>(
     }
 }
 
-/// The message of these segments in a layout: the record that its root has under a schema, with the fields that `show` prints, in the same order.
+/// The message of these segments in a layout: the record that its root has under a schema, with the
+/// fields that `show` prints, in the same order.
 ///
-/// As text a float is a decimal number, `inf`, `-inf`, `nan`, or `nan:` with the hex of its bits, and all else is written as `show` writes it. In JSON a struct is an object; 64-bit numbers are texts, enum values names, data arrays of numbers, Void null, floats numbers or one of the texts `Infinity`, `-Infinity` and `NaN`.
+/// As text a float is a decimal number, `inf`, `-inf`, `nan`, or `nan:` with the hex of its bits,
+/// and all else is written as `show` writes it. In JSON a struct is an object; 64-bit numbers are
+/// texts, enum values names, data arrays of numbers, Void null. Floats are numbers there, or one of
+/// the texts `Infinity`, `-Infinity` and `NaN`.
 ///
 /// - `Value`: it has no value within the limits, or one with a capability.
 /// - `Root`: its root is a list.
-/// - `Unreadable`: a field or an element can't be read as its type, or more than 2,048 structs, groups and lists lie within one another.
+/// - `Unreadable`: a field or an element can't be read as its type, or more than 2,048 structs,
+///   groups and lists lie within one another.
 /// - `Memory`: a growth was refused.
 pub fn laid_out<S: ReaderSegments>(
     alloc: Global,

@@ -48,7 +48,8 @@ pub struct StreamFault {
     pub number: u64,
 }
 
-/// The text of the message of these segments, on one line, as `show` gives it. `Memory`: a growth was refused.
+/// The text of the message of these segments, on one line, as `show` gives it. `Memory`: a growth
+/// was refused.
 pub fn text_of_segments<S: ReaderSegments>(
     alloc: Global,
     segments: &S,
@@ -118,7 +119,8 @@ impl Shower<'_> {
         Ok(text.into_bytes())
     }
 
-    /// Writes the text of a message of this number, and a line feed; or a line to the log, where it can't be shown.
+    /// Writes the text of a message of this number, and a line feed; or a line to the log, where it
+    /// can't be shown.
     fn put_text<S: ReaderSegments, W: Write, L: Write>(
         &mut self,
         segments: &S,
@@ -145,7 +147,8 @@ impl Shower<'_> {
         }
     }
 
-    /// Reads the message of a number, and writes its text where it is chosen; false where no byte is left.
+    /// Reads the message of a number, and writes its text where it is chosen; false where no byte
+    /// is left.
     fn show_next<I: MessageForm, R: BufRead, W: Write, L: Write>(
         &mut self,
         buffer: &mut MessageBuffer,
@@ -172,9 +175,12 @@ impl Shower<'_> {
     }
 }
 
-/// Writes the texts of the chosen messages of the source, with a line feed behind each, or counts these messages alone. A message that can't be shown is a line of the log, `message N not shown: WHY`. None behind the last that is chosen is read. Before each read there is a pause.
+/// Writes the texts of the chosen messages of the source, with a line feed behind each, or counts
+/// these messages alone. A message that can't be shown is a line of the log, `message N not shown:
+/// WHY`. None behind the last that is chosen is read. Before each read there is a pause.
 ///
-/// `Framing`: what is left of the source begins with no message. `Source`, `Out`, `Log`: the device failed, or a sink has no room. `Memory`: a growth was refused.
+/// `Framing`: what is left of the source begins with no message. `Source`, `Out`, `Log`: the device
+/// failed, or a sink has no room. `Memory`: a growth was refused.
 pub fn show_all<I: MessageForm, R: BufRead, W: Write, L: Write, P: Pause<R, W, L>>(
     alloc: Global,
     source: &mut R,

@@ -11,7 +11,8 @@ use capnp_values_queries::fields::Field;
 use capnp_wire_objects::arena::ReaderArena;
 use hagzimot_schemas::json_text::Quoted;
 
-/// How deep structs, groups and lists are followed within one another. Each takes up to 2 KiB of stack.
+/// How deep structs, groups and lists are followed within one another. Each takes up to 2 KiB of
+/// stack.
 pub(crate) const MOST_LEVELS: u32 = 2048;
 
 /// Writes a value, within which structs, groups and lists are nested so deep at most.
@@ -63,7 +64,8 @@ fn active_member<A: ReaderArena>(reader: dynamic_struct::Reader<'_, A>) -> Optio
     }
 }
 
-/// Whether a field is written: a union member where it is active, the first only where it is no null pointer; another field where it is no null pointer.
+/// Whether a field is written. A union member is where it is active, the first only where it is no
+/// null pointer. Another field is where it is no null pointer.
 fn is_written<A: ReaderArena>(
     reader: dynamic_struct::Reader<'_, A>,
     field: Field<'_>,

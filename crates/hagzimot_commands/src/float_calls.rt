@@ -1,0 +1,185 @@
+//! Calls files that give floats as decimal numbers.
+
+use crate::float_fields::is_float_at;
+use crate::paths::{Landing, Misstep, landing_from};
+use crate::strict::sort_of;
+use capnp_calls::Step;
+use capnp_records::node::{BaseType, NodeRecord};
+use capnp_relay_requests::request::FloatField;
+use hagzimot_floats::float_bits::{float32_bits, float64_bits};
+use hagzimot_floats::float_text::{Float64, FloatForm};
+use serde_json::Value as Json;
+use std::alloc::{AllocError, Global};
+use std::fmt;
+use std::fmt::{Display, Formatter, Write};
+use std::num::f64_to_bits_with_nan;
+
+/// Why a call can't set a float.
+#[derive(Debug, Drop)]
+pub enum FloatTrouble {
+    /// Its path leads nowhere.
+    Step(Misstep),
+    /// No float stands where its path leads.
+    There(&'static str),
+    /// What is to be set is no float of the type there.
+    Value,
+    /// A growth was refused.
+    Memory,
+}
+
+impl From<AllocError> for FloatTrouble {
+    fn from(_e: AllocError) -> FloatTrouble {
+        FloatTrouble::Memory
+    }
+}
+
+impl From<Misstep> for FloatTrouble {
+    fn from(e: Misstep) -> FloatTrouble {
+        FloatTrouble::Step(e)
+    }
+}
+
+impl Display for FloatTrouble {
+    fn fmt<W: Write>(&self, f: &mut Formatter<W>) -> fmt::Result {
+        match self {
+            FloatTrouble::Step(misstep) => write!(f, "{misstep}"),
+            FloatTrouble::There(there) => write!(f, "a float is no value of {there}"),
+            FloatTrouble::Value => write!(f, "this is no value of a float"),
+            FloatTrouble::Memory => write!(f, "there is no memory for it"),
+        }
+    }
+}
+
+/// Why a calls file with floats isn't read.
+#[derive(Debug, Drop)]
+pub enum FloatCallsTrouble {
+    /// It is no JSON of a calls file's form.
+    Form,
+    /// The call of a number, counted from 1, can't set its float.
+    Call { number: usize, why: FloatTrouble },
+    /// A growth was refused.
+    Memory,
+}
+
+impl From<AllocError> for FloatCallsTrouble {
+    fn from(_e: AllocError) -> FloatCallsTrouble {
+        FloatCallsTrouble::Memory
+    }
+}
+
+/// The word for a float of a calls file: a number's shortest text, or a text as it is, with JSON's
+/// words for infinities and NaNs too. `None` where it is neither.
+fn float_word(alloc: Global, json: &Json) -> Result<Option<String>, AllocError> {
+    if let Some(number) = json.as_f64() {
+        let bits = f64_to_bits_with_nan(number);
+        let form = FloatForm::Text;
+        return Ok(Some(format!(in alloc; "{}", Float64 { bits, form })?));
+    }
+    let word = match json.as_str() {
+        Some("Infinity") => "inf",
+        Some("-Infinity") => "-inf",
+        Some("NaN") => "nan",
+        Some(word) => word,
+        None => return Ok(None),
+    };
+    Ok(Some(String::from_str(alloc, word)?))
+}
+
+/// The steps of a path of a calls file; `None` where it is none.
+fn path_in(alloc: Global, json: &Json) -> Result<Option<Vec<Step>>, AllocError> {
+    let Some(items) = json.as_array() else {
+        return Ok(None);
+    };
+    let mut path = Vec::new(alloc);
+    for item in items {
+        let index = item.as_u64().and_then(|index| u32::try_from(index).ok());
+        match (item.as_str(), index) {
+            (Some(name), _) => path.push(Step::Name(String::from_str(alloc, name)?))?,
+            (None, Some(index)) => path.push(Step::Index(index))?,
+            (None, None) => return Ok(None),
+        }
+    }
+    Ok(Some(path))
+}
+
+/// The fields that are floats, and the struct from which paths lead.
+#[derive(Clone, Copy)]
+pub struct FloatRoot<'a> {
+    pub nodes: &'a [NodeRecord],
+    pub floats: &'a [FloatField],
+    pub root: u64,
+}
+
+impl FloatRoot<'_> {
+    /// The bits of the float that a word spells where a path leads.
+    fn bits(self, alloc: Global, path: &[Step], word: &str) -> Result<u64, FloatTrouble> {
+        let ty = match landing_from(alloc, self.nodes, self.root, path)? {
+            Landing::Value(ty) => ty,
+            Landing::Group(_) => return Err(FloatTrouble::There("a group")),
+        };
+        let is_float = is_float_at(alloc, self.nodes, self.floats, self.root, path)?;
+        if ty.list_count > 0 || !is_float {
+            return Err(FloatTrouble::There(sort_of(ty)));
+        }
+        let bits = match ty.base {
+            BaseType::UInt32 => float32_bits(word).map(|bits| bits as u64),
+            _ => float64_bits(word),
+        };
+        bits.ok_or(FloatTrouble::Value)
+    }
+
+    /// The number of the bits that a call sets, where it sets a float.
+    fn number(self, alloc: Global, call: &Json) -> Result<Option<u64>, FloatTrouble> {
+        let Some(value) = call.get("value") else {
+            return Ok(None);
+        };
+        if value.as_object().map(|members| members.len()) != Some(1) {
+            return Ok(None);
+        }
+        let (Some(float), Some(path)) = (value.get("float"), call.get("path")) else {
+            return Ok(None);
+        };
+        let (Some(word), Some(path)) = (float_word(alloc, float)?, path_in(alloc, path)?) else {
+            return Ok(None);
+        };
+        Ok(Some(self.bits(alloc, &path, word.as_str())?))
+    }
+
+    /// The text of a calls file in which each value `{"float": X}` is `{"number": N}`, with the
+    /// bits of the float.
+    pub fn as_bits(self, alloc: Global, bytes: &[u8]) -> Result<Vec<u8>, FloatCallsTrouble> {
+        let mut json = match Json::from_slice(alloc, bytes) {
+            Ok(json) => json,
+            Err(e) if e.is_memory() => return Err(FloatCallsTrouble::Memory),
+            Err(_) => return Err(FloatCallsTrouble::Form),
+        };
+        let calls = match json.get_mut("calls") {
+            Some(calls) => calls.as_array_mut().ok_or(FloatCallsTrouble::Form)?,
+            None => return Err(FloatCallsTrouble::Form),
+        };
+        for (before, call) in calls.iter_mut().enumerate() {
+            match self.number(alloc, call) {
+                Ok(Some(bits)) => put_number(alloc, call, bits)?,
+                Ok(None) => {}
+                Err(FloatTrouble::Memory) => return Err(FloatCallsTrouble::Memory),
+                Err(why) => {
+                    let number = before.saturating_add(1);
+                    return Err(FloatCallsTrouble::Call { number, why });
+                }
+            }
+        }
+        Ok(json.to_vec(alloc)?)
+    }
+}
+
+/// Makes the value of a call this number.
+fn put_number(alloc: Global, call: &mut Json, number: u64) -> Result<(), AllocError> {
+    let text = format!(in alloc; "{{\"number\":{number}}}")?;
+    let Ok(value) = Json::from_slice(alloc, text.as_bytes()) else {
+        return Err(AllocError);
+    };
+    if let Some(place) = call.get_mut("value") {
+        *place = value;
+    }
+    Ok(())
+}

@@ -1,0 +1,294 @@
+//! Replies of calls, in which floats are told as decimal numbers.
+
+use crate::float_fields::is_float_at;
+use crate::paths::{Landing, Misstep, element_there, id_there, landing_at, landing_from};
+use capnp_calls::{Action, Call, Step};
+use capnp_records::node::{BaseType, NodeRecord};
+use capnp_relay_requests::request::FloatField;
+use hagzimot_floats::float_text::{Float32, Float64, FloatForm};
+use hagzimot_schemas::nodes::fields_of;
+use std::alloc::{AllocError, Global};
+
+/// What a value is; a float, where it is the whole number of its bits, or lists of floats.
+#[derive(Clone, Copy, Debug, PartialEq, Eq)]
+struct Place {
+    at: Landing,
+    is_float: bool,
+}
+
+/// A field.
+#[derive(Debug, Drop)]
+struct NamedPlace {
+    name: String,
+    place: Place,
+}
+
+/// The fields of a struct or a group.
+#[derive(Debug, Drop)]
+struct Holder {
+    id: u64,
+    fields: Vec<NamedPlace>,
+}
+
+/// Where the replies of calls tell floats.
+#[derive(Debug, Drop)]
+pub struct FloatReplies {
+    holders: Vec<Holder>,
+    /// What each call's reply tells, where that is a value.
+    calls: Vec<Option<Place>>,
+}
+
+/// The fields of a node.
+fn holder_of(
+    alloc: Global,
+    node: &NodeRecord,
+    floats: &[FloatField],
+) -> Result<Holder, AllocError> {
+    let mut fields = Vec::new(alloc);
+    for (index, field) in fields_of(node).iter().enumerate() {
+        let is_float = floats.iter().any(|float| float.node == node.id
+            && float.index as usize == index);
+        fields.push(NamedPlace {
+            name: String::from_str(alloc, field.name.as_str())?,
+            place: Place {
+                at: landing_at(&field.body),
+                is_float,
+            },
+        })?;
+    }
+    Ok(Holder {
+        id: node.id,
+        fields,
+    })
+}
+
+/// What stands where a path leads, if it leads anywhere.
+fn place_of(
+    alloc: Global,
+    nodes: &[NodeRecord],
+    floats: &[FloatField],
+    root: u64,
+    path: &[Step],
+) -> Result<Option<Place>, AllocError> {
+    let at = match landing_from(alloc, nodes, root, path) {
+        Ok(at) => at,
+        Err(Misstep::Memory) => return Err(AllocError),
+        Err(_) => return Ok(None),
+    };
+    match is_float_at(alloc, nodes, floats, root, path) {
+        Ok(is_float) => Ok(Some(Place { at, is_float })),
+        Err(_) => Err(AllocError),
+    }
+}
+
+impl FloatReplies {
+    /// The replies of calls from the struct of an id on, where these fields are floats.
+    pub fn new(
+        alloc: Global,
+        nodes: &[NodeRecord],
+        floats: &[FloatField],
+        root: u64,
+        calls: &[Call],
+    ) -> Result<FloatReplies, AllocError> {
+        let mut holders = Vec::new(alloc);
+        for node in nodes {
+            holders.push(holder_of(alloc, node, floats)?)?;
+        }
+        let mut places = Vec::new(alloc);
+        for call in calls {
+            places.push(match call.action() {
+                Action::Get => place_of(alloc, nodes, floats, root, call.path())?,
+                _ => None,
+            })?;
+        }
+        Ok(FloatReplies {
+            holders,
+            calls: places,
+        })
+    }
+
+    /// The line of a message, with decimal numbers for the bits of floats. An error where a growth
+    /// was refused.
+    pub fn line(&self, alloc: Global, line: &str) -> Result<String, AllocError> {
+        let Some((front, replies)) = line.split_once(';') else {
+            return String::from_str(alloc, line);
+        };
+        let mut teller = Teller {
+            alloc,
+            told: self,
+            line: String::from_str(alloc, front)?,
+            word: String::new(alloc),
+            around: Vec::new(alloc),
+            place: None,
+            calls: 0,
+            mode: Mode::Plain,
+        };
+        teller.take(';')?;
+        for c in replies.chars() {
+            teller.take(c)?;
+        }
+        teller.end_word(' ')?;
+        Ok(teller.line)
+    }
+
+    /// The fields of what has fields there.
+    fn holder(&self, place: Option<Place>) -> Option<usize> {
+        let id = id_there(place?.at)?;
+        self.holders.iter().position(|holder| holder.id == id)
+    }
+
+    /// What a field of a name is.
+    fn field(&self, holder: Option<usize>, name: &str) -> Option<Place> {
+        let holder = self.holders.get(holder?)?;
+        let field = holder
+            .fields
+            .iter()
+            .find(|field| field.name.as_str() == name)?;
+        Some(field.place)
+    }
+}
+
+/// What stands around a value.
+#[derive(Clone, Copy, Debug)]
+enum Around {
+    /// A struct or a group, by the place of its fields.
+    Struct(Option<usize>),
+    /// A list, by what its elements are.
+    List(Option<Place>),
+}
+
+/// In which part of a reply a character stands.
+#[derive(Clone, Copy, Debug, PartialEq, Eq)]
+enum Mode {
+    Plain,
+    /// In a text between double quotes.
+    Text,
+    /// In such a text, behind a backslash.
+    Escape,
+    /// Between angle brackets, as no value is told.
+    Angle,
+}
+
+/// What is told of the characters so far, and where the next one stands.
+#[derive(Drop)]
+struct Teller<'a> {
+    alloc: Global,
+    told: &'a FloatReplies,
+    line: String,
+    /// The letters and digits of the word that the next character may end.
+    word: String,
+    /// What stands around, the innermost last.
+    around: Vec<Around>,
+    /// What the next value is; `None` before the name of a field too.
+    place: Option<Place>,
+    /// How many replies have begun.
+    calls: usize,
+    mode: Mode,
+}
+
+/// The text of the float of these bits, where they are those of a float.
+fn float_word(alloc: Global, place: Place, word: &str) -> Result<Option<String>, AllocError> {
+    let form = FloatForm::Text;
+    let Landing::Value(ty) = place.at else {
+        return Ok(None);
+    };
+    match (ty.base, word.parse::<u64>()) {
+        (BaseType::UInt32, Ok(bits)) => match u32::try_from(bits) {
+            Ok(bits) => Ok(Some(format!(in alloc; "{}", Float32 { bits, form })?)),
+            Err(_) => Ok(None),
+        },
+        (BaseType::UInt64, Ok(bits)) => {
+            Ok(Some(format!(in alloc; "{}", Float64 { bits, form })?))
+        }
+        _ => Ok(None),
+    }
+}
+
+impl Teller<'_> {
+    /// Writes the word that ends here, before a character: a float, a field's name or another.
+    fn end_word(&mut self, before: char) -> Result<(), AllocError> {
+        if self.word.is_empty() {
+            return Ok(());
+        }
+        let word = std::mem::replace(&mut self.word, String::new(self.alloc));
+        let told = match self.place {
+            Some(place) if place.is_float => float_word(self.alloc, place, word.as_str())?,
+            _ => None,
+        };
+        match told {
+            Some(told) => self.line.push_str(told.as_str())?,
+            None => self.line.push_str(word.as_str())?,
+        }
+        if let (' ', None, Some(Around::Struct(holder))) = (
+            before,
+            self.place,
+            self.around.last(),
+        ) {
+            self.place = self.told.field(*holder, word.as_str());
+        }
+        Ok(())
+    }
+
+    /// Takes a character that is in no text and between no angle brackets.
+    fn take_plain(&mut self, c: char) -> Result<(), AllocError> {
+        match c {
+            '(' => {
+                let holder = self.told.holder(self.place);
+                self.around.push(Around::Struct(holder))?;
+                self.place = None;
+            }
+            '[' => {
+                self.place = element_of(self.place);
+                self.around.push(Around::List(self.place))?;
+            }
+            ')' | ']' => {
+                self.around.pop();
+                self.place = None;
+            }
+            ',' => {
+                self.place = match self.around.last() {
+                    Some(Around::List(place)) => *place,
+                    _ => None,
+                };
+            }
+            ';' => {
+                self.place = self.told.calls.get(self.calls).copied().flatten();
+                self.calls = self.calls.saturating_add(1);
+            }
+            '"' => self.mode = Mode::Text,
+            '<' => self.mode = Mode::Angle,
+            _ => {}
+        }
+        Ok(())
+    }
+
+    /// Takes a character.
+    fn take(&mut self, c: char) -> Result<(), AllocError> {
+        match (self.mode, c) {
+            (Mode::Plain, '(' | ')' | '[' | ']' | ',' | ';' | '"' | '<' | ' ' | '\n') => {
+                self.end_word(c)?;
+                self.take_plain(c)?;
+            }
+            (Mode::Plain, _) => {
+                self.word.push(c)?;
+                return Ok(());
+            }
+            (Mode::Text, '\\') => self.mode = Mode::Escape,
+            (Mode::Text, '"') => self.mode = Mode::Plain,
+            (Mode::Angle, '>') => self.mode = Mode::Plain,
+            (Mode::Escape, _) => self.mode = Mode::Text,
+            (Mode::Text | Mode::Angle, _) => {}
+        }
+        self.line.push(c)?;
+        Ok(())
+    }
+}
+
+/// What an element of a list there is.
+fn element_of(place: Option<Place>) -> Option<Place> {
+    let place = place?;
+    Some(Place {
+        at: element_there(place.at)?,
+        is_float: place.is_float,
+    })
+}
