@@ -2,8 +2,8 @@
 use Rattle.std.specs.Prelude.{ℕ, ◌==◌, if◌then◌else◌, List, codes}
 
 -- What the rule of a number says.
-abbrev pub rule_words : ℕ → List ℕ
-rule_words r = if r == 1 then codes "ids are distinct"
+abbrev pub rule_told : ℕ → List ℕ
+rule_told r = if r == 1 then codes "ids are distinct"
     else if r == 2 then codes "a node has at most 65,535 fields or enumerants, and a list of annotations fewer than 2^29"
     else if r == 3 then codes "names within a node are distinct and not empty"
     else if r == 4 then codes "no field is a float or a list of floats"

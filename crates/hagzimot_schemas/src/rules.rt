@@ -1,10 +1,10 @@
 //! The rules of schemas, in words.
 ghost use Rattle.std.specs.Prelude.{◌≡◌};
-ghost use Rattle.hagzimot_schemas.specs.Rules.{rule_words};
+ghost use Rattle.hagzimot_schemas.specs.Rules.{rule_told};
 
 /// What the rule of a number says, from 1 to 12.
 pub fn rule_text(rule: u32) -> &'static str
-    ensures { result.now ≡ rule_words rule }
+    ensures { result.now ≡ rule_told rule }
 {
     match rule {
         1 => "ids are distinct",
