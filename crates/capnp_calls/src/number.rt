@@ -8,7 +8,7 @@ ghost use Rattle.capnp_calls.specs.CallViews.{slot_value_view};
 ghost use Rattle.capnp_calls.specs.Contents.{bits_content};
 
 use crate::SlotValue;
-use capnp_values_queries::slots::PlainType;
+use capnp_values_queries::slots::{PlainType, width_of};
 
 /// The bits of a number without a sign, if it is below 2^width.
 pub fn unsigned_bits(number: i128, width: u32) -> Option<u64>
@@ -50,19 +50,6 @@ fn all_ones(width: u32) -> u64
     ensures { result ≡ 2 ^ width - 1 }
 {
     ((1u128 << width) - 1) as u64
-}
-
-/// The bits of a plain type's values.
-pub(crate) fn width_of(ty: PlainType) -> u32
-    ensures { result ≡ width (plain_of ty) }
-{
-    match ty {
-        PlainType::Bool => 1,
-        PlainType::Int8 | PlainType::UInt8 => 8,
-        PlainType::Int16 | PlainType::UInt16 | PlainType::Enum(_) => 16,
-        PlainType::Int32 | PlainType::UInt32 => 32,
-        PlainType::Int64 | PlainType::UInt64 => 64,
-    }
 }
 
 /// The bits of a value in a slot of a plain type, the default not yet put to them; `None` where it

@@ -12,14 +12,14 @@ ghost use Rattle.capnp_calls.specs.Splices.{IsPutOf};
 ghost use Rattle.capnp_calls_splice.specs.Blobs.{tree_of_blob};
 
 use crate::ends::End;
-use crate::number::{bits_for, width_of};
+use crate::number::bits_for;
 use crate::{Action, SlotValue, Step};
 use capnp_calls_splice::blob::Blob;
 use capnp_calls_splice::plain::PlainSet;
 use capnp_calls_splice::splice::{Hop, Put, Splice};
 use capnp_units::errors::Result;
 use capnp_values_queries::introspect::{Type, TypeVariant};
-use capnp_values_queries::slots::{FieldPlace, PlainType};
+use capnp_values_queries::slots::{FieldPlace, PlainType, width_of};
 use std::alloc::Global;
 
 /// How a path goes on by a step.

@@ -30,12 +30,12 @@ use capnp_schema_lists::init::init_element;
 use capnp_schema_lists::laws::{elements_as_pointers, elements_as_structs};
 use capnp_schema_lists::places::{element_pointer, element_struct};
 use capnp_schema_structs::roots::words_of;
-use capnp_schema_structs::slots::width_of;
 use capnp_text::text;
 use capnp_units::errors::{Error, Result};
 use capnp_units::kinds::ErrorKind;
 use capnp_values::dynamic_value::Reader;
 use capnp_values_queries::introspect::{Type, TypeVariant};
+use capnp_values_queries::slots::width_of;
 use capnp_wire_objects::arena::NullArena;
 
 /// Sets an element to a plain value of its type, or a Void one to any. Other elements, and values

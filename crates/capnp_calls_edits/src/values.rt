@@ -18,13 +18,13 @@ use capnp_calls::number::bits_for;
 use capnp_copy_arenas::arena::BuilderArena;
 use capnp_copy_arenas::fields::{StructPlace, set_bits};
 use capnp_schema_structs::setting::set_flat;
-use capnp_schema_structs::slots::{mark, width_of};
+use capnp_schema_structs::slots::mark;
 use capnp_text::text;
 use capnp_units::errors::{Error, Result};
 use capnp_units::kinds::ErrorKind;
 use capnp_values::dynamic_value::Reader;
 use capnp_values_queries::fields::Field;
-use capnp_values_queries::slots::FieldPlace;
+use capnp_values_queries::slots::{FieldPlace, width_of};
 use capnp_wire_objects::arena::NullArena;
 
 /// Sets a plain field to a value of its type, or a Void field to any, and marks its union. Other

@@ -21,13 +21,12 @@ use capnp_copy_arenas::elements::set_element;
 use capnp_copy_arenas::fields::set_bits;
 use capnp_copy_arenas::init::ListPlace;
 use capnp_schema_structs::setting::bits_for;
-use capnp_schema_structs::slots::width_of;
 use capnp_units::errors::{Error, Result};
 use capnp_units::kinds::ErrorKind;
 use capnp_units::sizes::ElementSize;
 use capnp_values::dynamic_value::Reader;
 use capnp_values_queries::introspect::{Type, TypeVariant};
-use capnp_values_queries::slots::PlainType;
+use capnp_values_queries::slots::{PlainType, width_of};
 
 /// The plain type that a type is, if it is one.
 pub fn plain_type(ty: Type) -> Option<PlainType>

@@ -10,9 +10,9 @@ ghost use Rattle.capnp_schema_lists.specs.Lists.{HasElementBits, HasPointer, Has
 use crate::elements::plain_type;
 use capnp_copy_arenas::init::ListPlace;
 use capnp_records::set::SchemaSet;
-use capnp_schema_structs::slots::width_of;
 use capnp_units::sizes::{ElementSize, data_bits_per_element};
 use capnp_values_queries::introspect::{Type, TypeVariant};
+use capnp_values_queries::slots::width_of;
 use capnp_values_queries::structs::StructSchema;
 
 /// Whether each element has n bits at its front.

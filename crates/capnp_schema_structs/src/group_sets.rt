@@ -20,7 +20,7 @@ ghost use Rattle.capnp_schema_structs.specs.GroupSets.{IsNotNull, IsSource, IsFa
 
 use crate::group_nulls::{default_value, put_null};
 use crate::group_sources::{bits_in, copy_child, has_turn};
-use crate::slots::{clear_field, mark, pointer_place, width_of};
+use crate::slots::{clear_field, mark, pointer_place};
 use capnp_copy_arenas::arena::BuilderArena;
 use capnp_copy_arenas::fields::{StructPlace, set_bits};
 use capnp_records::node::NO_DISCRIMINANT;
@@ -31,7 +31,7 @@ use capnp_values::laws::{nulls_are_read, pointers_are_read};
 use capnp_values::source::StructSource;
 use capnp_values_queries::fields::Field;
 use capnp_values_queries::introspect::{Type, TypeVariant};
-use capnp_values_queries::slots::FieldPlace;
+use capnp_values_queries::slots::{FieldPlace, width_of};
 use capnp_values_queries::structs::StructSchema;
 use capnp_wire::structs::StructReader;
 use capnp_wire_objects::arena::ReaderArena;

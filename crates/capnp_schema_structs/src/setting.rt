@@ -19,7 +19,7 @@ ghost use Rattle.capnp_copy_arenas.specs.Refusals.{IsSizeOrRefusal};
 ghost use Rattle.capnp_copy_arenas.specs.States.{HasWords, state_in};
 ghost use Rattle.capnp_schema_structs.specs.Puts.{HasCause, PutsContent};
 
-use crate::slots::{mark, pointer_place, width_of};
+use crate::slots::{mark, pointer_place};
 use capnp_copy_arenas::arena::BuilderArena;
 use capnp_copy_arenas::blobs::{set_data, set_text};
 use capnp_copy_arenas::fields::{StructPlace, set_bits};
@@ -28,7 +28,7 @@ use capnp_units::kinds::ErrorKind;
 use capnp_values::dynamic_value::Reader;
 use capnp_values_queries::fields::Field;
 use capnp_values_queries::introspect::{Type, TypeVariant};
-use capnp_values_queries::slots::{FieldPlace, PlainType};
+use capnp_values_queries::slots::{FieldPlace, PlainType, width_of};
 use capnp_wire_objects::place::Place;
 
 /// A text, without its zero byte, or data.

@@ -5,10 +5,9 @@ ghost use Rattle.capnp_model.specs.Edits.{mark, cleared, cleared_body};
 ghost use Rattle.capnp_model.specs.Segments.{after};
 ghost use Rattle.capnp_wire_objects.specs.Places.{place_view};
 ghost use Rattle.capnp_values_queries.specs.Fields.{union_in};
-ghost use Rattle.capnp_model.specs.Schemas.{width};
 ghost use Rattle.capnp_units.specs.Segments.{words_in};
 ghost use Rattle.capnp_values_queries.specs.Structs.{shape_of_struct};
-ghost use Rattle.capnp_values_queries.specs.Handles.{entry_of_field, body_of_place, plain_of};
+ghost use Rattle.capnp_values_queries.specs.Handles.{entry_of_field, body_of_place};
 ghost use Rattle.capnp_model.specs.Calls.{clear};
 ghost use Rattle.capnp_schema_structs.specs.Calls.{edit_of};
 ghost use Rattle.capnp_schema_structs.specs.Inside.{LieIn};
@@ -19,22 +18,9 @@ use capnp_copy_arenas::clear::clear;
 use capnp_copy_arenas::fields::{StructPlace, set_bits};
 use capnp_records::node::NO_DISCRIMINANT;
 use capnp_values_queries::fields::Field;
-use capnp_values_queries::slots::{FieldPlace, PlainType};
+use capnp_values_queries::slots::{FieldPlace, width_of};
 use capnp_values_queries::structs::StructSchema;
 use capnp_wire_objects::place::Place;
-
-/// The bits of a plain type's values.
-pub fn width_of(ty: PlainType) -> u32
-    ensures { result ≡ width (plain_of ty) }
-{
-    match ty {
-        PlainType::Bool => 1,
-        PlainType::Int8 | PlainType::UInt8 => 8,
-        PlainType::Int16 | PlainType::UInt16 | PlainType::Enum(_) => 16,
-        PlainType::Int32 | PlainType::UInt32 => 32,
-        PlainType::Int64 | PlainType::UInt64 => 64,
-    }
-}
 
 /// Writes the discriminant of the struct's union, if it has one.
 pub(crate) fn set_discriminant<A: BuilderArena>(

@@ -1,11 +1,11 @@
 //! Where fields lie in their structs.
 
 ghost use Rattle.std.specs.Prelude.{◌≡◌, ◌^◌, ◌<◌, true, option_map, option_copied};
-ghost use Rattle.capnp_model.specs.Schemas.{plain, type_of};
+ghost use Rattle.capnp_model.specs.Schemas.{plain, type_of, width};
 ghost use Rattle.capnp_model.specs.Accepted.{default_bits, names_its_sort, slot_body};
 ghost use Rattle.capnp_records.specs.NodeViews.{base_of, type_record_of, value_of};
 ghost use Rattle.capnp_records.specs.Sets.{nodes_of};
-ghost use Rattle.capnp_values_queries.specs.Handles.{body_of_place, IsPlaceIn};
+ghost use Rattle.capnp_values_queries.specs.Handles.{plain_of, body_of_place, IsPlaceIn};
 
 use crate::introspect::{Type, TypeVariant};
 use crate::named::type_in;
@@ -56,6 +56,19 @@ pub enum FieldPlace<'a> {
     Group {
         schema: StructSchema<'a>,
     },
+}
+
+/// The bits of a plain type's values.
+pub fn width_of(ty: PlainType) -> u32
+    ensures { result ≡ width (plain_of ty) }
+{
+    match ty {
+        PlainType::Bool => 1,
+        PlainType::Int8 | PlainType::UInt8 => 8,
+        PlainType::Int16 | PlainType::UInt16 | PlainType::Enum(_) => 16,
+        PlainType::Int32 | PlainType::UInt32 => 32,
+        PlainType::Int64 | PlainType::UInt64 => 64,
+    }
 }
 
 /// The bits of a plain default.
