@@ -1,15 +1,15 @@
-//! Structs, and lists of plain elements, that are told in one look at their segment.
+//! Structs, and lists of them and of plain elements, that are told in one look at their segment.
 ghost use Rattle.std.specs.Prelude.{◌≡◌, ℕ, List, IfSome};
 ghost use Rattle.capnp_units.specs.Segments.{words_in};
 ghost use Rattle.capnp_wire_objects.specs.Arenas.{segment_bytes};
 ghost use Rattle.capnp_wire_objects.specs.Places.{place_view};
-ghost use Rattle.capnp_wire_objects.specs.Near.{list_object, struct_object, IsMeasured, IsNear};
+ghost use Rattle.capnp_wire_objects.specs.Near.{list_object, struct_object, structs_object, IsMeasured, IsNear};
 
 use crate::lists::NearList;
 use crate::place::{Place, begins_at, reach, word_in};
-use crate::structs::NearStruct;
+use crate::structs::{NearStruct, NearStructs};
 use crate::word_pointer::{WordPointer, pointer_of_word};
-use capnp_units::sizes::StructSize;
+use capnp_units::sizes::{ElementSize, StructSize};
 
 /// The numbers of the sizes of plain elements are below this one.
 const PLAIN_SIZES: u64 = 6;
@@ -51,6 +51,66 @@ pub fn near_list_in(bytes: &[u8], place: Place) -> Option<NearList>
         return None;
     }
     Some(list)
+}
+
+/// The list that the pointer at a place names, where it is one of structs in the same segment,
+/// without a landing pad, and its tag, its words and its elements are there. It is what `object_at`
+/// tells of the place. The segment is the one of these bytes, and isn't asked for.
+///
+/// `None` has no meaning: whatever is there, such a list too, `object_at` tells it or refuses it.
+#[inline(always)]
+pub fn near_structs_in(bytes: &[u8], place: Place) -> Option<NearStructs>
+    ensures near { (segments : List (List ℕ)) → bytes.now ≡ segment_bytes segments place.segment
+        → IfSome result (λ list.
+        IsNear (words_in segments) (place_view place) (structs_object list)) }
+    ensures segment { IfSome result (λ list. list.start.segment ≡ place.segment) }
+{
+    let word = word_in(bytes, place.position)?;
+    let WordPointer::List {
+        offset,
+        size: ElementSize::InlineComposite,
+        count: words,
+    } = pointer_of_word(word)
+    else {
+        return None;
+    };
+    let end = Place {
+        segment: place.segment,
+        position: place.position + 1,
+    };
+    let Ok(tag_place) = begins_at(end, offset) else {
+        return None;
+    };
+    if !reach(bytes, tag_place.position, 1 + words as usize) {
+        return None;
+    }
+    let tag = word_in(bytes, tag_place.position)?;
+    let WordPointer::Struct {
+        offset: count,
+        data_words,
+        pointers,
+    } = pointer_of_word(tag)
+    else {
+        return None;
+    };
+    let width = data_words as u64 + pointers as u64;
+    if count as u64 * width > words as u64 {
+        return None;
+    }
+    let start = Place {
+        segment: tag_place.segment,
+        position: tag_place.position + 1,
+    };
+    let size = StructSize {
+        data_words,
+        pointers,
+    };
+    Some(NearStructs {
+        start,
+        words,
+        count,
+        size,
+    })
 }
 
 /// The struct that the pointer at a place names, where it lies in the same segment, without a

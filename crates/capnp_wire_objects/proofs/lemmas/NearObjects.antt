@@ -1,9 +1,10 @@
 -- Objects that are told in one look.
-use Rattle.std.proofs.Common.{◌≡◌, ℕ, ◌+◌, ◌-◌, ◌*◌, ◌/◌, ◌^◌, ◌<◌, Bool, true, false, nat_lt, leb, eqb, if◌then◌else◌, List, [], length, Option, Some, None, Result, Ok, refl, ap, sym, ◌∙◌, subst, arith}
+use Rattle.std.proofs.Common.{◌≡◌, ℕ, ◌+◌, ◌-◌, ◌*◌, ◌/◌, ◌^◌, ◌<◌, ◌≤◌, Bool, true, false, nat_lt, leb, eqb, if◌then◌else◌, List, [], length, Option, Some, None, Result, Ok, refl, ap, sym, ◌∙◌, subst, arith}
 use Rattle.std.specs.Prelude.{unwrap_or}
 use Rattle.std.specs.List.{slice_get}
 use Rattle.std.specs.Option.{ok_or, is_some}
 use Rattle.std.proofs.lemmas.Bool.{ne_eqb}
+use Rattle.std.proofs.lemmas.Bool.Decides.{nat_tests}
 use Rattle.capnp_model.specs.Kinds.{Kind, OutOfBounds}
 use Rattle.capnp_model.specs.Chains.{◌>>=◌, ◌provided◌, ◌and_then◌}
 use Rattle.capnp_model.specs.Sections.{words_for}
@@ -24,6 +25,7 @@ use Rattle.capnp_wire_objects.specs.Objects.{whole}
 use Rattle.capnp_wire_objects.specs.Near.{IsNear}
 use Rattle.capnp_wire_objects.proofs.lemmas.Words.{segment_there, words_where}
 use Rattle.capnp_wire_objects.proofs.lemmas.Walking.{exact_object}
+use Rattle.capnp_wire_objects.proofs.lemmas.Tags.{structs_found}
 
 -- an object begins in the segment where its pointer ends
 pub begins_where : (p q : Place) (offset : ℕ) → begins p offset ≡ Ok q → q.segment ≡ p.segment
@@ -87,18 +89,32 @@ module _ (segments : List (List ℕ)) (bytes : List ℕ) (p : Place) (w offset :
       let same : p.segment ≡ start.segment = sym (begins_where (after p 1) (place_view start) offset (sym begin)) in
       subst (λ (i : ℕ). is_some (words_at s (place i start.position) words) ≡ true) same (words_where segments p.segment start.position words bytes there ∙ fit)
 
+  -- the pointer names a list that begins there
+  listed : (size n : ℕ) → to_list offset size n ≡ pointer_of w → found_at (words_in segments) p ≡ Ok (found_near (a_list (place_view start) size n))
+  listed size n says =
+      let some : eqb w 0 ≡ false = ne_eqb w 0 (some_word w offset size n says) in
+      rw (at_place, some) (ap (found_by (words_in segments) p) (sym says) ∙ ap (λ (r : Result Place Kind). (r and_then λ q. Ok (a_list q size n)) and_then λ o. Ok (found_near o)) (sym begin))
+
   pub list_near : (size : ElementSize) (n words : ℕ) → to_list offset (size_number size) n ≡ pointer_of w → words ≡ words_for (data_bits (size_number size) * n) → size_number size < 6 → leb (start.position + words) (length bytes / 8) ≡ true → start.position + words < 2 ^ 61
       → IsNear (words_in segments) p (object.List start size n)
   list_near size n words says few plain fit bound =
       let s : Segments = words_in segments in
       let all : ℕ = words_for (data_bits (size_number size) * n) in
       let own : is_some (words_at s (place_view start) all) ≡ true = subst (λ (m : ℕ). is_some (words_at s (place_view start) m) ≡ true) few (inside words fit) in
-      (exact_object s p (found_near (a_list (place_view start) (size_number size) n)) (object.List start size n) listed (whole_plain s start size n plain own), (plain, (own, omega arith)))
-    where
-      listed : found_at (words_in segments) p ≡ Ok (found_near (a_list (place_view start) (size_number size) n))
-      listed =
-          let some : eqb w 0 ≡ false = ne_eqb w 0 (some_word w offset (size_number size) n says) in
-          rw (at_place, some) (ap (found_by (words_in segments) p) (sym says) ∙ ap (λ (r : Result Place Kind). (r and_then λ q. Ok (a_list q (size_number size) n)) and_then λ o. Ok (found_near o)) (sym begin))
+      (exact_object s p (found_near (a_list (place_view start) (size_number size) n)) (object.List start size n) (listed (size_number size) n says) (whole_plain s start size n plain own), (plain, (own, omega arith)))
+
+  -- its tag is the word where it begins
+  pub structs_near : (n tag o d k : ℕ) → to_list offset 7 n ≡ pointer_of w → leb (start.position + (1 + n)) (length bytes / 8) ≡ true → start.position + (1 + n) < 2 ^ 61 → Some tag ≡ slice_get (whole_words bytes) start.position → to_struct o d k ≡ pointer_of tag → o * (d + k) ≤ n
+      → IsNear (words_in segments) p (object.StructList (record { segment = start.segment; position = start.position + 1 }) n o d k)
+  structs_near n tag o d k says fit bound first tagged few =
+      let s : Segments = words_in segments in
+      let own = inside (1 + n) fit in
+      let same : p.segment ≡ start.segment = sym (begins_where (after p 1) (place_view start) offset (sym begin)) in
+      let here : Some bytes ≡ slice_get segments start.segment = subst (λ (i : ℕ). Some bytes ≡ slice_get segments i) same there in
+      let at : Some tag ≡ word_at s (place_view start) = first ∙ sym (ap (λ (o : Option (List ℕ)). o >>= λ ws. slice_get ws start.position) (segment_there segments start.segment bytes here)) in
+      let fits : leb (start.position + 1 + n) (length bytes / 8) ≡ true = grind (arith, nat_tests) in
+      let behind : is_some (words_at s (place start.segment (start.position + 1)) n) ≡ true = words_where segments start.segment (start.position + 1) n bytes here ∙ fits in
+      (exact_object s p (found_near (a_list (place_view start) 7 n)) (object.StructList (record { segment = start.segment; position = start.position + 1 }) n o d k) (listed 7 n says) (sym (structs_found s (place_view start) n tag own at o d k tagged few)), ((behind, omega arith), few))
 
   pub struct_near : (d k : ℕ) → to_struct offset d k ≡ pointer_of w → (w ≡ 0 → ⊥) → leb (start.position + (d + k)) (length bytes / 8) ≡ true → start.position + (d + k) < 2 ^ 61 → IsNear (words_in segments) p (object.Struct start d k)
   struct_near d k says nonzero fit bound =
