@@ -25,7 +25,7 @@ pub struct Reader<'a, A> {
     set: &'a SchemaSet,
     element_type: Type,
     ghost known: { is_type_of (nodes_of set.now) element_type ≡ true },
-    ghost bytewise: { size_number (size_of (ty_of element_type)) ≢ 1
+    ghost bytewise: { size_number (size_of (ty_of element_type)) ≡ 7
         → size_number (size_in source) ≢ 1 },
 }
 
@@ -47,11 +47,11 @@ impl<'a, A: ReaderArena> Reader<'a, A> {
     ghost use Rattle.capnp_values.specs.Sources.{list_seen};
     ghost use Rattle.capnp_values.specs.Shown.{shown, shown_at, GivesElements};
 
-    /// A message's list of elements of a type of the set. Its elements aren't bits, unless they are
-    /// of type Bool.
+    /// A message's list of elements of a type of the set. Where these are structs, its elements
+    /// aren't bits.
     pub fn new(reader: ListReader<'a, A>, set: &'a SchemaSet, element_type: Type) -> Self
         requires known { is_type_of (nodes_of set.now) element_type ≡ true }
-        requires bytewise { size_number (size_of (ty_of element_type)) ≢ 1
+        requires bytewise { size_number (size_of (ty_of element_type)) ≡ 7
             → size_number (seen_list A.segments reader).size ≢ 1 }
         ensures source { list_seen A.segments result.source ≡ seen_list A.segments reader.entry }
         ensures set { nodes_of result.set.now ≡ nodes_of set.now }
@@ -67,7 +67,7 @@ impl<'a, A: ReaderArena> Reader<'a, A> {
         element_type: Type,
     ) -> Self
         requires known { is_type_of (nodes_of set.now) element_type ≡ true }
-        requires bytewise { size_number (size_of (ty_of element_type)) ≢ 1
+        requires bytewise { size_number (size_of (ty_of element_type)) ≡ 7
             → size_number (size_in source) ≢ 1 }
         ensures source { result.source ≡ source.entry }
         ensures set { nodes_of result.set.now ≡ nodes_of set.now }

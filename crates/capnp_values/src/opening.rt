@@ -83,7 +83,7 @@ fn list_value<'a, A: ReaderArena>(
     element_type: Type,
 ) -> Reader<'a, A>
     requires known { is_type_of (nodes_of set.now) element_type ≡ true }
-    requires bytewise { size_number (size_of (ty_of element_type)) ≢ 1
+    requires bytewise { size_number (size_of (ty_of element_type)) ≡ 7
         → size_number (size_in source) ≢ 1 }
     ensures { shown A.segments result
         ≡ a_list (schema_in set.now) (ty_of element_type) (list_seen A.segments source.entry) }
