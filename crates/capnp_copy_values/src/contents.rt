@@ -3,16 +3,12 @@ ghost use Rattle.std.specs.Prelude.{min, ◌≡◌, ◌+◌, ◌*◌, ◌^◌, �
 ghost use Rattle.std.specs.Option.{is_some};
 ghost use Rattle.capnp_model.specs.Sections.{number_of};
 ghost use Rattle.capnp_model.specs.Segments.{words_at};
-ghost use Rattle.capnp_model.specs.Sizes.{each_object_words};
-ghost use Rattle.capnp_model.specs.Traversal.{tree_at, each};
-ghost use Rattle.capnp_model.specs.Coverage.{from_each};
-ghost use Rattle.capnp_model.specs.Visits.{visits};
 ghost use Rattle.capnp_units.specs.Segments.{words_in};
 ghost use Rattle.capnp_wire_objects.specs.Places.{place_view};
 ghost use Rattle.capnp_copy_arenas.specs.Refusals.{IsSizeOrRefusal};
 ghost use Rattle.capnp_copy_arenas.specs.States.{state_in};
-ghost use Rattle.capnp_copy_values.specs.Fits.{FitsWhereRoom, HasLongList};
 ghost use Rattle.capnp_copy_values.specs.Copies.{IsStoppedOr, struct_source};
+ghost use Rattle.capnp_copy_values.specs.Sources.{HasStructWords, visits_in_row, FitsRow};
 ghost use Rattle.capnp_copy_values.specs.Contents.{CopiesContent, ClearsRest, SetsSection, fitting};
 
 use crate::copy::fill_row;
@@ -108,23 +104,17 @@ pub fn copy_content_from<A: BuilderArena, B: ReaderArena>(
     pointers: u16,
     levels: u32,
 ) -> Result<()>
-    requires there { is_some (words_at (words_in (A.segments arena.old)) (place_view object.start)
-        (object.data_words + object.pointers)) ≡ true }
+    requires there { HasStructWords (A.segments arena.old) object }
     requires near { object.start.position + (object.data_words + object.pointers) < 2 ^ 61 }
     requires source_near { first.position + pointers < 2 ^ 62 }
     ensures content { CopiesContent levels (words_in (B.segments source.now))
-        (struct_source section.now first pointers)
-        (words_in (A.segments arena.old)) (words_in (A.segments arena.new)) object limiter.old
-        result limiter.new }
-    ensures cause { IsStoppedOr (from_each (visits levels (words_in (B.segments source.now)))
-        (place_view first) (min pointers object.pointers)) limiter.old limiter.new
-        (IsSizeOrRefusal A.refuses) result }
-    ensures fits { let at = state_in A.segments A.room A.books in
-        let from = words_in (B.segments source.now) in let p = place_view first in
-        let k = min pointers object.pointers in
-        FitsWhereRoom each_object_words (each (tree_at levels from) p k)
-        (from_each (visits levels from) p k) (HasLongList from) object.start.segment (at arena.old)
-        (at arena.new) limiter.old result limiter.new }
+        (struct_source section.now first pointers) (words_in (A.segments arena.old))
+        (words_in (A.segments arena.new)) object limiter.old result limiter.new }
+    ensures cause { IsStoppedOr (visits_in_row levels (B.segments source.now) (place_view first)
+        (min pointers object.pointers)) limiter.old limiter.new (IsSizeOrRefusal A.refuses) result }
+    ensures fits { let at = state_in A.segments A.room A.books in FitsRow levels
+        (B.segments source.now) (place_view first) (min pointers object.pointers) object.start
+        (at arena.old) (at arena.new) limiter.old result limiter.new }
     ensures books { A.books arena.new ≡ A.books arena.old }
 {
     copy_data_from(arena, object, section);
