@@ -5,8 +5,9 @@ ghost use Rattle.capnp_wire_objects.specs.Places.{place_view};
 ghost use Rattle.capnp_wire.specs.Views.{seen_pointer, seen_struct, seen_list};
 ghost use Rattle.capnp_copy_arenas.specs.Refusals.{IsSizeOrRefusal};
 ghost use Rattle.capnp_copy_arenas.specs.States.{HasWords, state_in};
+ghost use Rattle.capnp_copy_values.specs.Sources.{HasStructWords};
 ghost use Rattle.capnp_layout_builders.specs.Copied.{CopiesPointer, SetsStruct, SetsList, TakesOver, PointerTold, StructTold, ListTold, ContentTold};
-ghost use Rattle.capnp_layout_builders.specs.Making.{state_of};
+ghost use Rattle.capnp_layout_builders.specs.Making.{memory_words, state_of};
 
 use crate::pointer_builder::PointerBuilder;
 use crate::struct_builder::StructBuilder;
@@ -150,8 +151,7 @@ fn copy_content<A: BuilderArena, B: ReaderArena>(
     limiter: &mut ReadLimiter,
     other: StructReader<'_, B>,
 ) -> Result<()>
-    requires there { HasWords (A.segments arena.old)
-        object.start (object.data_words + object.pointers) }
+    requires there { HasStructWords (A.segments arena.old) object }
     requires near { object.start.position + (object.data_words + object.pointers) < 2 ^ 61 }
     ensures content { TakesOver (seen_struct B.segments other.entry)
         (words_in (A.segments arena.old))
@@ -209,14 +209,12 @@ impl<'a, A: BuilderArena> PointerBuilder<'a, A> {
         requires near { self.old.place.position < 2 ^ 61 }
         ensures same { self.new.memory.ghost_name ≡ self.old.memory.ghost_name }
         ensures place { self.new.place ≡ self.old.place }
-        ensures copy { CopiesPointer (seen_pointer B.segments other.entry)
-            (words_in (A.segments self.old.memory.now.arena))
-            (words_in (A.segments self.new.memory.now.arena))
-            (place_view self.old.place) limiter.old result limiter.new }
-        ensures told { let at = state_of A.segments A.room A.books in
-            PointerTold (seen_pointer B.segments other.entry) (at self.old.memory.now)
-            (at self.new.memory.now) self.old.place.segment (IsSizeOrRefusal A.refuses)
-            limiter.old result limiter.new }
+        ensures copy { let words = memory_words A.segments in
+            CopiesPointer (seen_pointer B.segments other.entry) (words self.old.memory.now)
+            (words self.new.memory.now) (place_view self.old.place) limiter.old result limiter.new }
+        ensures told { let at = state_of A.segments A.room A.books in PointerTold
+            (seen_pointer B.segments other.entry) (at self.old.memory.now) (at self.new.memory.now)
+            self.old.place.segment (IsSizeOrRefusal A.refuses) limiter.old result limiter.new }
         ensures books { A.books self.new.memory.now.arena ≡ A.books self.old.memory.now.arena }
     {
         let place = self.place;
@@ -239,14 +237,12 @@ impl<'a, A: BuilderArena> PointerBuilder<'a, A> {
         requires near { self.old.place.position < 2 ^ 61 }
         ensures same { self.new.memory.ghost_name ≡ self.old.memory.ghost_name }
         ensures place { self.new.place ≡ self.old.place }
-        ensures copy { SetsStruct (seen_struct B.segments value.entry)
-            (words_in (A.segments self.old.memory.now.arena))
-            (words_in (A.segments self.new.memory.now.arena))
-            (place_view self.old.place) limiter.old result limiter.new }
-        ensures told { let at = state_of A.segments A.room A.books in
-            StructTold (seen_struct B.segments value.entry) (at self.old.memory.now)
-            (at self.new.memory.now) self.old.place.segment (IsSizeOrRefusal A.refuses)
-            limiter.old result limiter.new }
+        ensures copy { let words = memory_words A.segments in
+            SetsStruct (seen_struct B.segments value.entry) (words self.old.memory.now)
+            (words self.new.memory.now) (place_view self.old.place) limiter.old result limiter.new }
+        ensures told { let at = state_of A.segments A.room A.books in StructTold
+            (seen_struct B.segments value.entry) (at self.old.memory.now) (at self.new.memory.now)
+            self.old.place.segment (IsSizeOrRefusal A.refuses) limiter.old result limiter.new }
         ensures books { A.books self.new.memory.now.arena ≡ A.books self.old.memory.now.arena }
     {
         let place = self.place;
@@ -269,14 +265,12 @@ impl<'a, A: BuilderArena> PointerBuilder<'a, A> {
         requires near { self.old.place.position < 2 ^ 61 }
         ensures same { self.new.memory.ghost_name ≡ self.old.memory.ghost_name }
         ensures place { self.new.place ≡ self.old.place }
-        ensures copy { SetsList (seen_list B.segments value.entry)
-            (words_in (A.segments self.old.memory.now.arena))
-            (words_in (A.segments self.new.memory.now.arena))
-            (place_view self.old.place) limiter.old result limiter.new }
-        ensures told { let at = state_of A.segments A.room A.books in
-            ListTold (seen_list B.segments value.entry) (at self.old.memory.now)
-            (at self.new.memory.now) self.old.place.segment (IsSizeOrRefusal A.refuses)
-            limiter.old result limiter.new }
+        ensures copy { let words = memory_words A.segments in
+            SetsList (seen_list B.segments value.entry) (words self.old.memory.now)
+            (words self.new.memory.now) (place_view self.old.place) limiter.old result limiter.new }
+        ensures told { let at = state_of A.segments A.room A.books in ListTold
+            (seen_list B.segments value.entry) (at self.old.memory.now) (at self.new.memory.now)
+            self.old.place.segment (IsSizeOrRefusal A.refuses) limiter.old result limiter.new }
         ensures books { A.books self.new.memory.now.arena ≡ A.books self.old.memory.now.arena }
     {
         let place = self.place;
@@ -299,20 +293,17 @@ impl<'a, A: BuilderArena> StructBuilder<'a, A> {
         limiter: &mut ReadLimiter,
         other: StructReader<'_, B>,
     ) -> Result<()>
-        requires there { HasWords (A.segments self.old.memory.now.arena)
-            self.old.place.start (self.old.place.data_words + self.old.place.pointers) }
+        requires there { HasStructWords (A.segments self.old.memory.now.arena) self.old.place }
         requires near { self.old.place.start.position
             + (self.old.place.data_words + self.old.place.pointers) < 2 ^ 61 }
         ensures same { self.new.memory.ghost_name ≡ self.old.memory.ghost_name }
         ensures place { self.new.place ≡ self.old.place }
-        ensures content { TakesOver (seen_struct B.segments other.entry)
-            (words_in (A.segments self.old.memory.now.arena))
-            (words_in (A.segments self.new.memory.now.arena))
-            self.old.place limiter.old result limiter.new }
-        ensures told { let at = state_of A.segments A.room A.books in
-            ContentTold (seen_struct B.segments other.entry) (at self.old.memory.now)
-            (at self.new.memory.now) self.old.place (IsSizeOrRefusal A.refuses)
-            limiter.old result limiter.new }
+        ensures content { let words = memory_words A.segments in TakesOver
+            (seen_struct B.segments other.entry) (words self.old.memory.now)
+            (words self.new.memory.now) self.old.place limiter.old result limiter.new }
+        ensures told { let at = state_of A.segments A.room A.books in ContentTold
+            (seen_struct B.segments other.entry) (at self.old.memory.now) (at self.new.memory.now)
+            self.old.place (IsSizeOrRefusal A.refuses) limiter.old result limiter.new }
         ensures books { A.books self.new.memory.now.arena ≡ A.books self.old.memory.now.arena }
     {
         let place = self.place;

@@ -164,9 +164,8 @@ impl<'a, A: BuilderArena> PointerBuilder<'a, A> {
         ensures made { let at = state_of A.segments A.room A.books in IfOk result (λ o.
             MakesList (at self.entry.memory.now) (at o.memory.now) self.entry.place
             element_size element_count o.place) }
-        ensures kind { let at = state_of A.segments A.room A.books in IfErr result
-            (ElementsRefused (at self.entry.memory.now) self.entry.place.segment element_size
-            element_count) }
+        ensures kind { let at = state_of A.segments A.room A.books in IfErr result (ElementsRefused
+            (at self.entry.memory.now) self.entry.place.segment element_size element_count) }
         ensures cause { IfErr result (λ e. IsSizeOrRefusal A.refuses e) }
         ensures* refused { sem 𝓛 (RestsIfErr (the_row A.row) self.entry.memory
             (λ o. o.memory.ghost_name) result (StaysAt A.segments A.books self.entry.memory.now)) }
@@ -193,9 +192,8 @@ impl<'a, A: BuilderArena> PointerBuilder<'a, A> {
         ensures made { let at = state_of A.segments A.room A.books in IfOk result (λ o.
             MakesStructList (at self.entry.memory.now) (at o.memory.now) self.entry.place
             element_count element_size o.place) }
-        ensures kind { let at = state_of A.segments A.room A.books in IfErr result
-            (StructsRefused (at self.entry.memory.now) self.entry.place.segment element_count
-            element_size) }
+        ensures kind { let at = state_of A.segments A.room A.books in IfErr result (StructsRefused
+            (at self.entry.memory.now) self.entry.place.segment element_count element_size) }
         ensures cause { IfErr result (λ e. IsSizeOrRefusal A.refuses e) }
         ensures* refused { sem 𝓛 (RestsIfErr (the_row A.row) self.entry.memory
             (λ o. o.memory.ghost_name) result (StaysAt A.segments A.books self.entry.memory.now)) }
