@@ -1,7 +1,6 @@
 //! Canonical copies of structs and lists that are read, by way of a scratch, in place of the value
 //! of a pointer that is built.
 ghost use Rattle.std.specs.Prelude.{◌≡◌};
-ghost use Rattle.capnp_units.specs.Segments.{words_in};
 ghost use Rattle.capnp_wire_objects.specs.Places.{place_view};
 ghost use Rattle.capnp_wire.specs.Views.{seen_struct, seen_list};
 ghost use Rattle.capnp_layout_builders.specs.Copied.{SetsStruct, SetsList};
@@ -16,7 +15,6 @@ use capnp_units::sizes::Word;
 use capnp_wire::list::ListReader;
 use capnp_wire::structs::StructReader;
 use capnp_wire_objects::arena::ReaderArena;
-use capnp_wire_objects::place::Place;
 
 /// How many levels the pointer to an object has from whose pointers n may be followed.
 fn levels_above(levels: Option<u32>) -> u32
@@ -28,25 +26,27 @@ fn levels_above(levels: Option<u32>) -> u32
     }
 }
 
-/// Puts the canonical copy of a value that stands in a scratch in place of the value of the pointer
-/// at a place.
-fn copy_scratch<A: BuilderArena, C: ReaderArena>(
-    arena: &mut A,
-    slot: Place,
-    scratch: &C,
-    place: Place,
+/// Puts the canonical copy of a scratch's value in place of the value. So many levels may be followed
+/// from the pointers of its object; with `None` not even its own.
+fn copy_scratch<A: BuilderArena, C: BuilderArena>(
+    builder: &mut PointerBuilder<'_, A>,
+    scratch: &PointerBuilder<'_, C>,
     levels: Option<u32>,
     lent: &mut [Word],
 ) -> Result<()>
-    requires { HasSlot (words_in (A.segments arena.old)) slot }
-    ensures copy { CopiesScratch (level_above levels) (words_in (C.segments scratch.now))
-        (place_view place) lent.old lent.new (words_in (A.segments arena.old))
-        (words_in (A.segments arena.new)) (place_view slot) result }
-    ensures books { A.books arena.new ≡ A.books arena.old }
+    requires { HasSlot (words_around A.segments builder.old) builder.old.place }
+    ensures same { StaysThere builder.old builder.new }
+    ensures copy { CopiesScratch (level_above levels) (words_around C.segments scratch.now)
+        (place_view scratch.now.place) lent.old lent.new (words_around A.segments builder.old)
+        (words_around A.segments builder.new) (place_view builder.old.place) result }
+    ensures books { A.books builder.new.memory.now.arena ≡ A.books builder.old.memory.now.arena }
 {
     let mut unlimited = ReadLimiter::new(None);
     let deep = levels_above(levels);
-    copy_canonical_from(arena, slot, &mut unlimited, scratch, place, deep, lent)
+    let slot = builder.place;
+    let from = &scratch.memory.arena;
+    let arena = &mut builder.memory.arena;
+    copy_canonical_from(arena, slot, &mut unlimited, from, scratch.place, deep, lent)
 }
 
 /// Puts a canonical copy of a struct that is read in place of the value, which is cleared: its
@@ -82,12 +82,7 @@ pub fn set_struct_canonical<A: BuilderArena, B: ReaderArena, C: BuilderArena>(
     let levels = value.levels();
     match scratch.set_struct(limiter, value) {
         Err(error) => Err(error),
-        Ok(()) => {
-            let place = builder.place;
-            let from = scratch.place;
-            let arena = &scratch.memory.arena;
-            copy_scratch(&mut builder.memory.arena, place, arena, from, levels, lent)
-        }
+        Ok(()) => copy_scratch(builder, scratch, levels, lent),
     }
 }
 
@@ -120,11 +115,6 @@ pub fn set_list_canonical<A: BuilderArena, B: ReaderArena, C: BuilderArena>(
     let levels = value.levels();
     match scratch.set_list(limiter, value) {
         Err(error) => Err(error),
-        Ok(()) => {
-            let place = builder.place;
-            let from = scratch.place;
-            let arena = &scratch.memory.arena;
-            copy_scratch(&mut builder.memory.arena, place, arena, from, levels, lent)
-        }
+        Ok(()) => copy_scratch(builder, scratch, levels, lent),
     }
 }
