@@ -56,6 +56,14 @@ abbrev pub rooted : Segments → Segments
 rooted [] = (0 ∷ []) ∷ []
 rooted (words ∷ segments) = words ∷ segments
 
+-- All words of an arena stand, but that a root pointer that is null may have been made.
+abbrev pub StaysRooted : {A S : Type 0} {allocator : Allocator A S} {segment : SegmentBytes S} → BuilderArenaImpl A S allocator segment → BuilderArenaImpl A S allocator segment → Type 0
+StaysRooted old new = rooted (words_held new) ≡ rooted (words_held old)
+
+-- Why a root isn't set: no root pointer is had, or its value is refused for a size or for want of memory.
+abbrev pub RootNotSet : {A S : Type 0} {allocator : Allocator A S} {segment : SegmentBytes S} → BuilderArenaImpl A S allocator segment → Error → Type 0
+RootNotSet arena e = NoRootMade arena e ⊎ IsSizeOrRefusalOf arena e
+
 -- The segments of a message that goes on in memory with these bytes of words: one, or no segment
 -- where there are no words. (Encoding, "Messages")
 abbrev pub opened_words : List ℕ → Segments

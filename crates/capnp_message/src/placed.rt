@@ -1,5 +1,5 @@
 //! Handles that know where their values lie, and are made at a pointer of a message that is built.
-ghost use Rattle.std.specs.Prelude.{◌≡◌, ◌⊎◌, ◌+◌, ◌<◌, ◌^◌, ◌↔◌, ℕ, None, IfOk, IfErr, OnErr};
+ghost use Rattle.std.specs.Prelude.{◌≡◌, ◌+◌, ◌<◌, ◌^◌, ◌↔◌, ℕ, None, IfOk, IfErr, OnErr};
 ghost use Rattle.capnp_model.specs.Segments.{Segments};
 ghost use Rattle.capnp_units.specs.declared.errors.Error.{Error};
 ghost use Rattle.capnp_units.specs.declared.kinds.ErrorKind.TheVariants.{SizeOverflow};
@@ -14,7 +14,7 @@ ghost use Rattle.capnp_copy_arenas.specs.declared.fields.StructPlace.{StructPlac
 ghost use Rattle.capnp_layout_builders.specs.Blobs.{DataMade, TextMade, DataGot, NoDataGot, TextGot, NoTextGot};
 ghost use Rattle.capnp_layout_builders.specs.Inputs.{IsTooLong};
 ghost use Rattle.capnp_layout_builders.specs.Making.{memory_words};
-ghost use Rattle.capnp_message.specs.Built.{rooted, words_held, place_held, loans_held, NoRootMade, IsSizeOrRefusalOf};
+ghost use Rattle.capnp_message.specs.Built.{rooted, words_held, place_held, loans_held, NoRootMade, StaysRooted, RootNotSet};
 ghost use Rattle.capnp_message.specs.Placed.{root_slot, StructPlaced, StructIsTooLarge, StructFound, NoStructFound, NoRootFound};
 
 use crate::builder::Builder;
@@ -281,12 +281,10 @@ impl<A: Allocator> Builder<A> {
     pub fn initn_root<T: Placed>(&mut self, length: u32) -> Result<T>
         ensures made { IfOk result (T.is_made (rooted (words_held self.old.memory.arena))
             (words_held self.new.memory.arena) root_slot length) }
-        ensures refused { OnErr result (rooted (words_held self.new.memory.arena)
-            ≡ rooted (words_held self.old.memory.arena)) }
+        ensures refused { OnErr result (StaysRooted self.old.memory.arena self.new.memory.arena) }
         ensures kind { IfErr result (λ e. e.kind ≡ SizeOverflow
             → T.is_too_large length (total_words (rooted (words_held self.old.memory.arena)))) }
-        ensures cause { IfErr result (λ e.
-            NoRootMade self.old.memory.arena e ⊎ IsSizeOrRefusalOf self.old.memory.arena e) }
+        ensures cause { IfErr result (RootNotSet self.old.memory.arena) }
         ensures place { place_held self.new.memory.arena ≡ place_held self.old.memory.arena }
         ensures loans { loans_held self.new.memory.arena ≡ loans_held self.old.memory.arena }
     {
@@ -299,12 +297,10 @@ impl<A: Allocator> Builder<A> {
     pub fn init_root<T: Placed>(&mut self) -> Result<T>
         ensures made { IfOk result (T.is_made (rooted (words_held self.old.memory.arena))
             (words_held self.new.memory.arena) root_slot 0) }
-        ensures refused { OnErr result (rooted (words_held self.new.memory.arena)
-            ≡ rooted (words_held self.old.memory.arena)) }
+        ensures refused { OnErr result (StaysRooted self.old.memory.arena self.new.memory.arena) }
         ensures kind { IfErr result (λ e. e.kind ≡ SizeOverflow
             → T.is_too_large 0 (total_words (rooted (words_held self.old.memory.arena)))) }
-        ensures cause { IfErr result (λ e.
-            NoRootMade self.old.memory.arena e ⊎ IsSizeOrRefusalOf self.old.memory.arena e) }
+        ensures cause { IfErr result (RootNotSet self.old.memory.arena) }
         ensures place { place_held self.new.memory.arena ≡ place_held self.old.memory.arena }
         ensures loans { loans_held self.new.memory.arena ≡ loans_held self.old.memory.arena }
     {
@@ -339,12 +335,11 @@ impl<T: OwnedPlaced, A: Allocator> TypedBuilder<T, A> {
         ensures made { IfOk result (T.Builder.is_made
             (rooted (words_held self.old.message.memory.arena))
             (words_held self.new.message.memory.arena) root_slot length) }
-        ensures refused { OnErr result (rooted (words_held self.new.message.memory.arena)
-            ≡ rooted (words_held self.old.message.memory.arena)) }
+        ensures refused { OnErr result
+            (StaysRooted self.old.message.memory.arena self.new.message.memory.arena) }
         ensures kind { IfErr result (λ e. e.kind ≡ SizeOverflow → T.Builder.is_too_large length
             (total_words (rooted (words_held self.old.message.memory.arena)))) }
-        ensures cause { IfErr result (λ e. NoRootMade self.old.message.memory.arena e
-            ⊎ IsSizeOrRefusalOf self.old.message.memory.arena e) }
+        ensures cause { IfErr result (RootNotSet self.old.message.memory.arena) }
         ensures place { place_held self.new.message.memory.arena
             ≡ place_held self.old.message.memory.arena }
         ensures loans { loans_held self.new.message.memory.arena
@@ -358,12 +353,11 @@ impl<T: OwnedPlaced, A: Allocator> TypedBuilder<T, A> {
         ensures made { IfOk result (T.Builder.is_made
             (rooted (words_held self.old.message.memory.arena))
             (words_held self.new.message.memory.arena) root_slot 0) }
-        ensures refused { OnErr result (rooted (words_held self.new.message.memory.arena)
-            ≡ rooted (words_held self.old.message.memory.arena)) }
+        ensures refused { OnErr result
+            (StaysRooted self.old.message.memory.arena self.new.message.memory.arena) }
         ensures kind { IfErr result (λ e. e.kind ≡ SizeOverflow → T.Builder.is_too_large 0
             (total_words (rooted (words_held self.old.message.memory.arena)))) }
-        ensures cause { IfErr result (λ e. NoRootMade self.old.message.memory.arena e
-            ⊎ IsSizeOrRefusalOf self.old.message.memory.arena e) }
+        ensures cause { IfErr result (RootNotSet self.old.message.memory.arena) }
         ensures place { place_held self.new.message.memory.arena
             ≡ place_held self.old.message.memory.arena }
         ensures loans { loans_held self.new.message.memory.arena

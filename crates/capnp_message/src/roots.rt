@@ -13,7 +13,7 @@ ghost use Rattle.capnp_copy_arenas.specs.Values.{Becomes};
 ghost use Rattle.capnp_layout_builders.specs.Making.{StaysAt, memory_words};
 ghost use Rattle.capnp_wire_objects.specs.Places.{seen};
 ghost use Rattle.capnp_wire.specs.Views.{seen_pointer};
-ghost use Rattle.capnp_message.specs.Built.{used_bytes, rooted, words_held, place_held, loans_held, HasNoRootWord, NoRootMade, IsSizeOrRefusalOf};
+ghost use Rattle.capnp_message.specs.Built.{used_bytes, rooted, words_held, place_held, loans_held, HasNoRootWord, StaysRooted, RootNotSet};
 ghost use Rattle.capnp_message.specs.Options.{boundless};
 ghost use Rattle.capnp_message.specs.Placed.{root_slot};
 ghost use Rattle.capnp_message.specs.Roots.{ReadsRoot, built_root};
@@ -126,12 +126,10 @@ impl<A: Allocator> Builder<A> {
     pub fn set_root<T, V: SetterInput<T> + Drop>(&mut self, value: V) -> Result<()>
         ensures value { OnOk result (Becomes (rooted (words_held self.old.memory.arena))
             (words_held self.new.memory.arena) root (V.tree value)) }
-        ensures refused { OnErr result (rooted (words_held self.new.memory.arena)
-            ≡ rooted (words_held self.old.memory.arena)) }
+        ensures refused { OnErr result (StaysRooted self.old.memory.arena self.new.memory.arena) }
         ensures kind { IfErr result (λ e. e.kind ≡ SizeOverflow
             → V.is_too_large value (total_words (rooted (words_held self.old.memory.arena)))) }
-        ensures cause { IfErr result (λ e.
-            NoRootMade self.old.memory.arena e ⊎ IsSizeOrRefusalOf self.old.memory.arena e) }
+        ensures cause { IfErr result (RootNotSet self.old.memory.arena) }
         ensures place { place_held self.new.memory.arena ≡ place_held self.old.memory.arena }
         ensures loans { loans_held self.new.memory.arena ≡ loans_held self.old.memory.arena }
     {

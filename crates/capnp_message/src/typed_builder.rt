@@ -1,12 +1,12 @@
 //! Messages that are built, whose root's type is known.
-ghost use Rattle.std.specs.Prelude.{◌≡◌, ◌⊎◌, ◌++◌, ◌∷◌, [], length, IfErr, OnOk, OnErr};
+ghost use Rattle.std.specs.Prelude.{◌≡◌, ◌++◌, ◌∷◌, [], length, IfErr, OnOk, OnErr};
 ghost use Rattle.std.specs.Borrow.{sem};
 ghost use Rattle.std.specs.List.{flat_map};
 ghost use Rattle.capnp_model.specs.Segments.{root};
 ghost use Rattle.capnp_units.specs.declared.kinds.ErrorKind.TheVariants.{SizeOverflow};
 ghost use Rattle.capnp_copy_arenas.specs.Allocations.{total_words};
 ghost use Rattle.capnp_copy_arenas.specs.Values.{Becomes};
-ghost use Rattle.capnp_message.specs.Built.{used_bytes, rooted, words_held, place_held, loans_held, NoRootMade, IsSizeOrRefusalOf};
+ghost use Rattle.capnp_message.specs.Built.{used_bytes, rooted, words_held, place_held, loans_held, StaysRooted, RootNotSet};
 ghost use Rattle.capnp_message_allocators.specs.Growth.{suggested_growth};
 ghost use Rattle.capnp_message.specs.Options.{boundless};
 ghost use Rattle.capnp_message.specs.Roots.{ReadsRoot, built_root};
@@ -47,13 +47,12 @@ impl<T, A: Allocator> TypedBuilder<T, A> {
     pub fn set_root<V: SetterInput<T> + Drop>(&mut self, value: V) -> Result<()>
         ensures value { OnOk result (Becomes (rooted (words_held self.old.message.memory.arena))
             (words_held self.new.message.memory.arena) root (V.tree value)) }
-        ensures refused { OnErr result (rooted (words_held self.new.message.memory.arena)
-            ≡ rooted (words_held self.old.message.memory.arena)) }
+        ensures refused { OnErr result
+            (StaysRooted self.old.message.memory.arena self.new.message.memory.arena) }
         ensures kind { IfErr result (λ e. e.kind ≡ SizeOverflow
             → V.is_too_large value (total_words (rooted (words_held
             self.old.message.memory.arena)))) }
-        ensures cause { IfErr result (λ e. NoRootMade self.old.message.memory.arena e
-            ⊎ IsSizeOrRefusalOf self.old.message.memory.arena e) }
+        ensures cause { IfErr result (RootNotSet self.old.message.memory.arena) }
         ensures place { place_held self.new.message.memory.arena
             ≡ place_held self.old.message.memory.arena }
         ensures loans { loans_held self.new.message.memory.arena
