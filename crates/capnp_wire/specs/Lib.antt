@@ -2,6 +2,7 @@ pub mod Levels
 pub mod Elements
 pub mod Views
 pub mod Reads
+pub mod Reached
 pub mod ValueSizes
 pub mod Canonical
 pub mod Laws

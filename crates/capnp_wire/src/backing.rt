@@ -3,6 +3,7 @@ ghost use Rattle.std.specs.Prelude.{◌≡◌, ◌+◌, ◌*◌, ◌/◌, ◌≤
 ghost use Rattle.capnp_model.specs.Sections.{number_of, section_of};
 ghost use Rattle.capnp_units.specs.Segments.{whole_words, words_in};
 ghost use Rattle.capnp_wire_objects.specs.Places.{place_view};
+ghost use Rattle.capnp_wire_objects.specs.Arenas.{segment_bytes};
 ghost use Rattle.capnp_wire_objects.specs.Objects.{AreThere};
 ghost use Rattle.capnp_wire_objects.specs.Inside.{section_at};
 ghost use Rattle.capnp_wire.specs.Grounds.{backing_bytes, ground_of, default_ground};
@@ -29,6 +30,7 @@ pub fn default_backing<'a, A: ReaderArena>(words: &'a [Word]) -> Backing<'a, A>
 }
 
 /// n words of bytes, from a position on.
+#[inline(always)]
 fn words_of(bytes: &[u8], position: usize, words: usize) -> &[u8]
     requires { position + words ≤ length bytes.now / 8 }
     ensures len { length result.now ≡ 8 * words }
@@ -40,6 +42,7 @@ fn words_of(bytes: &[u8], position: usize, words: usize) -> &[u8]
 
 impl<'a, A: ReaderArena> Backing<'a, A> {
     /// The bytes of a segment, or none past the last.
+    #[inline(always)]
     pub fn segment(self, id: SegmentId) -> Option<&'a [u8]>
         ensures { option_copied result ≡ slice_get (backing_bytes A.segments self.entry) id }
     {
@@ -49,17 +52,38 @@ impl<'a, A: ReaderArena> Backing<'a, A> {
         }
     }
 
+    /// The bytes of a segment, and none where it isn't there.
+    #[inline(always)]
+    pub(crate) fn bytes_of(self, id: SegmentId) -> &'a [u8]
+        ensures { result.now ≡ segment_bytes (backing_bytes A.segments self.entry) id }
+    {
+        match self.segment(id) {
+            Some(bytes) => bytes,
+            None => &[],
+        }
+    }
+
+    /// The bytes of n words from a place on, lent out of those of its segment.
+    #[inline(always)]
+    pub(crate) fn lend_of(self, bytes: &'a [u8], start: Place, words: usize) -> &'a [u8]
+        requires bytes { bytes.now ≡ segment_bytes (backing_bytes A.segments self) start.segment }
+        requires there { AreThere (words_in (backing_bytes A.segments self)) (place_view start) words }
+        ensures len { length result.now ≡ 8 * words }
+        ensures section { number_of 8 result.now
+            ≡ section_at (words_in (backing_bytes A.segments self.entry)) (place_view start) words }
+    {
+        words_of(bytes, start.position, words)
+    }
+
     /// The bytes of n words from a place on, lent in place.
+    #[inline(always)]
     pub fn lend(self, start: Place, words: usize) -> &'a [u8]
         requires { AreThere (words_in (backing_bytes A.segments self)) (place_view start) words }
         ensures len { length result.now ≡ 8 * words }
         ensures section { number_of 8 result.now
             ≡ section_at (words_in (backing_bytes A.segments self.entry)) (place_view start) words }
     {
-        match self.segment(start.segment) {
-            Some(bytes) => words_of(bytes, start.position, words),
-            None => &[],
-        }
+        self.lend_of(self.bytes_of(start.segment), start, words)
     }
 }
 
@@ -68,6 +92,7 @@ impl<A: ReaderArena> ReaderArena for Backing<'_, A> {
 
     ghost nesting = { λ b. pos 2147483647 };
 
+    #[inline(always)]
     fn get_segment(&self, id: SegmentId) -> Option<&[u8]> {
         self.segment(id)
     }

@@ -19,6 +19,7 @@ pub fn levels_of(nesting_limit: i32) -> Option<u32>
 
 /// The levels that are left behind the pointers of a struct or a list, which takes one. It is
 /// refused with `NestingLimitExceeded` where there is none.
+#[inline(always)]
 pub fn level_below(levels: Option<u32>) -> Result<Option<u32>>
     ensures { seen (λ l. l) result ≡ level_below levels }
 {

@@ -14,6 +14,7 @@ pub mod list;
 mod list_pointer;
 pub mod parts;
 pub mod pointer;
+mod reached;
 mod section;
 pub mod structs;
 pub mod traits;

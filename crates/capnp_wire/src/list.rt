@@ -64,6 +64,7 @@ impl<'a, A: ReaderArena> ListReader<'a, A> {
     ghost use Rattle.capnp_wire.specs.Views.{ground_of, seen_pointer, seen_struct, seen_list, list_view, list_at, element_as_struct, element_number, pointer_field};
 
     /// A list of these parts.
+    #[inline(always)]
     pub(crate) fn of_parts(
         backing: Backing<'a, A>,
         bytes: &'a [u8],
@@ -151,6 +152,7 @@ impl<'a, A: ReaderArena> ListReader<'a, A> {
 
     /// The bytes of the elements from the first to the end of the last, lent in place, with those
     /// of the structs' pointers. Bits behind the last element may be any.
+    #[inline(always)]
     pub fn bytes(&self) -> &'a [u8]
         ensures section { let l = seen_list A.segments self.now in
             let bits = step_bits (size_number l.size) l.data_words l.pointers * l.count in
@@ -163,6 +165,7 @@ impl<'a, A: ReaderArena> ListReader<'a, A> {
     }
 
     /// Where the first element begins, if there is one.
+    #[inline(always)]
     pub fn start(&self) -> Place
         ensures place { place_view result ≡ (seen_list A.segments self.now).start }
         ensures near { let l = seen_list A.segments self.now in
@@ -199,6 +202,7 @@ impl<'a, A: ReaderArena> ListReader<'a, A> {
     }
 
     /// How many elements there are.
+    #[inline(always)]
     pub fn len(&self) -> u32
         ensures { result ≡ (seen_list A.segments self.now).count }
     {
@@ -213,6 +217,7 @@ impl<'a, A: ReaderArena> ListReader<'a, A> {
     }
 
     /// The bits from one element to the next; those of pointers aren't counted.
+    #[inline(always)]
     fn step_bits(&self) -> usize
         ensures { result ≡ step_bits (size_number self.now.size) self.now.data_words
             self.now.pointers }
@@ -226,6 +231,7 @@ impl<'a, A: ReaderArena> ListReader<'a, A> {
     }
 
     /// The bits of data in an element.
+    #[inline(always)]
     fn element_bits(&self) -> usize
         ensures { result ≡ element_bits (size_number self.now.size) self.now.data_words }
     {
@@ -236,6 +242,7 @@ impl<'a, A: ReaderArena> ListReader<'a, A> {
     }
 
     /// The words from the pointers of one element to those of the next.
+    #[inline(always)]
     fn step_words(&self) -> usize
         ensures { result ≡ step_words (size_number self.now.size) self.now.data_words
             self.now.pointers }
@@ -247,6 +254,7 @@ impl<'a, A: ReaderArena> ListReader<'a, A> {
     }
 
     /// The pointers in an element.
+    #[inline(always)]
     fn element_pointers(&self) -> u16
         ensures { result ≡ element_pointers (size_number self.now.size) self.now.pointers }
     {
@@ -258,6 +266,7 @@ impl<'a, A: ReaderArena> ListReader<'a, A> {
     }
 
     /// The bytes of an element's data.
+    #[inline(always)]
     fn element_section(&self, index: u32) -> &'a [u8]
         requires index { index < self.now.count }
         requires bytes { size_number self.now.size ≢ 1 }
@@ -276,6 +285,7 @@ impl<'a, A: ReaderArena> ListReader<'a, A> {
 
     /// An element as a struct: a plain one has exactly its bits, a pointer is its only pointer.
     /// Elements of one bit can't be read so.
+    #[inline(always)]
     pub fn get_struct_element(&self, index: u32) -> StructReader<'a, A>
         requires index { index < (seen_list A.segments self.now).count }
         requires bytes { size_number (seen_list A.segments self.now).size ≢ 1 }
@@ -299,6 +309,7 @@ impl<'a, A: ReaderArena> ListReader<'a, A> {
     }
 
     /// The first pointer of an element; null where it has none.
+    #[inline(always)]
     pub fn get_pointer_element(&self, index: u32) -> PointerReader<'a, A>
         requires { index < (seen_list A.segments self.now).count }
         ensures { seen_pointer A.segments result

@@ -22,6 +22,7 @@ use capnp_wire_objects::place::Place;
 impl<'a, A: ReaderArena> PointerReader<'a, A> {
     /// A list whose bytes are lent, where a level is left and its elements can be read as ones of
     /// the expected size.
+    #[inline(always)]
     fn list_of(
         &self,
         expected: ElementSize,
@@ -72,11 +73,12 @@ impl<'a, A: ReaderArena> PointerReader<'a, A> {
         ensures bytewise { size_number expected ≢ 1
             → IfOk result (λ l. size_number (seen_list A.segments l).size ≢ 1) }
     {
-        match self.reach(limiter)? {
+        let reached = self.reach(limiter)?;
+        match reached.object {
             Object::Null => Ok(ListReader::empty(self.backing, expected, self.levels)),
             Object::List { start, size, count } => {
                 let words = words_of_elements(size, count) as usize;
-                let bytes = self.backing.lend(start, words);
+                let bytes = self.backing.lend_of(reached.bytes, start, words);
                 self.list_of(expected, bytes, start, count, size, 0, 0)
             }
             Object::PointerList { start, count } => {
@@ -90,7 +92,7 @@ impl<'a, A: ReaderArena> PointerReader<'a, A> {
                 ..
             } => {
                 let words = count as usize * (data_words as usize + pointers as usize);
-                let bytes = self.backing.lend(start, words);
+                let bytes = self.backing.lend_of(reached.bytes, start, words);
                 let size = ElementSize::InlineComposite;
                 self.list_of(expected, bytes, start, count, size, data_words, pointers)
             }
@@ -128,6 +130,7 @@ impl<'a, A: ReaderArena> PointerReader<'a, A> {
 
 /// Whether elements of a size can be read as ones of an expected size. Structs have n data words
 /// and pointers.
+#[inline(always)]
 fn is_accepted(expected: ElementSize, size: ElementSize, data_words: u16, pointers: u16) -> bool
     ensures { result ≡ is_accepted_as (size_number expected) (list_head size data_words pointers) }
 {

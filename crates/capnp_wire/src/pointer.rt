@@ -9,10 +9,13 @@ ghost use Rattle.capnp_wire.specs.Views.{backing_bytes, ground_of, seen_pointer,
 ghost use Rattle.capnp_wire.specs.Reads.{root_of, is_null_pointer, with_default, GetGives, read_struct, read_bytes, read_blob, read_text, type_behind};
 ghost use Rattle.capnp_wire_objects.specs.Places.{seen, place_view};
 ghost use Rattle.capnp_wire_objects.specs.Objects.{IsInside};
+ghost use Rattle.capnp_wire.specs.Reached.{begins_in};
+ghost use Rattle.capnp_wire_objects.specs.Arenas.{segment_bytes};
 ghost use Rattle.capnp_wire.specs.ValueSizes.{PointerSize};
 
 use crate::backing::{Backing, default_backing};
 use crate::levels::{level_below, levels_of};
+use crate::reached::{Reached, follow_any, follow_near, near_object_in, segment_of};
 use crate::section::front_of;
 use crate::structs::StructReader;
 use capnp_units::errors::{Error, Result};
@@ -20,10 +23,9 @@ use capnp_units::kinds::ErrorKind;
 use capnp_units::limiter::ReadLimiter;
 use capnp_units::sizes::{ElementSize, MessageSize, PointerType, Word};
 use capnp_wire_objects::arena::ReaderArena;
-use capnp_wire_objects::follow::follow;
 use capnp_wire_objects::named::{NamedObject, found_at};
 use capnp_wire_objects::object::{Object, object_at};
-use capnp_wire_objects::place::{Place, has_words, word_at};
+use capnp_wire_objects::place::{Place, has_words, segment_bytes, word_at};
 use capnp_wire_objects::size::{NOTHING, size_at};
 
 /// A pointer to read: at a place, or null. What it leads to is lent from what it stands on.
@@ -72,6 +74,7 @@ impl<'a, A: ReaderArena> PointerReader<'a, A> {
     }
 
     /// Whether there is no pointer here, or a word of zeros.
+    #[inline(always)]
     pub fn is_null(&self) -> bool
         ensures { result ≡ is_null_pointer (seen_pointer A.segments self.now) }
     {
@@ -84,6 +87,7 @@ impl<'a, A: ReaderArena> PointerReader<'a, A> {
     /// The root of a default, read in place, with the levels that are left here. It is the pointer
     /// itself where it isn't null, where there is no default, or where the default's root is null.
     /// Nothing is followed or paid for.
+    #[inline(always)]
     pub fn with_default(&self, default: Option<&'a [Word]>) -> Self
         ensures { seen_pointer A.segments result
             ≡ with_default (seen_pointer A.segments self.now) (option_copied default.entry) }
@@ -106,7 +110,8 @@ impl<'a, A: ReaderArena> PointerReader<'a, A> {
     }
 
     /// What the pointer names, paid for; null is followed to nothing, and a default costs nothing.
-    pub(crate) fn reach(&self, limiter: &mut ReadLimiter) -> Result<Object>
+    #[inline(always)]
+    fn object_here(&self, limiter: &mut ReadLimiter) -> Result<Object>
         ensures object { GetGives (λ o. o) (λ o. Ok o) (seen_pointer A.segments self.now)
             limiter.old result limiter.new }
         ensures inside { IfOk result
@@ -119,12 +124,35 @@ impl<'a, A: ReaderArena> PointerReader<'a, A> {
             return Ok(Object::Null);
         }
         match self.backing {
-            Backing::Arena(arena) => follow(arena, limiter, place),
+            Backing::Arena(arena) => follow_any(arena, limiter, place),
             Backing::Default(_) => {
                 let found = object_at(&self.backing, place)?;
                 Ok(found.object)
             }
         }
+    }
+
+    /// What the pointer names, paid for, with the bytes of its segment; null is followed to
+    /// nothing, and a default costs nothing.
+    #[inline(always)]
+    pub(crate) fn reach(&self, limiter: &mut ReadLimiter) -> Result<Reached<'a>>
+        ensures object { GetGives (λ r. r.object) (λ o. Ok o) (seen_pointer A.segments self.now)
+            limiter.old result limiter.new }
+        ensures inside { IfOk result (λ r.
+            IsInside (words_in (backing_bytes A.segments self.now.backing)) r.object) }
+        ensures bytes { IfOk result (λ r. r.bytes.now
+            ≡ segment_bytes (backing_bytes A.segments self.now.backing) (begins_in r.object)) }
+    {
+        if let (Backing::Arena(arena), Some(place)) = (self.backing, self.place) {
+            let bytes = segment_bytes(arena, place.segment);
+            if let Some(object) = near_object_in(bytes, place) {
+                let object = follow_near(arena, limiter, place, object)?;
+                return Ok(Reached { object, bytes });
+            }
+        }
+        let object = self.object_here(limiter)?;
+        let bytes = self.backing.bytes_of(segment_of(object));
+        Ok(Reached { object, bytes })
     }
 
     /// The struct behind the pointer; null is the empty struct.
@@ -133,7 +161,8 @@ impl<'a, A: ReaderArena> PointerReader<'a, A> {
             (read_struct (ground_of A.segments self.now.backing) self.now.levels)
             (seen_pointer A.segments self.now) limiter.old result limiter.new }
     {
-        match self.reach(limiter)? {
+        let reached = self.reach(limiter)?;
+        match reached.object {
             Object::Null => Ok(StructReader::empty(self.backing, self.levels)),
             Object::Struct {
                 start,
@@ -141,7 +170,9 @@ impl<'a, A: ReaderArena> PointerReader<'a, A> {
                 pointers,
             } => {
                 let levels = level_below(self.levels)?;
-                let section = self.backing.lend(start, data_words as usize);
+                let section = self
+                    .backing
+                    .lend_of(reached.bytes, start, data_words as usize);
                 let first = Place {
                     segment: start.segment,
                     position: start.position + data_words as usize,
@@ -158,7 +189,8 @@ impl<'a, A: ReaderArena> PointerReader<'a, A> {
             (read_bytes (ground_of A.segments self.now.backing) self.now.levels)
             (seen_pointer A.segments self.now) limiter.old result limiter.new }
     {
-        match self.reach(limiter)? {
+        let reached = self.reach(limiter)?;
+        match reached.object {
             Object::Null => Ok(None),
             Object::List {
                 start,
@@ -166,7 +198,8 @@ impl<'a, A: ReaderArena> PointerReader<'a, A> {
                 count,
             } => {
                 level_below(self.levels)?;
-                let words = self.backing.lend(start, (count as usize + 7) / 8);
+                let count_of_words = (count as usize + 7) / 8;
+                let words = self.backing.lend_of(reached.bytes, start, count_of_words);
                 Ok(Some(front_of(words, count as usize)))
             }
             Object::List { .. } | Object::PointerList { .. } | Object::StructList { .. } => {

@@ -5,6 +5,7 @@ ghost use Rattle.capnp_model.specs.Sections.{bits_at, number_of, numbers_in};
 
 /// The bytes from a number of n bytes on, which stands behind others of its width, where it lies
 /// wholly in the section.
+#[inline(always)]
 pub(crate) fn bytes_from(section: &[u8], index: usize, width: usize) -> Option<&[u8]>
     ensures within { MatchOption result
         (length section.now < width * index + width)
@@ -23,6 +24,7 @@ pub(crate) fn bytes_from(section: &[u8], index: usize, width: usize) -> Option<&
 }
 
 /// A bit of bytes, from the lowest of the first byte on.
+#[inline(always)]
 pub(crate) fn bit_of(bytes: &[u8], index: usize) -> bool
     requires { index < 8 * length bytes.now }
     ensures { result ≡ (bits_at index 1 (number_of 8 bytes.now) == 1) }
@@ -31,6 +33,7 @@ pub(crate) fn bit_of(bytes: &[u8], index: usize) -> bool
 }
 
 /// n bytes at the front of others.
+#[inline(always)]
 pub(crate) fn front_of(bytes: &[u8], count: usize) -> &[u8]
     requires { count ≤ length bytes.now }
     ensures { result.now ≡ numbers_in 8 count (number_of 8 bytes.now) }

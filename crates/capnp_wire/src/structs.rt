@@ -55,6 +55,7 @@ impl<'a, A: ReaderArena> StructReader<'a, A> {
     ghost use Rattle.capnp_model.specs.Sizes.{each_object_words, each_capability_count};
 
     /// A struct of these parts.
+    #[inline(always)]
     pub(crate) fn of_parts(
         backing: Backing<'a, A>,
         section: &'a [u8],
@@ -96,6 +97,7 @@ impl<'a, A: ReaderArena> StructReader<'a, A> {
     }
 
     /// What the struct stands on, where its pointers are followed.
+    #[inline(always)]
     pub fn backing(&self) -> Backing<'a, A>
         ensures { ground_of A.segments result ≡ (seen_struct A.segments self.now).basis }
     {
@@ -104,6 +106,7 @@ impl<'a, A: ReaderArena> StructReader<'a, A> {
 
     /// The bytes of the data section, lent in place: whole words, but for an element of a plain
     /// list, which has exactly its own.
+    #[inline(always)]
     pub fn section(&self) -> &'a [u8]
         ensures section { number_of 8 result.now ≡ (seen_struct A.segments self.now).section }
         ensures bits { 8 * length result.now ≡ (seen_struct A.segments self.now).bits }
@@ -113,6 +116,7 @@ impl<'a, A: ReaderArena> StructReader<'a, A> {
     }
 
     /// Where the first pointer stands, if there is one; the others follow it.
+    #[inline(always)]
     pub fn first_pointer(&self) -> Place
         ensures place { place_view result ≡ (seen_struct A.segments self.now).first }
         ensures near { result.position + (seen_struct A.segments self.now).pointers < 2 ^ 62 }
@@ -121,6 +125,7 @@ impl<'a, A: ReaderArena> StructReader<'a, A> {
     }
 
     /// How many pointers there are.
+    #[inline(always)]
     pub fn pointers(&self) -> u16
         ensures { result ≡ (seen_struct A.segments self.now).pointers }
     {
@@ -129,6 +134,7 @@ impl<'a, A: ReaderArena> StructReader<'a, A> {
 
     /// How many levels may be followed from each pointer; `None` where not even the struct's own
     /// was left.
+    #[inline(always)]
     pub fn levels(&self) -> Option<u32>
         ensures { result ≡ (seen_struct A.segments self.now).levels }
     {
@@ -156,6 +162,7 @@ impl<'a, A: ReaderArena> StructReader<'a, A> {
 
     /// A number of the data section, counted in its own width; 0 where it doesn't lie wholly in the
     /// section.
+    #[inline(always)]
     pub fn get_data_field<T: Primitive + Zero>(&self, offset: ElementCount) -> T
         ensures { let s = seen_struct A.segments self.now in
             result ≡ T.from_bits
@@ -168,6 +175,7 @@ impl<'a, A: ReaderArena> StructReader<'a, A> {
     }
 
     /// As the getter without a mask, of the bits exclusive or those of the field's default.
+    #[inline(always)]
     pub fn get_data_field_mask<T: Primitive + Zero + Mask>(
         &self,
         offset: ElementCount,
@@ -182,6 +190,7 @@ impl<'a, A: ReaderArena> StructReader<'a, A> {
     }
 
     /// A bit of the data section, counted in bits; false where it doesn't lie in the section.
+    #[inline(always)]
     pub fn get_bool_field(&self, offset: ElementCount) -> bool
         ensures { let s = seen_struct A.segments self.now in
             result ≡ (field_bits (just_bits s.bits) s.section offset 1 == 1) }
@@ -190,6 +199,7 @@ impl<'a, A: ReaderArena> StructReader<'a, A> {
     }
 
     /// As the getter without a mask, of the bits exclusive or those of the field's default.
+    #[inline(always)]
     pub fn get_bool_field_mask(&self, offset: ElementCount, mask: bool) -> bool
         ensures { let s = seen_struct A.segments self.now in
             result ≡ (bit_xor (field_bits (just_bits s.bits) s.section offset 1)
@@ -199,6 +209,7 @@ impl<'a, A: ReaderArena> StructReader<'a, A> {
     }
 
     /// A pointer of the pointer section, null past its end.
+    #[inline(always)]
     pub fn get_pointer_field(&self, ptr_index: WirePointerCount) -> PointerReader<'a, A>
         ensures { seen_pointer A.segments result
             ≡ pointer_field (seen_struct A.segments self.now) ptr_index }
@@ -219,6 +230,7 @@ impl<'a, A: ReaderArena> StructReader<'a, A> {
     }
 
     /// Whether a pointer of the pointer section is null, as it is past its end.
+    #[inline(always)]
     pub fn is_pointer_field_null(&self, ptr_index: WirePointerCount) -> bool
         ensures { result
             ≡ is_null_pointer (pointer_field (seen_struct A.segments self.now) ptr_index) }

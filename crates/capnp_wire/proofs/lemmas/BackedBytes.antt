@@ -1,6 +1,8 @@
 -- Bytes as one number, and the words in them.
-use Rattle.std.proofs.Common.{◌≡◌, ℕ, zero, suc, ◌+◌, ◌-◌, ◌*◌, ◌/◌, ◌%◌, ◌^◌, ◌≤◌, List, [], ◌∷◌, length, take, drop, Some, refl, ap, sym, ◌∙◌, arith}
+use Rattle.std.proofs.Common.{◌≡◌, ℕ, zero, suc, ◌+◌, ◌-◌, ◌*◌, ◌/◌, ◌%◌, ◌^◌, ◌≤◌, List, [], ◌∷◌, length, take, drop, Option, Some, None, true, refl, ap, sym, ◌∙◌, arith}
+use Rattle.std.specs.Prelude.{unwrap_or}
 use Rattle.std.specs.List.{slice_get}
+use Rattle.std.specs.Option.{is_some}
 use Rattle.std.specs.Int.{from_le_bytes, w64}
 use Rattle.std.proofs.lemmas.Nat.{pow_pos}
 use Rattle.std.proofs.lemmas.List.{length-drop}
@@ -8,11 +10,12 @@ use Rattle.std.proofs.Math.Nat.{mod-lt, mod-mod}
 use lib.Pow as pow
 use Rattle.capnp_model.specs.Bytes.{words_in_bytes, AreBytes}
 use Rattle.capnp_model.specs.Sections.{number_of, section_of}
-use Rattle.capnp_model.specs.Segments.{place}
+use Rattle.capnp_model.specs.Segments.{place, words_at}
 use Rattle.capnp_units.specs.Segments.{whole_words, words_in}
 use Rattle.capnp_units.proofs.lemmas.FirstBytes.{first_eight}
+use Rattle.capnp_wire_objects.specs.Arenas.{segment_bytes}
 use Rattle.capnp_wire_objects.specs.Inside.{section_at, section_in}
-use Rattle.capnp_wire_objects.proofs.lemmas.Words.{whole_words-length, segment_there}
+use Rattle.capnp_wire_objects.proofs.lemmas.Words.{whole_words-length, segment_there, none_there}
 use Rattle.capnp_wire_objects.proofs.lemmas.Tags.{words_are}
 use Rattle.capnp_model.proofs.lemmas.WordsInBytes.{words_in_bytes-drop, words_in_bytes-take}
 use Rattle.capnp_model.proofs.lemmas.ByteLists.{bytes_behind}
@@ -76,3 +79,11 @@ unfolding section_at
 section_there s i p n bytes e h =
     let there = segment_there s i bytes e in
     sym (ap section_in (words_are (words_in s) (place i p) n (whole_words bytes) there (let len = whole_words-length bytes in omega arith)))
+
+-- a segment that has words is there
+pub segment_is : (s : List (List ℕ)) (i p n : ℕ) (bytes : List ℕ) → bytes ≡ segment_bytes s i → is_some (words_at (words_in s) (place i p) n) ≡ true → Some bytes ≡ slice_get s i
+segment_is s i p n bytes is has = by (slice_get s i) refl is
+  where
+    by : (o : Option (List ℕ)) → slice_get s i ≡ o → bytes ≡ unwrap_or o [] → Some bytes ≡ slice_get s i
+    by None e h = absurd (none_there s i p n (sym e) has)
+    by (Some bs) e h = ap (λ (x : List ℕ). Some x) h ∙ sym e
