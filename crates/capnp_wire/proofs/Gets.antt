@@ -16,7 +16,7 @@ use Rattle.capnp_wire_objects.specs.Places.{seen, place_view}
 use Rattle.capnp_wire_objects.specs.Objects.{object_at}
 use Rattle.capnp_wire_objects.specs.Follow.{FollowGives, follow_cost}
 use Rattle.capnp_wire.specs.Views.{PointerView, place_seen}
-use Rattle.capnp_wire.specs.Reached.{HasPlace}
+use Rattle.capnp_wire.specs.Reached.{IsSomewhere}
 use Rattle.capnp_wire.specs.Reads.{is_null_at, is_null_pointer, found_behind, object_behind, is_charged, PaysFor, PaysNothing, IsTooDear, GetGives}
 
 zero_tested : (w : Option ℕ) → option_eq eqb w (Some 0) ≡ passes (λ n. eqb n 0) w
@@ -44,12 +44,12 @@ null_names s None h = refl
 null_names s (Some p) h = zero_names s p (is_zero (word_at s p) h)
 
 -- What names an object that has a place is not null.
-pub placed_there : (s : Segments) (q : Place) (o : Object) → object_at s q ≡ Ok (record { pads = 0; object = o }) → HasPlace o → is_null_at s (Some q) ≡ false
+pub placed_there : (s : Segments) (q : Place) (o : Object) → object_at s q ≡ Ok (record { pads = 0; object = o }) → IsSomewhere o → is_null_at s (Some q) ≡ false
 placed_there s q o names place = by (is_null_at s (Some q)) refl
   where
     by : (b : Bool) → is_null_at s (Some q) ≡ b → b ≡ false
     by false e = refl
-    by true e = absurd (subst HasPlace (ap (λ (f : Found). f.object) (ok_is _ _ (sym names ∙ null_names s (Some q) e))) place)
+    by true e = absurd (subst IsSomewhere (ap (λ (f : Found). f.object) (ok_is _ _ (sym names ∙ null_names s (Some q) e))) place)
 
 uncharged_null : (paid null : Bool) → null ≡ true → (paid && not null) ≡ false
 uncharged_null true null h = rw h refl

@@ -13,7 +13,7 @@ begins_in (object.StructList p words n d k) = p.segment
 begins_in (object.Capability i) = 0
 
 -- The object has a place: it is no null pointer's, and no capability.
-abbrev pub HasPlace : Object → Type 0
-HasPlace object.Null = ⊥
-HasPlace (object.Capability i) = ⊥
-HasPlace _ = Unit {0}
+abbrev pub IsSomewhere : Object → Type 0
+IsSomewhere object.Null = ⊥
+IsSomewhere (object.Capability i) = ⊥
+IsSomewhere _ = Unit {0}

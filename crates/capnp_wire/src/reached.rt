@@ -5,7 +5,7 @@ ghost use Rattle.capnp_wire_objects.specs.Arenas.{segment_bytes};
 ghost use Rattle.capnp_wire_objects.specs.Places.{place_view};
 ghost use Rattle.capnp_wire_objects.specs.Follow.{FollowGives};
 ghost use Rattle.capnp_wire_objects.specs.Near.{IsNear};
-ghost use Rattle.capnp_wire.specs.Reached.{begins_in, HasPlace};
+ghost use Rattle.capnp_wire.specs.Reached.{begins_in, IsSomewhere};
 
 use capnp_units::errors::Result;
 use capnp_units::limiter::ReadLimiter;
@@ -45,7 +45,7 @@ pub(crate) fn near_object_in(bytes: &[u8], place: Place) -> Option<Object>
     ensures near { (segments : List (List ℕ)) → bytes.now ≡ segment_bytes segments place.segment
         → IfSome result (λ o. IsNear (words_in segments) (place_view place) o) }
     ensures segment { IfSome result (λ o. begins_in o ≡ place.segment) }
-    ensures there { IfSome result HasPlace }
+    ensures there { IfSome result IsSomewhere }
 {
     if let Some(NearStruct { start, size }) = near_struct_in(bytes, place) {
         return Some(Object::Struct {
