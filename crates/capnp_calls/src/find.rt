@@ -1,6 +1,9 @@
 //! Fields of names that were found before.
-ghost use Rattle.std.specs.Prelude.{◌≡◌, slice_get, Some, None, IfOk, IfErr, IsOkAnd};
+ghost use Rattle.std.specs.Prelude.{◌≡◌, ℕ, slice_get, List, Some, None, IfOk, IfErr, IfSome, IsOkAnd};
 ghost use Rattle.capnp_units.specs.declared.kinds.ErrorKind.TheVariants.{FieldNotFound};
+ghost use Rattle.capnp_model.specs.Printing.{fields_in};
+ghost use Rattle.capnp_model.specs.Schemas.{Schema};
+ghost use Rattle.capnp_values_queries.specs.Fields.{place_of_name};
 ghost use Rattle.capnp_values_queries.specs.Handles.{IsFieldAt};
 ghost use Rattle.capnp_values_queries.specs.Structs.{schema_around, id_of, index_named};
 ghost use Rattle.capnp_calls.specs.Ways.{Finds, FindsFirst, fields_behind_first};
@@ -25,6 +28,19 @@ fn first_found(way: &[FoundField]) -> Option<FoundField>
     ensures { result ≡ slice_get way.now 0 }
 {
     way.first().copied()
+}
+
+/// The index of the field that a name finds in the struct or the group of a node, `Some(None)` where
+/// that has no such field. `None` where a way doesn't say it.
+#[inline]
+pub fn known_place(way: &[FoundField], node: u64) -> Option<Option<u16>>
+    ensures { (s : Schema) (name : List ℕ) → FindsFirst s name way.now
+        → IfSome result (λ place. place ≡ place_of_name name (fields_in (s.shape_of node))) }
+{
+    match first_found(way) {
+        Some(found) if found.node == node => Some(found.place),
+        _ => None,
+    }
 }
 
 /// The field of a name, as it was found under this very struct.

@@ -113,6 +113,13 @@ impl<'a> Resolved<'a> {
         })
     }
 
+    /// The call.
+    pub fn call(&self) -> &'a Call
+        ensures { call_view result.now ≡ call_of self.now }
+    {
+        self.call
+    }
+
     /// The path, which has a step.
     #[inline]
     pub fn path(&self) -> &[Step]

@@ -22,4 +22,5 @@ mod AllKept
 mod AllBroken
 mod OlderViews
 mod ExtendedGroups
+mod KnownPlaces
 mod FirstRefused

@@ -1,13 +1,15 @@
 -- What contracts see of a walk along a call's path.
-use Rattle.std.specs.Prelude.{ℕ, ◌≡◌, ◌-◌, ◌<◌, ◌≤◌, Bool, true, false, Option, Some, None, min, find, List, length, take, string_bytes}
+use Rattle.std.specs.Prelude.{ℕ, ◌≡◌, ◌-◌, ◌<◌, ◌≤◌, ⊤, Bool, true, false, Option, Some, None, min, find, List, length, take, string_bytes}
 use Rattle.std.specs.List.{list_all}
 use Rattle.std.specs.Str.{bytes_eq}
-use Rattle.capnp_model.specs.Schemas.{Ty, struct, list, type_of, Shape, pointer_slot, group_slot}
+use Rattle.capnp_model.specs.Schemas.{Ty, struct, list, type_of, Shape, pointer_slot, group_slot, Schema}
 use Rattle.capnp_model.specs.Accepted.{shape_in}
-use Rattle.capnp_model.specs.Calls.{Step, Verb as ModelVerb, Call}
+use Rattle.capnp_model.specs.Calls.{Step, name, index, Verb as ModelVerb, Call}
 use Rattle.capnp_model.specs.Admitted.{At as ModelAt, at_body, at_element, nowhere, is_admitted_from}
 use Rattle.capnp_records.specs.NodeViews.{type_record_of}
 use Rattle.capnp_records.specs.declared.node.FieldRecord.{FieldRecord}
+use Rattle.capnp_calls.specs.Ways.{FindsFirst, fields_behind_first}
+use Rattle.capnp_calls.specs.declared.find.FoundField.{FoundField}
 use Rattle.capnp_calls.specs.declared.call.Verb.{Verb}
 use Rattle.capnp_calls.specs.declared.call.Verb.TheVariants as verb
 use Rattle.capnp_calls_versions.specs.declared.keeps.Versions.{Versions}
@@ -70,6 +72,16 @@ abbrev pub next_seen : Versions → Next → List Step → ModelVerb → Bool
 next_seen v next.Unknown path w = false
 next_seen v next.Unfit path w = true
 next_seen v (next.To a) path w = goes_on v path w (at_seen v a)
+
+-- The first of a way's fields is what the step finds, if it is a name.
+abbrev pub FindsStep : Schema → Step → List FoundField → Type 0
+FindsStep s (name n) way = FindsFirst s n way
+FindsStep s (index i) way = ⊤
+
+-- The fields behind a step.
+abbrev pub way_behind : Step → List FoundField → List FoundField
+way_behind (name n) way = fields_behind_first way
+way_behind (index i) way = way
 
 -- The verb writes a group as a whole.
 abbrev pub writes_group : Verb → Bool

@@ -7,22 +7,28 @@ ghost use Rattle.capnp_model.specs.Calls.{Step as ModelStep, Verb as ModelVerb};
 ghost use Rattle.capnp_model.specs.Admitted.{at_body, is_admitted_end, into_fields, into_type, into_at, is_admitted_with};
 ghost use Rattle.capnp_units.specs.declared.kinds.ErrorKind.TheVariants.{OutOfMemory};
 ghost use Rattle.capnp_records.specs.NodeViews.{type_record_of};
+ghost use Rattle.capnp_values_queries.specs.Structs.{schema_around, id_of};
 ghost use Rattle.capnp_calls.specs.CallViews.{step_view, call_view};
+ghost use Rattle.capnp_calls.specs.Resolved.{calls_of, AreResolved};
+ghost use Rattle.capnp_calls.specs.Ways.{FindsFirst, IsWay};
 ghost use Rattle.capnp_calls_versions.specs.Holders.{held_schema};
 ghost use Rattle.capnp_calls_versions.specs.Walks.{older_body, newer_body};
 ghost use Rattle.capnp_calls_versions.specs.Roots.{is_admitted_at, is_admitted_with_at};
 ghost use Rattle.capnp_calls_versions.specs.Renamed.{names_in, renamings_of};
 ghost use Rattle.capnp_calls_versions.specs.declared.keeps.Versions.{Versions};
-ghost use Rattle.capnp_calls_versions.specs.Ways.{struct_id_in, element_in, older_shape, newer_shape, at_seen, goes_on, next_seen, writes_group, sets, IsAdmissionOf};
+ghost use Rattle.capnp_calls_versions.specs.Ways.{struct_id_in, element_in, older_shape, newer_shape, at_seen, goes_on, next_seen, writes_group, sets, FindsStep, way_behind, IsAdmissionOf};
 
 use crate::compatible::versions;
 use crate::extended::is_extended;
 use crate::keeps::{Levels, Versions};
 use crate::renamings::Renamings;
 use crate::root::Root;
+use capnp_calls::find::{FoundField, known_place, rest_of_way};
+use capnp_calls::resolved::Resolved;
 use capnp_calls::{Call, Step, Verb};
 use capnp_records::node::{BaseType, FieldBody, TypeRecord};
 use capnp_units::errors::Result;
+use capnp_values_queries::structs::StructSchema;
 use std::alloc::Global;
 
 /// Whether calls are admitted.
@@ -92,24 +98,35 @@ fn at_fields(levels: Levels, older: &FieldBody, newer: &FieldBody) -> At
     }
 }
 
-/// Where a name leads from a struct or a group.
-fn into_fields(versions: &Versions<'_>, levels: Levels, older: u64, newer: u64, name: &str) -> Next
+/// Where a name leads from a struct or a group, which a way may say of the older.
+fn into_fields(
+    versions: &Versions<'_>,
+    levels: Levels,
+    older: u64,
+    newer: u64,
+    name: &str,
+    way: &[FoundField],
+) -> Next
+    requires way { FindsFirst (held_schema versions.now.older) name.now way.now }
     ensures { (path : List ModelStep) (verb : ModelVerb) → into_fields (names_in versions.now.names)
         (id_of_shape (older_shape versions.now levels older)) name.now
         (fields_in (older_shape versions.now levels older))
         (fields_in (newer_shape versions.now levels newer)) (goes_on versions.now path verb)
         ≡ next_seen versions.now result path verb }
 {
+    if levels.older == 0 {
+        return Next::Unknown;
+    }
     let a = versions.older.holder(levels.older, older);
     let b = versions.newer.holder(levels.newer, newer);
     let below = Levels {
-        older: levels.older.saturating_sub(1),
+        older: levels.older - 1,
         newer: levels.newer.saturating_sub(1),
     };
-    let Some(field) = a.field(name) else {
+    let Some(field) = a.field(name, known_place(way, older)) else {
         return Next::Unknown;
     };
-    match b.field(versions.names.partner(a.id, name)) {
+    match b.field(versions.names.partner(a.id, name), None) {
         None => Next::To(At::Nowhere),
         Some(other) => Next::To(at_fields(below, &field.body, &other.body)),
     }
@@ -143,7 +160,14 @@ fn element_of(ty: TypeRecord) -> Option<TypeRecord>
 }
 
 /// Where a step leads behind a pointer of a type.
-fn into_type(versions: &Versions<'_>, step: &Step, older: TypeRecord, newer: TypeRecord) -> Next
+fn into_type(
+    versions: &Versions<'_>,
+    step: &Step,
+    way: &[FoundField],
+    older: TypeRecord,
+    newer: TypeRecord,
+) -> Next
+    requires way { FindsStep (held_schema versions.now.older) (step_view step.now) way.now }
     ensures { (path : List ModelStep) (verb : ModelVerb)
         → into_type (names_in versions.now.names) (held_schema versions.now.older)
         (held_schema versions.now.newer) (step_view step.now) (type_of (type_record_of older))
@@ -158,7 +182,7 @@ fn into_type(versions: &Versions<'_>, step: &Step, older: TypeRecord, newer: Typ
             let Some(other) = struct_id(newer) else {
                 return Next::Unfit;
             };
-            into_fields(versions, versions.levels(), id, other, name.as_str())
+            into_fields(versions, versions.levels(), id, other, name.as_str(), way)
         }
         Step::Index(_) => {
             let Some(element) = element_of(older) else {
@@ -176,7 +200,8 @@ fn into_type(versions: &Versions<'_>, step: &Step, older: TypeRecord, newer: Typ
 }
 
 /// Where a step leads.
-fn into_at(versions: &Versions<'_>, step: &Step, at: At) -> Next
+fn into_at(versions: &Versions<'_>, step: &Step, way: &[FoundField], at: At) -> Next
+    requires way { FindsStep (held_schema versions.now.older) (step_view step.now) way.now }
     ensures { (path : List ModelStep) (verb : ModelVerb)
         → into_at (names_in versions.now.names) (held_schema versions.now.older)
         (held_schema versions.now.newer) (step_view step.now) (at_seen versions.now at)
@@ -188,11 +213,11 @@ fn into_at(versions: &Versions<'_>, step: &Step, at: At) -> Next
             older,
             newer,
         } => match step {
-            Step::Name(name) => into_fields(versions, levels, older, newer, name.as_str()),
+            Step::Name(name) => into_fields(versions, levels, older, newer, name.as_str(), way),
             Step::Index(_) => Next::Unfit,
         },
-        At::Slot { older, newer } => into_type(versions, step, older, newer),
-        At::Element { older, newer } => into_type(versions, step, older, newer),
+        At::Slot { older, newer } => into_type(versions, step, way, older, newer),
+        At::Element { older, newer } => into_type(versions, step, way, older, newer),
         At::Nowhere => Next::Unfit,
     }
 }
@@ -231,8 +256,26 @@ fn is_admitted_end(versions: &Versions<'_>, call: &Call, at: At) -> bool
     }
 }
 
-/// Whether a call is admitted from the two roots.
-fn is_admitted(versions: &Versions<'_>, older: u64, newer: u64, call: &Call) -> bool
+/// What is known behind a step.
+fn way_behind<'a>(step: &Step, way: &'a [FoundField]) -> &'a [FoundField]
+    ensures { result.now ≡ way_behind (step_view step.now) way.now }
+{
+    match step {
+        Step::Name(_) => rest_of_way(way),
+        Step::Index(_) => way,
+    }
+}
+
+/// Whether a call is admitted from the two roots. Where a way says what its names find under the
+/// older schema, no name is looked for there.
+fn is_admitted(
+    versions: &Versions<'_>,
+    older: u64,
+    newer: u64,
+    call: &Call,
+    way: &[FoundField],
+) -> bool
+    requires way { IsWay (held_schema versions.now.older) (call_view call.now).path way.now }
     ensures { result ≡ is_admitted_with (names_in versions.now.names)
         (held_schema versions.now.older) (held_schema versions.now.newer) older newer
         (call_view call.now) }
@@ -242,12 +285,14 @@ fn is_admitted(versions: &Versions<'_>, older: u64, newer: u64, call: &Call) -> 
         newer: struct_type(newer),
     };
     let mut rest = call.path();
+    let mut known = way;
     while let [step, more @ ..] = rest {
-        match into_at(versions, step, at) {
+        match into_at(versions, step, known, at) {
             Next::Unknown => return false,
             Next::Unfit => return true,
             Next::To(next) => at = next,
         }
+        known = way_behind(step, known);
         rest = more;
     }
     is_admitted_end(versions, call, at)
@@ -281,8 +326,36 @@ pub fn admitted_with(
 {
     let versions = versions(alloc, older, newer, renamings)?;
     for i in 0..calls.len() {
-        if !is_admitted(&versions, older.id, newer.id, &calls[i]) {
+        if !is_admitted(&versions, older.id, newer.id, &calls[i], &[]) {
             return Ok(Admission::Refused(i + 1));
+        }
+    }
+    Ok(Admission::Admitted)
+}
+
+/// As `admitted_with`, of calls that are resolved under the older schema, whose names aren't looked
+/// for there again. It takes one binary search by name for each step of a call.
+pub fn admitted_resolved(
+    alloc: Global,
+    calls: &[Resolved<'_>],
+    older: StructSchema<'_>,
+    newer: StructSchema<'_>,
+    renamings: &Renamings,
+) -> Result<Admission>
+    requires resolved { AreResolved older calls.now }
+    ensures answer { IfOk result (IsAdmissionOf
+        (is_admitted_with (renamings_of renamings.now) (schema_around older.entry)
+        (schema_around newer.entry) (id_of older.entry) (id_of newer.entry))
+        (calls_of calls.now)) }
+    ensures refusal { IfErr result (λ e. e.kind ≡ OutOfMemory) }
+{
+    let versions = versions(alloc, Root::of(older), Root::of(newer), renamings)?;
+    let (older_id, newer_id) = (older.raw().id, newer.raw().id);
+    for i in 0..calls.len() {
+        let call = &calls[i];
+        if !is_admitted(&versions, older_id, newer_id, call.call(), call.fields()) {
+            let number = i + 1;
+            return Ok(Admission::Refused(number));
         }
     }
     Ok(Admission::Admitted)

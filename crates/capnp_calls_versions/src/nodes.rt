@@ -56,7 +56,7 @@ fn union_place(record: &StructRecord) -> Option<u64>
 }
 
 impl<'a> Holder<'a> {
-    ghost use Rattle.std.specs.Prelude.{◌≡◌, map, option_copied};
+    ghost use Rattle.std.specs.Prelude.{◌≡◌, map, option_copied, IfSome};
     ghost use Rattle.capnp_records.specs.NodeViews.{field_of};
     ghost use Rattle.capnp_values_queries.specs.Names.{place_named};
     ghost use Rattle.capnp_calls_versions.specs.Holders.{AreFoundByName};
@@ -70,12 +70,27 @@ impl<'a> Holder<'a> {
         place_of(self.fields, self.by_name, name).0
     }
 
-    /// The field of a name.
-    pub(crate) fn field(&self, name: &str) -> Option<&'a FieldRecord>
-        requires { AreFoundByName self.now }
+    /// The place of the field of a name, which may be known: then no name is compared.
+    fn known_or_found(&self, name: &str, known: Option<Option<u16>>) -> Option<u16>
+        requires named { AreFoundByName self.now }
+        requires known { IfSome known
+            (λ place. place ≡ place_named name.now 0 (map field_of self.now.fields.now)) }
+        ensures { result ≡ place_named name.now 0 (map field_of self.now.fields.now) }
+    {
+        match known {
+            Some(place) => place,
+            None => self.place(name),
+        }
+    }
+
+    /// The field of a name, whose place may be known.
+    pub(crate) fn field(&self, name: &str, known: Option<Option<u16>>) -> Option<&'a FieldRecord>
+        requires named { AreFoundByName self.now }
+        requires known { IfSome known
+            (λ place. place ≡ place_named name.now 0 (map field_of self.now.fields.now)) }
         ensures { option_copied result ≡ first_named name.now self.now.fields.now }
     {
-        match self.place(name) {
+        match self.known_or_found(name, known) {
             None => None,
             Some(place) => Some(&self.fields[place as usize]),
         }

@@ -4,7 +4,8 @@ use Rattle.capnp_model.specs.Schemas.{Node}
 use Rattle.capnp_model.specs.Accepted.{schema_of}
 use Rattle.capnp_model.specs.Admitted.{is_admitted_with}
 use Rattle.capnp_records.specs.Sets.{nodes_of}
-use Rattle.capnp_calls.specs.CallViews.{call_view}
+use Rattle.capnp_calls.specs.CallViews.{step_view, call_view}
+use Rattle.capnp_calls.proofs.lemmas.EachWay.{nothing_known}
 use Rattle.capnp_calls.specs.declared.call.Call.{Call}
 use Rattle.capnp_model.proofs.lemmas.Lists.{take-all}
 use Rattle.capnp_calls_versions.specs.Renamed.{names_in}
@@ -13,6 +14,9 @@ use Rattle.capnp_calls_versions.specs.Holders.{held_schema}
 use Rattle.capnp_calls_versions.specs.Ways.{IsFirstRefused}
 use Rattle.capnp_calls_versions.proofs.FirstRefused.{first_refused, next_tested}
 use Rattle.capnp_calls_versions.proofs.admitted.admitted_with.Goals as goal
+
+pub is_admitted-requires : goal.is_admitted-requires
+is_admitted-requires c = record { way = nothing_known (held_schema c.in_ok-versions.versions.older) (map step_view c.index-calls-i.result.path.items) }
 
 pub returns-then-not-is_admitted-clause-answer : goal.returns-then-not-is_admitted-clause-answer
 returns-then-not-is_admitted-clause-answer c =
