@@ -23,23 +23,25 @@ module _ (s : StructSchema) (v : StructView) (f : Field) (said : FieldNode) (par
       ∙ ap (λ (z : StructSchema). is_active said.member (discriminant_shown z v) && not (is_null_slot v (Some (field_body (schema_around f.parent).shape_of said.kind)))) parent
       ∙ ap (λ a. a && not (is_null_slot v (Some (field_body (schema_around f.parent).shape_of said.kind)))) active
 
-  -- one that is there enters none
-  pub by_presence : has_field v f ≡ true → false ≡ enters_there v (schema_around f.parent) said.kind
-  by_presence h = by (is_null_slot v (Some (field_body (schema_around f.parent).shape_of said.kind))) (sym has_is ∙ h)
-    where
-      by : (n : Bool) → not n ≡ true → false ≡ (n && enters said.kind)
-      by true g = absurd cc
-      by false g = refl
+  first : (o : Option FieldNode) (x y : FieldNode) → o ≡ Some x → o ≡ Some y → x ≡ y
+  first o x y p q = cc
 
-  -- a null one by its record
-  pub by_default : has_field v f ≡ false → (b : Bool) (other : FieldNode) → IsFieldRecord f.parent f.index other → b ≡ enters other.kind → b ≡ enters_there v (schema_around f.parent) said.kind
-  by_default h b other its told =
+  -- one without a default enters none
+  pub by_record : (b : Bool) (other : FieldNode) → IsFieldRecord f.parent f.index other → b ≡ enters other.kind → b ≡ false → false ≡ enters_there v (schema_around f.parent) said.kind
+  by_record b other its told none =
       let same : other ≡ said = first (slice_get (fields_recorded f.parent) f.index) other said its.recorded is.recorded in
-      told ∙ ap (λ (x : FieldNode). enters x.kind) same ∙ by (is_null_slot v (Some (field_body (schema_around f.parent).shape_of said.kind))) (sym has_is ∙ h)
+      by (is_null_slot v (Some (field_body (schema_around f.parent).shape_of said.kind))) (enters said.kind) (sym none ∙ told ∙ ap (λ (x : FieldNode). enters x.kind) same)
     where
-      first : (o : Option FieldNode) (x y : FieldNode) → o ≡ Some x → o ≡ Some y → x ≡ y
-      first o x y p q = cc
+      by : (n e : Bool) → false ≡ e → false ≡ (n && e)
+      by true e h = h
+      by false e h = refl
 
-      by : (n : Bool) → not n ≡ false → enters said.kind ≡ (n && enters said.kind)
-      by true g = refl
-      by false g = absurd cc
+  -- one with a default enters it where it is null
+  pub by_presence : (has b : Bool) (other : FieldNode) → has_field v f ≡ has → IsFieldRecord f.parent f.index other → b ≡ enters other.kind → b ≡ true → not has ≡ enters_there v (schema_around f.parent) said.kind
+  by_presence has b other h its told some =
+      let same : other ≡ said = first (slice_get (fields_recorded f.parent) f.index) other said its.recorded is.recorded in
+      by has (is_null_slot v (Some (field_body (schema_around f.parent).shape_of said.kind))) (enters said.kind) (sym h ∙ has_is) (sym some ∙ told ∙ ap (λ (x : FieldNode). enters x.kind) same)
+    where
+      by : (has n e : Bool) → has ≡ not n → true ≡ e → not has ≡ (n && e)
+      by has true e h k = ap not h ∙ k
+      by has false e h k = ap not h

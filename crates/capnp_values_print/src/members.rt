@@ -94,8 +94,9 @@ pub(crate) fn enters_default<A: ReaderArena>(
         (said : FieldNode) → IsFieldRecord f.parent f.index said
         → b ≡ enters_there v (schema_around f.parent) said.kind) }
 {
-    if reader.has(field)? {
+    // Few fields have a default, and whether one has costs less to ask than whether it is null.
+    if !has_default(&field.get_proto().body) {
         return Ok(false);
     }
-    Ok(has_default(&field.get_proto().body))
+    Ok(!reader.has(field)?)
 }
