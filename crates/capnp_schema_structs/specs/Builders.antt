@@ -73,11 +73,10 @@ module _ {A : Type 0} (segments : A → List (List ℕ)) (room : A → List ℕ)
     pub puts : PutsGiven told (state_of segments room books old.memory.now) (state_of segments room books new.memory.now) old.place f given r
     pub stands : sets_no_group given ≡ true → OnErr r (GrowsByZeros (words_around_struct segments old) (words_around_struct segments new))
 
--- The struct that was put into a field: where it lies behind the field's pointer, under which schema; it is there, and wide enough.
+-- The struct that was put into a field: where it lies behind the field's pointer, under which schema; it is there, and has its sizes.
 pub record IsPartOf {A : Type 0} (bytes : A → List (List ℕ)) (old new : Builder A) (f : Field) (part : Part) : Type 0 where
   pub lies : LiesIn (words_around_struct bytes old) (words_around_struct bytes new) old.place (schema_around f.parent) (entry_of_field f) part.place part.schema
-  pub there : IsThere (words_around_struct bytes new) part.place
-  pub wide : HoldsShape part.place (shape_of_struct part.schema)
+  pub there : IsPartThere (words_around_struct bytes new) part
 
 -- What is told of a field that `init` began: of a struct or a group, where it lies under which schema; it is there, and wide enough.
 pub record IsBegunBy {A : Type 0} (bytes : A → List (List ℕ)) (old new : Builder A) (f : Field) (part : Option Part) : Type 0 where

@@ -88,6 +88,10 @@ ValueUnplaced u t e = ObjectUnplaced u t e ⊎ CopyUnplaced u t e
 abbrev pub SomeRefused : (Error → Type 0) → Schema → StructView → ℕ → Ty → Segments → Error → Type 0
 SomeRefused told s v i ty u e = (type_tested ty ≡ Err (kind_of e.kind)) ⊎ ((shown_behind s ty (pointer_field v i) ≡ Err (kind_of e.kind)) ⊎ ChildRefused told v i u e)
 
+-- The same of a field.
+abbrev pub SomeFieldRefused : (Error → Type 0) → Field → StructView → ℕ → Ty → Segments → Error → Type 0
+SomeFieldRefused told f v i ty u e = SomeRefused told (schema_around f.parent) v i ty u e
+
 -- A null one of an active member: its type isn't set, or what it counts as finds no room: its default, else the empty value.
 abbrev pub NullRefused : (Error → Type 0) → Schema → Ty → Option Tree → Segments → Error → Type 0
 NullRefused told s ty d u e = (type_tested ty ≡ Err (kind_of e.kind)) ⊎ (ValueUnplaced u (source_tree s ty (default_or_null d) null) e × told e)

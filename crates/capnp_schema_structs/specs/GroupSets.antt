@@ -66,6 +66,10 @@ module _ {A : Type 0} (bytes : A → List (List ℕ)) where
   abbrev pub WritesIn : A → A → StructPlace → List Edit → Result ⊤ Error → Type 0
   WritesIn old new = WritesAsFar (words_in (bytes old)) (words_in (bytes new))
 
+  -- The writes that what is read asks for are done so.
+  abbrev pub WritesRead : StructView → A → A → StructPlace → (GroupSource → List Edit) → Result ⊤ Error → Type 0
+  WritesRead v old new p writes r = (from : GroupSource) → IsSource v from → WritesIn old new p (writes from) r
+
   -- The value becomes the tree, which isn't null.
   abbrev pub PutsChild : A → A → code.Place → Tree → Type 0
   PutsChild old new slot t = (t ≢ null) × PutsAny (words_in (bytes old)) (words_in (bytes new)) (place_view slot) t
@@ -104,6 +108,10 @@ copied_fields s members g from = writes_of_fields s members (fields_in g) (union
 abbrev pub copied_group : Schema → Shape → GroupSource → List Edit
 copied_group s g from = copied_fields s true g from ++ copied_fields s false g from
 
+-- Where the model finds no fault in what is read, `told` alone says why it isn't set.
+abbrev pub IsToldIfFaultless : (Error → Type 0) → StructView → (GroupSource → Type 0) → Result ⊤ Error → Type 0
+IsToldIfFaultless told v Faultless r = (from : GroupSource) → StandsAt v from → IfErr r (λ e. Faultless from → told e)
+
 -- Where it is a field's turn, what it reads as has no fault.
 abbrev pub IsFaultlessInTurn : Field → Bool → GroupSource → Type 0
 IsFaultlessInTurn f members from = entry_turn members (union_in (shape_of_struct f.parent)) (entry_of_field f) from ≡ true → IsFieldFaultless f from
@@ -119,7 +127,7 @@ IsNotNull v i = is_null_pointer (pointer_field v i) ≡ false
 pub record SetsFields (told : Error → Type 0) (v : StructView) (s u : Segments) (p : StructPlace) (f : Field) (r : Result ⊤ Error) : Type 0 where
   pub writes : (from : GroupSource) → IsSource v from → WritesAsFar s u p (copied_field f from) r
   pub why : IfErr r (FieldRefused told f v u)
-  pub cause : (from : GroupSource) → StandsAt v from → IfErr r (λ e. IsFieldFaultless f from → told e)
+  pub cause : IsToldIfFaultless told v (IsFieldFaultless f) r
 
 -- ---- pointers
 

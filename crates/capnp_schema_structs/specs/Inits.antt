@@ -91,9 +91,13 @@ MakesEmptyStruct old new slot g = Makes old new slot (empty_struct g) (words_of_
 abbrev pub LeadsToStruct : Segments → code.Place → StructPlace → Type 0
 LeadsToStruct u slot o = LeadsTo u (place_view slot) (object_of_struct o)
 
+-- What is put into a slot that is begun with a struct.
+abbrev pub begun_slot : Field → Content
+begun_slot f = field_init_content (schema_around f.parent) (entry_of_field f)
+
 -- Such a struct is put into a slot.
 abbrev pub PutsNewStruct : {X : Type 0} → ArenaState → ArenaState → StructPlace → Field → Result X Error → Type 0
-PutsNewStruct old new p f r = PutsContent old new p (edit_of f init) (field_init_content (schema_around f.parent) (entry_of_field f)) r
+PutsNewStruct old new p f r = PutsContent old new p (edit_of f init) (begun_slot f) r
 
 -- Where it lies, and of which schema it is.
 abbrev pub LiesInField : Segments → Segments → StructPlace → Field → Part → Type 0

@@ -8,7 +8,7 @@ ghost use Rattle.capnp_schema_structs.specs.Given.{is_flat};
 ghost use Rattle.capnp_schema_structs.specs.Values.{value_given};
 ghost use Rattle.capnp_schema_structs.specs.Edits.{IsThere, HoldsShape};
 ghost use Rattle.capnp_schema_structs.specs.Begun.{begun_field, IsThereIfTold};
-ghost use Rattle.capnp_schema_structs.specs.Inits.{field_init_content, is_slot};
+ghost use Rattle.capnp_schema_structs.specs.Inits.{begun_slot, is_slot};
 ghost use Rattle.capnp_schema_structs.specs.NewLists.{initn_field};
 ghost use Rattle.capnp_units.specs.Segments.{words_in};
 ghost use Rattle.capnp_values_queries.specs.Fields.{place_of_name};
@@ -244,9 +244,7 @@ impl<'a, A: BuilderArena> Builder<'a, A> {
         requires slot { is_slot (entry_of_field field) ≡ true }
         ensures same { self.new.memory.ghost_name ≡ self.old.memory.ghost_name }
         ensures puts { Puts A.segments A.room A.books (IsSizeOrRefusal A.refuses)
-            self.old self.new (edit_of field.entry init)
-            (field_init_content (schema_around field.entry.parent) (entry_of_field field.entry))
-            result }
+            self.old self.new (edit_of field.entry init) (begun_slot field.entry) result }
         ensures part { IfOk result (IsPartOf A.segments self.old self.new field.entry) }
         ensures refused { OnErr result (StructStays A.segments self.old self.new) }
         ensures books { A.books self.new.memory.now.arena ≡ A.books self.old.memory.now.arena }

@@ -13,10 +13,10 @@ ghost use Rattle.capnp_copy_arenas.specs.Refusals.{IsSizeOrRefusal};
 ghost use Rattle.capnp_schema_structs.specs.Edits.{IsThere};
 ghost use Rattle.capnp_schema_structs.specs.Inside.{HasFields};
 ghost use Rattle.capnp_schema_structs.specs.Puts.{answered};
-ghost use Rattle.capnp_schema_structs.specs.GroupFaults.{StandsAt, IsFieldFaultless, AreFaultless, IsGroupFaultless};
-ghost use Rattle.capnp_schema_structs.specs.GroupRefusals.{type_tested, NullFieldRefused, SomeRefused, FieldRefused, OneRefused};
+ghost use Rattle.capnp_schema_structs.specs.GroupFaults.{IsFieldFaultless, AreFaultless, IsGroupFaultless};
+ghost use Rattle.capnp_schema_structs.specs.GroupRefusals.{type_tested, NullFieldRefused, SomeFieldRefused, FieldRefused, OneRefused};
 ghost use Rattle.capnp_schema_structs.specs.GroupWrites.{GroupSource};
-ghost use Rattle.capnp_schema_structs.specs.GroupSets.{IsNotNull, IsSource, IsFaultlessInTurn, WritesIn, IsPointerAt, SetsFields, copied_field, copied_turn, copied_fields, copied_group};
+ghost use Rattle.capnp_schema_structs.specs.GroupSets.{IsNotNull, IsFaultlessInTurn, IsToldIfFaultless, WritesIn, WritesRead, IsPointerAt, SetsFields, copied_field, copied_turn, copied_fields, copied_group};
 
 use crate::group_nulls::{default_value, put_null};
 use crate::group_sources::{bits_in, copy_child, has_turn};
@@ -96,13 +96,12 @@ fn copy_some<'a, A: BuilderArena, B: ReaderArena>(
     requires inside { HasFields object (shape_of_struct field.parent) × (index < object.pointers) }
     requires slot { IsPointerAt index (ty_of ty) (entry_of_field field) }
     requires some { IsNotNull (seen_struct B.segments source.now) index }
-    ensures writes { (from : GroupSource) → IsSource (seen_struct B.segments source.now) from
-        → WritesIn A.segments arena.old arena.new object (copied_field field.entry from) result }
-    ensures why { let v = seen_struct B.segments source.now in IfErr result (SomeRefused
-        (IsSizeOrRefusal A.refuses) (schema_around field.entry.parent) v index (ty_of ty)
-        (words_in (A.segments arena.new))) }
-    ensures cause { (from : GroupSource) → StandsAt (seen_struct B.segments source.now) from
-        → IfErr result (λ e. IsFieldFaultless field.entry from → IsSizeOrRefusal A.refuses e) }
+    ensures writes { WritesRead A.segments (seen_struct B.segments source.now) arena.old arena.new
+        object (copied_field field.entry) result }
+    ensures why { IfErr result (SomeFieldRefused (IsSizeOrRefusal A.refuses) field.entry
+        (seen_struct B.segments source.now) index (ty_of ty) (words_in (A.segments arena.new))) }
+    ensures cause { IsToldIfFaultless (IsSizeOrRefusal A.refuses)
+        (seen_struct B.segments source.now) (IsFieldFaultless field.entry) result }
     ensures grows { Grows (words_in (A.segments arena.old)) (words_in (A.segments arena.new)) }
     ensures books { A.books arena.new ≡ A.books arena.old }
 {
@@ -126,12 +125,12 @@ fn copy_field<'a, A: BuilderArena, B: ReaderArena>(
 ) -> Result<()>
     requires there { IsThere (words_in (A.segments arena.old)) object }
     requires inside { HasFields object (shape_of_struct field.parent) }
-    ensures writes { (from : GroupSource) → IsSource (seen_struct B.segments source.now) from
-        → WritesIn A.segments arena.old arena.new object (copied_field field.entry from) result }
+    ensures writes { WritesRead A.segments (seen_struct B.segments source.now) arena.old arena.new
+        object (copied_field field.entry) result }
     ensures why { IfErr result (FieldRefused (IsSizeOrRefusal A.refuses) field.entry
         (seen_struct B.segments source.now) (words_in (A.segments arena.new))) }
-    ensures cause { (from : GroupSource) → StandsAt (seen_struct B.segments source.now) from
-        → IfErr result (λ e. IsFieldFaultless field.entry from → IsSizeOrRefusal A.refuses e) }
+    ensures cause { IsToldIfFaultless (IsSizeOrRefusal A.refuses)
+        (seen_struct B.segments source.now) (IsFieldFaultless field.entry) result }
     ensures grows { Grows (words_in (A.segments arena.old)) (words_in (A.segments arena.new)) }
     ensures books { A.books arena.new ≡ A.books arena.old }
 {
@@ -174,14 +173,12 @@ fn copy_turn<'a, A: BuilderArena, B: ReaderArena>(
 ) -> Result<()>
     requires there { IsThere (words_in (A.segments arena.old)) object }
     requires inside { HasFields object (shape_of_struct field.parent) }
-    ensures writes { (from : GroupSource) → IsSource (seen_struct B.segments source.now) from
-        → WritesIn A.segments arena.old arena.new object
-        (copied_turn field.entry members from) result }
+    ensures writes { WritesRead A.segments (seen_struct B.segments source.now) arena.old arena.new
+        object (copied_turn field.entry members) result }
     ensures why { IfErr result (FieldRefused (IsSizeOrRefusal A.refuses) field.entry
         (seen_struct B.segments source.now) (words_in (A.segments arena.new))) }
-    ensures cause { (from : GroupSource) → StandsAt (seen_struct B.segments source.now) from
-        → IfErr result (λ e. IsFaultlessInTurn field.entry members from
-        → IsSizeOrRefusal A.refuses e) }
+    ensures cause { IsToldIfFaultless (IsSizeOrRefusal A.refuses)
+        (seen_struct B.segments source.now) (IsFaultlessInTurn field.entry members) result }
     ensures grows { Grows (words_in (A.segments arena.old)) (words_in (A.segments arena.new)) }
     ensures books { A.books arena.new ≡ A.books arena.old }
 {
@@ -202,15 +199,14 @@ fn copy_fields<'a, A: BuilderArena, B: ReaderArena>(
 ) -> Result<()>
     requires there { IsThere (words_in (A.segments arena.old)) object }
     requires inside { HasFields object (shape_of_struct schema) }
-    ensures writes { (from : GroupSource) → IsSource (seen_struct B.segments source.now) from
-        → WritesIn A.segments arena.old arena.new object
-        (copied_fields (schema_around schema.entry) members (shape_of_struct schema.entry) from)
+    ensures writes { WritesRead A.segments (seen_struct B.segments source.now) arena.old arena.new
+        object (copied_fields (schema_around schema.entry) members (shape_of_struct schema.entry))
         result }
     ensures why { IfErr result (OneRefused (IsSizeOrRefusal A.refuses) schema.entry
         (seen_struct B.segments source.now) (words_in (A.segments arena.new))) }
-    ensures cause { (from : GroupSource) → StandsAt (seen_struct B.segments source.now) from
-        → IfErr result (λ e. AreFaultless (schema_around schema.entry) members
-        (shape_of_struct schema.entry) from → IsSizeOrRefusal A.refuses e) }
+    ensures cause { IsToldIfFaultless (IsSizeOrRefusal A.refuses)
+        (seen_struct B.segments source.now) (AreFaultless (schema_around schema.entry) members
+        (shape_of_struct schema.entry)) result }
     ensures grows { Grows (words_in (A.segments arena.old)) (words_in (A.segments arena.new)) }
     ensures books { A.books arena.new ≡ A.books arena.old }
 {
@@ -233,14 +229,13 @@ fn copy_group<'a, A: BuilderArena, B: ReaderArena>(
 ) -> Result<()>
     requires there { IsThere (words_in (A.segments arena.old)) object }
     requires inside { HasFields object (shape_of_struct schema) }
-    ensures writes { (from : GroupSource) → IsSource (seen_struct B.segments source.now) from
-        → WritesIn A.segments arena.old arena.new object
-        (copied_group (schema_around schema.entry) (shape_of_struct schema.entry) from) result }
+    ensures writes { WritesRead A.segments (seen_struct B.segments source.now) arena.old arena.new
+        object (copied_group (schema_around schema.entry) (shape_of_struct schema.entry)) result }
     ensures why { IfErr result (OneRefused (IsSizeOrRefusal A.refuses) schema.entry
         (seen_struct B.segments source.now) (words_in (A.segments arena.new))) }
-    ensures cause { (from : GroupSource) → StandsAt (seen_struct B.segments source.now) from
-        → IfErr result (λ e. IsGroupFaultless (schema_around schema.entry)
-        (shape_of_struct schema.entry) from → IsSizeOrRefusal A.refuses e) }
+    ensures cause { IsToldIfFaultless (IsSizeOrRefusal A.refuses)
+        (seen_struct B.segments source.now) (IsGroupFaultless (schema_around schema.entry)
+        (shape_of_struct schema.entry)) result }
     ensures grows { Grows (words_in (A.segments arena.old)) (words_in (A.segments arena.new)) }
     ensures books { A.books arena.new ≡ A.books arena.old }
 {

@@ -4,12 +4,13 @@ ghost use Rattle.capnp_model.specs.Coverage.{Grows};
 ghost use Rattle.capnp_units.specs.Segments.{words_in};
 ghost use Rattle.capnp_units.specs.Errors.{kind_of};
 ghost use Rattle.capnp_records.specs.Sets.{nodes_of};
-ghost use Rattle.capnp_values_queries.specs.Structs.{nodes_around, schema_around, shape_of_struct, id_of};
+ghost use Rattle.capnp_values_queries.specs.Structs.{nodes_around, shape_of_struct, id_of};
 ghost use Rattle.capnp_values_queries.specs.Handles.{entry_of_field};
 ghost use Rattle.capnp_values_queries.specs.Types.{ty_of, is_type_of};
+ghost use Rattle.capnp_schema_structs.specs.Begun.{IsPartThere};
 ghost use Rattle.capnp_schema_structs.specs.Inside.{HasFields, size_of_shape};
 ghost use Rattle.capnp_schema_structs.specs.Edits.{IsThere, HoldsShape};
-ghost use Rattle.capnp_schema_structs.specs.Inits.{struct_named, no_struct, is_slot, field_init_content, MakesEmptyStruct, LeadsToStruct, PutsNewStruct, LiesInField, StructNotMade};
+ghost use Rattle.capnp_schema_structs.specs.Inits.{struct_named, no_struct, is_slot, begun_slot, MakesEmptyStruct, LeadsToStruct, PutsNewStruct, LiesInField, StructNotMade};
 ghost use Rattle.capnp_copy_arenas.specs.Refusals.{IsSizeOrRefusal};
 ghost use Rattle.capnp_copy_arenas.specs.States.{HasWords, state_in};
 ghost use Rattle.capnp_schema_structs.specs.Puts.{BytesGrow, HasCause};
@@ -116,10 +117,8 @@ pub fn init_slot<'a, A: BuilderArena>(
         PutsNewStruct (at arena.old) (at arena.new) object field.entry result }
     ensures lies { IfOk result (LiesInField (words_in (A.segments arena.old))
         (words_in (A.segments arena.new)) object field.entry) }
-    ensures there { IfOk result (λ o. IsThere (words_in (A.segments arena.new)) o.place) }
-    ensures wide { IfOk result (λ o. HoldsShape o.place (shape_of_struct o.schema)) }
-    ensures cause { IfErr result (HasCause (field_init_content (schema_around field.entry.parent)
-        (entry_of_field field.entry)) (IsSizeOrRefusal A.refuses)) }
+    ensures there { IfOk result (IsPartThere (words_in (A.segments arena.new))) }
+    ensures cause { IfErr result (HasCause (begun_slot field.entry) (IsSizeOrRefusal A.refuses)) }
     ensures refused { OnErr result (A.segments arena.new ≡ A.segments arena.old) }
     ensures grows { Grows (words_in (A.segments arena.old)) (words_in (A.segments arena.new)) }
     ensures books { A.books arena.new ≡ A.books arena.old }

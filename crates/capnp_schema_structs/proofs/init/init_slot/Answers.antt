@@ -84,7 +84,10 @@ returns-in_ok-place-in-Pointer-clause-lies g c =
 
 pub returns-in_ok-place-in-Pointer-clause-there : goal.returns-in_ok-place-in-Pointer-clause-there
 returns-in_ok-place-in-Pointer-clause-there g c =
-    there_after (words_in (g.A.ReaderArena.segments c.put_struct.new.arena)) (words_in (g.A.ReaderArena.segments c.mark.new.arena)) c.in_ok-place-in-Pointer.place c.mark.ensures.sizes c.in_ok-place-in-Pointer.ensures.there
+    record {
+      there = there_after (words_in (g.A.ReaderArena.segments c.put_struct.new.arena)) (words_in (g.A.ReaderArena.segments c.mark.new.arena)) c.in_ok-place-in-Pointer.place c.mark.ensures.sizes c.in_ok-place-in-Pointer.ensures.there;
+      wide = c.in_ok-place-in-Pointer.ensures.wide;
+    }
 
 pub returns-in_ok-place-in-Pointer-clause-grows : goal.returns-in_ok-place-in-Pointer-clause-grows
 returns-in_ok-place-in-Pointer-clause-grows g c =
