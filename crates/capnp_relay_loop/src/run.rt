@@ -8,7 +8,7 @@ ghost use Rattle.capnp_relay_loop.specs.Pauses.{RelaysPausing, moment, pauses_of
 use crate::answers::Answers;
 use crate::ends::{Counts, RelayFault};
 use crate::pauses::Pause;
-use crate::step::{Buffers, step};
+use crate::step::{Progress, step};
 use capnp_stream::forms::MessageForm;
 use capnp_stream_io::traits::{BufRead, Read, Write};
 use std::alloc::Global;
@@ -51,32 +51,32 @@ pub fn answer_all<
         (moment source.new out.new log.new) result }
     ensures zeros { region.new ≡ region.old }
 {
-    let mut buffers = Buffers::new(alloc);
-    let mut counts = Counts {
-        written: 0,
-        refused: 0,
-    };
+    let mut progress = Progress::new(alloc);
     let mut answered: u64 = 0;
     loop {
         match P::pause(source, out, log) {
             Ok(()) => {}
-            Err(fault) => return Err(RelayFault { fault, counts }),
+            Err(fault) => {
+                let counts = progress.counts;
+                return Err(RelayFault { fault, counts });
+            }
         }
         match step::<I, O, R, W, L, A>(
-            alloc,
             source,
             out,
             log,
             answers,
             limit,
             region,
-            &mut buffers,
+            &mut progress,
             answered,
-            &mut counts,
         ) {
             Ok(true) => answered += 1,
-            Ok(false) => return Ok(counts),
-            Err(fault) => return Err(RelayFault { fault, counts }),
+            Ok(false) => return Ok(progress.counts),
+            Err(fault) => {
+                let counts = progress.counts;
+                return Err(RelayFault { fault, counts });
+            }
         }
     }
 }

@@ -32,10 +32,12 @@ use capnp_units::sizes::{Word, words_as_bytes};
 use capnp_wire_canonical::laws::segments_of_words;
 use std::alloc::Global;
 
-/// Buffers that are kept from message to message: they grow only where a message wants more of them
-/// than those before.
+/// What a run keeps from message to message: the counts, and buffers, which grow only where a
+/// message wants more of them than those before.
 #[derive(Drop)]
-pub(crate) struct Buffers {
+pub(crate) struct Progress {
+    alloc: Global,
+    pub(crate) counts: Counts,
     /// The message that was read lies at the front.
     message: MessageBuffer,
     /// What is written of an answer stands at the front.
@@ -46,12 +48,19 @@ pub(crate) struct Buffers {
     line: Line,
 }
 
-impl Buffers {
-    /// Buffers that have taken no memory yet.
-    pub(crate) fn new(alloc: Global) -> Buffers
-        ensures { KeepsLine result.line }
+impl Progress {
+    /// Nothing is counted, and no buffer has taken memory yet.
+    pub(crate) fn new(alloc: Global) -> Progress
+        ensures line { KeepsLine result.line }
+        ensures counts { (result.counts.written ≡ 0) × (result.counts.refused ≡ 0) }
     {
-        Buffers {
+        let counts = Counts {
+            written: 0,
+            refused: 0,
+        };
+        Progress {
+            alloc,
+            counts,
             message: MessageBuffer::new(alloc),
             words: Vec::new(alloc),
             text: Vec::new(alloc),
@@ -286,28 +295,26 @@ fn put_log<L: Write>(
 /// Whether a message came; it is answered then. The region is all zeros, before and after.
 #[inline(always)]
 pub(crate) fn step<I: MessageForm, O: MessageForm, R: BufRead, W: Write, L: Write, A: Answers>(
-    alloc: Global,
     source: &mut R,
     out: &mut W,
     log: &mut L,
     answers: &A,
     limit: usize,
     region: &mut [u8],
-    buffers: &mut Buffers,
+    progress: &mut Progress,
     answered: u64,
-    counts: &mut Counts,
 ) -> Result<bool, Fault>
-    requires together { counts.old.written + counts.old.refused ≡ answered }
+    requires together { progress.old.counts.written + progress.old.counts.refused ≡ answered }
     requires zeros { AllZero region.old }
-    requires line { KeepsLine buffers.old.line }
+    requires line { KeepsLine progress.old.line }
     ensures run { let seen = streams_of ⟦<R as Read>⟧ ⟦<W as Write>⟧ ⟦<L as Write>⟧ in
         Steps (work_by ⟦<A as Answers>⟧ answers.now I.reader O.writer limit W.may_grow L.may_grow)
         answered (seen source.old out.old log.old) (seen source.new out.new log.new)
-        counts.old counts.new result }
-    ensures line { OnOk result (KeepsLine buffers.new.line) }
+        progress.old.counts progress.new.counts result }
+    ensures line { OnOk result (KeepsLine progress.new.line) }
     ensures zeros { region.new ≡ region.old }
 {
-    let message = match buffers
+    let message = match progress
         .message
         .try_read_message::<I, R>(source, Some(limit))
     {
@@ -316,16 +323,22 @@ pub(crate) fn step<I: MessageForm, O: MessageForm, R: BufRead, W: Write, L: Writ
         Err(e) => return end_at_read(e),
     };
     let answer = prepare::<O, A>(
-        alloc,
+        progress.alloc,
         answers,
         answered,
         &message,
         region,
-        &mut buffers.words,
-        &mut buffers.text,
-        &mut buffers.line,
+        &mut progress.words,
+        &mut progress.text,
+        &mut progress.line,
     )?;
-    put_out::<O, W>(out, &answer, &buffers.words, &buffers.text, counts)?;
-    put_log(log, &answer, &buffers.line.bytes, counts)?;
+    put_out::<O, W>(
+        out,
+        &answer,
+        &progress.words,
+        &progress.text,
+        &mut progress.counts,
+    )?;
+    put_log(log, &answer, &progress.line.bytes, &mut progress.counts)?;
     Ok(true)
 }

@@ -11,7 +11,7 @@ use Rattle.capnp_relay_loop.proofs.lemmas.PauseLemmas.{Answered-rests, AnsweredP
 use Rattle.capnp_relay_loop.proofs.run.answer_all.Goals as goal
 
 pub loop-fault-init : goal.loop-fault-init
-loop-fault-init g c = record { zeros = refl; line = c.new-buffers.ensures; together = refl; pauses = refl; run = ([], [], refl, Answered-nil _ _ _ refl refl) }
+loop-fault-init g c = let begun = c.new-progress.ensures in record { zeros = refl; line = begun.line; together = omega (arith, begun.counts.0, begun.counts.1); pauses = refl; run = ([], [], refl, Answered-nil _ _ _ begun.counts.0 begun.counts.1) }
 
 pub loop-fault-preserved : goal.loop-fault-preserved
 loop-fault-preserved g c =
@@ -36,8 +36,8 @@ loop-fault-preserved g c =
           c.loop-fault.answered (moment c.args.source.now c.args.out.now c.args.log.now) (moment c.loop-fault.source c.loop-fault.out c.loop-fault.log) (moment c.step.new.source c.step.new.out c.step.new.log) c.loop-fault.invariant.pauses (
             moment c.loop-fault.source c.pause.new.out c.pause.new.log,
             record { source = refl; out = c.in-Ok.ensures.ok.0; log = c.in-Ok.ensures.ok.1; holds = c.in-Ok.ensures.behind },
-            c.loop-fault.counts,
-            c.step.new.counts,
+            c.loop-fault.progress.counts,
+            c.step.new.progress.counts,
             one.1,
           );
     }
@@ -48,13 +48,13 @@ returns-in-Err-step g c =
     let w = work g.I.MessageForm.reader g.O.MessageForm.writer (Some c.args.limit) (g.A.Answers.is_answer c.args.answers.now) (g.A.Answers.is_too_large c.args.answers.now) g.W.Write.may_grow g.L.Write.may_grow in
     let mid = streams (source_seen g.R.Read.remaining g.R.Read.failures c.loop-fault.source) (sink_seen g.W.Write.contents g.W.Write.failures g.W.Write.room c.pause.new.out) (sink_seen g.L.Write.contents g.L.Write.failures g.L.Write.room c.pause.new.log) in
     let new = streams (source_seen g.R.Read.remaining g.R.Read.failures c.step.new.source) (sink_seen g.W.Write.contents g.W.Write.failures g.W.Write.room c.step.new.out) (sink_seen g.L.Write.contents g.L.Write.failures g.L.Write.room c.step.new.log) in
-    let P : ℕ → Type 0 = λ n. StopsByFault w n c.in-Err-step.fault mid new c.loop-fault.counts c.step.new.counts in
+    let P : ℕ → Type 0 = λ n. StopsByFault w n c.in-Err-step.fault mid new c.loop-fault.progress.counts c.step.new.progress.counts in
     record {
       run = inl (
         run.0,
         run.1,
         mid,
-        c.loop-fault.counts,
+        c.loop-fault.progress.counts,
         Answered-rests _ _ _ _ _ _ _ run.3 refl c.in-Ok.ensures.ok.0 c.in-Ok.ensures.ok.1,
         subst P (ap (λ (k : ℕ). k + 1) (sym run.2)) c.in-Err-step.ensures.run,
       );
@@ -65,8 +65,8 @@ returns-in-Err-step g c =
         inr (inr (
           moment c.loop-fault.source c.pause.new.out c.pause.new.log,
           record { source = refl; out = c.in-Ok.ensures.ok.0; log = c.in-Ok.ensures.ok.1; holds = c.in-Ok.ensures.behind },
-          c.loop-fault.counts,
-          c.step.new.counts,
+          c.loop-fault.progress.counts,
+          c.step.new.progress.counts,
           c.in-Err-step.ensures.run,
         )),
       );
@@ -105,8 +105,8 @@ returns-in-Ok-false g c =
         (
           moment c.loop-fault.source c.pause.new.out c.pause.new.log,
           record { source = refl; out = c.in-Ok.ensures.ok.0; log = c.in-Ok.ensures.ok.1; holds = c.in-Ok.ensures.behind },
-          c.loop-fault.counts,
-          c.step.new.counts,
+          c.loop-fault.progress.counts,
+          c.step.new.progress.counts,
           ends,
         ),
       );

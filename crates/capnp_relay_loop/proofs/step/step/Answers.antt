@@ -21,7 +21,7 @@ returns-in_err-answer g c =
     let old = streams (source_seen g.R.Read.remaining g.R.Read.failures c.args.source.now) (sink_seen g.W.Write.contents g.W.Write.failures g.W.Write.room c.args.out.now) (sink_seen g.L.Write.contents g.L.Write.failures g.L.Write.room c.args.log.now) in
     let new = streams (source_seen g.R.Read.remaining g.R.Read.failures c.try_read_message.new.source) (sink_seen g.W.Write.contents g.W.Write.failures g.W.Write.room c.args.out.now) (sink_seen g.L.Write.contents g.L.Write.failures g.L.Write.room c.args.log.now) in
     rw (p.1, p.2) (record {
-      run = Stops-of_want (work g.I.MessageForm.reader g.O.MessageForm.writer (Some c.args.limit) (g.A.Answers.is_answer c.args.answers.now) (g.A.Answers.is_too_large c.args.answers.now) g.W.Write.may_grow g.L.Write.may_grow) g.met.I.MessageForm.fronts (c.args.answered + 1) old new c.args.counts.now c.args.counts.now
+      run = Stops-of_want (work g.I.MessageForm.reader g.O.MessageForm.writer (Some c.args.limit) (g.A.Answers.is_answer c.args.answers.now) (g.A.Answers.is_too_large c.args.answers.now) g.W.Write.may_grow g.L.Write.may_grow) g.met.I.MessageForm.fronts (c.args.answered + 1) old new c.args.progress.now.counts c.args.progress.now.counts
           (words_in (found_segments c.in-Ok-Some.message)) taken c.in-Ok-Some.ensures.message.count _ failed.err
           (λ e. number-after _ _ (failed.size (ap Err e))) (Keeps-refl _, refl) (Keeps-refl _, refl) refl;
       line = tt;
@@ -40,7 +40,7 @@ returns-in_err-put_out g c =
     let old = streams (source_seen g.R.Read.remaining g.R.Read.failures c.args.source.now) (sink_seen g.W.Write.contents g.W.Write.failures g.W.Write.room c.args.out.now) (sink_seen g.L.Write.contents g.L.Write.failures g.L.Write.room c.args.log.now) in
     let new = streams (source_seen g.R.Read.remaining g.R.Read.failures c.try_read_message.new.source) (sink_seen g.W.Write.contents g.W.Write.failures g.W.Write.room c.put_out.new.out) (sink_seen g.L.Write.contents g.L.Write.failures g.L.Write.room c.args.log.now) in
     rw (p.1, p.2) (record {
-      run = Stops-of_out (work g.I.MessageForm.reader g.O.MessageForm.writer (Some c.args.limit) (g.A.Answers.is_answer c.args.answers.now) (g.A.Answers.is_too_large c.args.answers.now) g.W.Write.may_grow g.L.Write.may_grow) g.met.I.MessageForm.fronts (c.args.answered + 1) old new c.args.counts.now c.put_out.new.counts
+      run = Stops-of_out (work g.I.MessageForm.reader g.O.MessageForm.writer (Some c.args.limit) (g.A.Answers.is_answer c.args.answers.now) (g.A.Answers.is_too_large c.args.answers.now) g.W.Write.may_grow g.L.Write.may_grow) g.met.I.MessageForm.fronts (c.args.answered + 1) old new c.args.progress.now.counts c.put_out.new.counts
           s taken c.in-Ok-Some.ensures.message.count _ refused.0 refused.1 answers refused.3 (Keeps-refl _, refl) refused.4;
       line = tt;
       zeros = c.in_ok-answer.ensures.zeros;
@@ -58,7 +58,7 @@ returns-in_err-put_log g c =
     let old = streams (source_seen g.R.Read.remaining g.R.Read.failures c.args.source.now) (sink_seen g.W.Write.contents g.W.Write.failures g.W.Write.room c.args.out.now) (sink_seen g.L.Write.contents g.L.Write.failures g.L.Write.room c.args.log.now) in
     let new = streams (source_seen g.R.Read.remaining g.R.Read.failures c.try_read_message.new.source) (sink_seen g.W.Write.contents g.W.Write.failures g.W.Write.room c.put_out.new.out) (sink_seen g.L.Write.contents g.L.Write.failures g.L.Write.room c.put_log.new.log) in
     rw (p.1, p.2) (record {
-      run = Stops-of_log (work g.I.MessageForm.reader g.O.MessageForm.writer (Some c.args.limit) (g.A.Answers.is_answer c.args.answers.now) (g.A.Answers.is_too_large c.args.answers.now) g.W.Write.may_grow g.L.Write.may_grow) g.met.I.MessageForm.fronts (c.args.answered + 1) old new c.args.counts.now c.put_log.new.counts
+      run = Stops-of_log (work g.I.MessageForm.reader g.O.MessageForm.writer (Some c.args.limit) (g.A.Answers.is_answer c.args.answers.now) (g.A.Answers.is_too_large c.args.answers.now) g.W.Write.may_grow g.L.Write.may_grow) g.met.I.MessageForm.fronts (c.args.answered + 1) old new c.args.progress.now.counts c.put_log.new.counts
           (words_in (found_segments c.in-Ok-Some.message)) taken c.in-Ok-Some.ensures.message.count _ a c.in_ok-answer.ensures.answer
           put.0 (subst P (c.deref-3.ensures.value ∙ c.in_ok-answer.ensures.line.0) stops.0)
           (c.in_err-put_log.ensures.written ∙ put.1) (stops.1 ∙ c.in_ok-put_out.ensures.refused);
@@ -73,7 +73,7 @@ returns-in-Err g c =
     let old = streams (source_seen g.R.Read.remaining g.R.Read.failures c.args.source.now) (sink_seen g.W.Write.contents g.W.Write.failures g.W.Write.room c.args.out.now) (sink_seen g.L.Write.contents g.L.Write.failures g.L.Write.room c.args.log.now) in
     let new = streams (source_seen g.R.Read.remaining g.R.Read.failures c.try_read_message.new.source) (sink_seen g.W.Write.contents g.W.Write.failures g.W.Write.room c.args.out.now) (sink_seen g.L.Write.contents g.L.Write.failures g.L.Write.room c.args.log.now) in
     rw told.1 (record {
-      run = Stops-of_read (work g.I.MessageForm.reader g.O.MessageForm.writer (Some c.args.limit) (g.A.Answers.is_answer c.args.answers.now) (g.A.Answers.is_too_large c.args.answers.now) g.W.Write.may_grow g.L.Write.may_grow) (g.I.MessageForm.faults) (c.args.answered + 1) old new c.args.counts.now read.part (Keeps-refl _, refl) (Keeps-refl _, refl) told.0 c.in-Err.e.kind
+      run = Stops-of_read (work g.I.MessageForm.reader g.O.MessageForm.writer (Some c.args.limit) (g.A.Answers.is_answer c.args.answers.now) (g.A.Answers.is_too_large c.args.answers.now) g.W.Write.may_grow g.L.Write.may_grow) (g.I.MessageForm.faults) (c.args.answered + 1) old new c.args.progress.now.counts read.part (Keeps-refl _, refl) (Keeps-refl _, refl) told.0 c.in-Err.e.kind
           read.kind read.refused read.count told.2.memory told.2.device told.2.other;
       line = tt;
       zeros = refl;
