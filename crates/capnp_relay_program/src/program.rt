@@ -10,7 +10,7 @@ ghost use Rattle.capnp_relay_program.specs.Flushing.{flushes_of, FlushesBeforeRe
 
 use crate::arguments::asks_for_help;
 use crate::lines::write_line;
-use crate::run::relay_all;
+use crate::run::{Files, relay_all};
 use crate::sinks::Flush;
 use crate::sources::Windowed;
 use crate::stop::Stop;
@@ -87,9 +87,13 @@ pub fn program<R: Windowed, W: Flush, L: Flush>(
         put_fault(log, Stop::Arguments);
         return 1;
     }
-    match relay_all(
-        alloc, words, schema, calls, newer, renames, source, out, log,
-    ) {
+    let files = Files {
+        schema,
+        calls,
+        newer,
+        renames,
+    };
+    match relay_all(alloc, words, files, source, out, log) {
         Ok(()) => 0,
         Err(stop) => {
             put_fault(log, stop);

@@ -1,11 +1,10 @@
 //! The run of the program.
-ghost use Rattle.std.specs.Prelude.{◌≡◌, [], map, string_bytes, OnOk, IfOk, IfErr};
-ghost use Rattle.std.specs.Option.{option_copied};
+ghost use Rattle.std.specs.Prelude.{◌≡◌, [], OnOk, IfOk, IfErr};
 ghost use Rattle.capnp_relay_loop.specs.Streams.{streams_of};
 ghost use Rattle.capnp_relay_loop.specs.Pauses.{moment};
 ghost use Rattle.capnp_relay_streams.specs.Options.{reader_of};
-ghost use Rattle.capnp_relay_program.specs.Asked.{request, IsHeldBack};
-ghost use Rattle.capnp_relay_program.specs.Settings.{asked_of};
+ghost use Rattle.capnp_relay_program.specs.Asked.{IsHeldBack};
+ghost use Rattle.capnp_relay_program.specs.Settings.{asked_of, request_of};
 ghost use Rattle.capnp_relay_program.specs.Program.{seen_of, Ran, RelaysAll};
 ghost use Rattle.capnp_relay_program.specs.Flushing.{flushes_of, RanFlushing, FlushesBeforeReads};
 
@@ -27,6 +26,15 @@ use std::alloc::Global;
 /// before its first message, so it has room for the messages of most streams and no more. One that
 /// is longer is edited in memory from `alloc`.
 const REGION_LEN: usize = 64 * 1024;
+
+/// The bytes of the files that words name: `None` for one that can't be read, or that no word names.
+#[derive(Clone, Copy)]
+pub(crate) struct Files<'a> {
+    pub(crate) schema: Option<&'a [u8]>,
+    pub(crate) calls: Option<&'a [u8]>,
+    pub(crate) newer: Option<&'a [u8]>,
+    pub(crate) renames: Option<&'a [u8]>,
+}
 
 /// The end of the relay that was asked for, of input in this form; nothing is read or written where
 /// it is held back.
@@ -115,28 +123,29 @@ fn relay_asked<R: Windowed, W: Flush, L: Flush>(
 pub(crate) fn relay_all<R: Windowed, W: Flush, L: Flush>(
     alloc: Global,
     words: &[String],
-    schema: Option<&[u8]>,
-    calls: Option<&[u8]>,
-    newer: Option<&[u8]>,
-    renames: Option<&[u8]>,
+    files: Files<'_>,
     source: &mut R,
     out: &mut W,
     log: &mut L,
 ) -> Result<(), Stop>
     ensures run { let three = streams_of ⟦<R as Read>⟧ ⟦<W as Write>⟧ ⟦<L as Write>⟧ in
-        RelaysAll (request (map string_bytes words.now) (option_copied schema.entry)
-        (option_copied calls.entry) (option_copied newer.entry) (option_copied renames.entry))
-        W.may_grow L.may_grow
+        RelaysAll (request_of words.now files.entry) W.may_grow L.may_grow
         (seen_of (three source.old out.old log.old) (W.held out.old) (L.held log.old))
         (seen_of (three source.new out.new log.new) (W.held out.new) (L.held log.new))
         result }
     ensures flushes { FlushesBeforeReads (flushes_of ⟦<R as Read>⟧ ⟦<W as Write>⟧ ⟦<L as Write>⟧
-        R.window W.held L.held) (request (map string_bytes words.now) (option_copied schema.entry)
-        (option_copied calls.entry) (option_copied newer.entry) (option_copied renames.entry))
+        R.window W.held L.held) (request_of words.now files.entry)
         W.may_grow L.may_grow (moment source.old out.old log.old) source.new }
     ensures held { OnOk result ((W.held out.new ≡ []) × (L.held log.new ≡ [])) }
 {
-    let settings = Settings::new(alloc, words, schema, calls, newer, renames)?;
+    let settings = Settings::new(
+        alloc,
+        words,
+        files.schema,
+        files.calls,
+        files.newer,
+        files.renames,
+    )?;
     let end = relay_asked(alloc, &settings, source, out, log)?;
     let flushed_out = out.flush();
     let flushed_log = log.flush();
