@@ -33,9 +33,10 @@ use Rattle.capnp_model_writes.proofs.lemmas.Levels.{owned_more}
 use Rattle.capnp_copy_arenas.specs.Lists.{object_of_list}
 use Rattle.capnp_copy_arenas.specs.States.{ArenaState}
 use Rattle.capnp_copy_arenas.specs.declared.init.ListPlace.{ListPlace}
-use Rattle.capnp_copy_widening.specs.Got.{list_place_in}
+use Rattle.capnp_copy_widening.specs.Got.{list_place_in, list_named}
+use Rattle.capnp_copy_widening.specs.declared.lists.Taker.TheVariants as taker
 use Rattle.capnp_copy_widening.specs.WidenedLists.{list_there}
-use Rattle.capnp_layout_builders.specs.Gets.{list_named, Begun, Gets}
+use Rattle.capnp_layout_builders.specs.Gets.{Begun, Gets}
 use Rattle.capnp_values_queries.specs.Types.{ty_of}
 use Rattle.capnp_values_queries.specs.declared.introspect.«Type».{«Type» as SchemaType}
 use Rattle.capnp_schema_structs.specs.Inits.{struct_named}
@@ -184,7 +185,7 @@ holds_all around o (list e) f g = (f refl, tt)
 
 -- ---- the list that is got
 
-accepted_of : (slot : code.Place) (expected : ElementSize) (f : Object) (o : ListPlace) → list_place_in slot expected f ≡ Ok o → 0 < o.count → is_accepted_as (size_number expected) (list_head o.size o.data_words o.pointers) ≡ true
+accepted_of : (slot : code.Place) (expected : ElementSize) (f : Object) (o : ListPlace) → list_place_in taker.Reader slot expected f ≡ Ok o → 0 < o.count → is_accepted_as (size_number expected) (list_head o.size o.data_words o.pointers) ≡ true
 accepted_of slot expected object.Null o e some = absurd (let none = ap (λ (x : ListPlace). x.count) (ok_is _ _ e) in omega (arith, none, some))
 accepted_of slot expected (object.List p size n) o e some =
     let a = guard_ok (is_accepted_as (size_number expected) (list_head size 0 0)) WrongElementSize _ o e in
@@ -198,12 +199,12 @@ accepted_of slot expected (object.StructList p words n d k) o e some =
 accepted_of slot expected (object.Struct p d k) o e some = absurd (cc e)
 accepted_of slot expected (object.Capability i) o e some = absurd (cc e)
 
-pub named_accepted : (s : Segments) (slot : code.Place) (expected : ElementSize) (ty : Ty) (o : ListPlace) → size_number expected ≡ expected_size ty → list_named s slot expected ≡ Ok o → 0 < o.count → is_accepted_as (expected_size ty) (list_head o.size o.data_words o.pointers) ≡ true
+pub named_accepted : (s : Segments) (slot : code.Place) (expected : ElementSize) (ty : Ty) (o : ListPlace) → size_number expected ≡ expected_size ty → list_named taker.Reader s slot expected ≡ Ok o → 0 < o.count → is_accepted_as (expected_size ty) (list_head o.size o.data_words o.pointers) ≡ true
 named_accepted s slot expected ty o same e some =
     let a = bind_ok (object_at s (place_view slot)) _ o e in
     subst (λ j. is_accepted_as j (list_head o.size o.data_words o.pointers) ≡ true) same (accepted_of slot expected a.0.object o a.2 some)
 
-pub owned_count : ListsAreRead → (s : Segments) (slot : code.Place) (expected : ElementSize) (o : ListPlace) → list_named s slot expected ≡ Ok o → (n : ℕ) (t : Tree) → Owns n s (place_view slot) t → o.count ≡ list_count t
+pub owned_count : ListsAreRead → (s : Segments) (slot : code.Place) (expected : ElementSize) (o : ListPlace) → list_named taker.Reader s slot expected ≡ Ok o → (n : ℕ) (t : Tree) → Owns n s (place_view slot) t → o.count ≡ list_count t
 owned_count law s slot expected o e n t own = named_count law n s slot expected t (tree_at_more n (suc n) s (place_view slot) t (omega arith) own.means) o e
 
 -- ---- why none is got
@@ -239,7 +240,7 @@ module _ (default : Option (List (List ℕ))) (d : Tree) (holds : HoldsDefaultOr
       subst (λ y. Owns (n + 65) u p (as_list around ty y)) opened (replaced_owned (n + 65) s u p t (as_list around ty x.0) first x.2)
 
   -- it is never refused where it can be read
-  pub never_refused : ListsAreRead → (s u : Segments) → Gets default s u (place_view slot) (as_list around ty) → (expected : ElementSize) → size_number expected ≡ expected_size ty → (r : Result ListPlace Error) → seen (λ o. o) r ≡ list_named u slot expected
+  pub never_refused : ListsAreRead → (s u : Segments) → Gets default s u (place_view slot) (as_list around ty) → (expected : ElementSize) → size_number expected ≡ expected_size ty → (r : Result ListPlace Error) → seen (λ o. o) r ≡ list_named taker.Reader u slot expected
       → (Claim : Error → Type 0) → IfErr r (λ e. WhereRead s (place_view slot) around (list ty) d (Claim e))
   never_refused law s u got expected same (Ok o) is Claim = tt
   never_refused law s u got expected same (Err e) is Claim = λ n t own sound. (

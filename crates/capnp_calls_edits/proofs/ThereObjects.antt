@@ -25,9 +25,9 @@ use Rattle.capnp_wire.specs.Views.{Ground, ListView}
 use Rattle.capnp_wire.specs.Reads.{list_head, read_list}
 use Rattle.capnp_wire.specs.Laws.{ShowsList, IsRead, ListsAreRead}
 use Rattle.capnp_copy_arenas.specs.declared.init.ListPlace.{ListPlace}
-use Rattle.capnp_copy_widening.specs.Got.{list_place_in}
+use Rattle.capnp_copy_widening.specs.Got.{list_place_in, list_named}
+use Rattle.capnp_copy_widening.specs.declared.lists.Taker.TheVariants as taker
 use Rattle.capnp_copy_widening.specs.Widened.{IsObjectOfStruct, IsStructOrNull}
-use Rattle.capnp_layout_builders.specs.Gets.{list_named}
 use Rattle.capnp_calls_edits.specs.Written.{HasNoFault}
 use Rattle.capnp_calls_edits.specs.Elements.{IsOfStruct, list_count}
 
@@ -114,7 +114,7 @@ both true l v e never = record { o = l; v = v; place = refl; view = refl; count 
 both false l v e never = absurd (never WrongElementSize refl)
 
 module _ (g : Ground) (slot : code.Place) (expected : ElementSize) where
-  alike : (o : Object) → ((k : Kind) → read_list g (Some 1) expected o ≡ Err k → ⊥) → Alike (list_place_in slot expected o) (read_list g (Some 1) expected o)
+  alike : (o : Object) → ((k : Kind) → read_list g (Some 1) expected o ≡ Err k → ⊥) → Alike (list_place_in taker.Reader slot expected o) (read_list g (Some 1) expected o)
   alike object.Null never = record { o = _; v = _; place = refl; view = refl; count = refl }
   alike (object.List p size n) never = both (is_accepted_as (size_number expected) (list_head size 0 0)) _ _ refl never
   alike (object.PointerList p n) never = both (is_accepted_as (size_number expected) (list_head Pointer 0 0)) _ _ refl never
@@ -123,7 +123,7 @@ module _ (g : Ground) (slot : code.Place) (expected : ElementSize) where
   alike (object.Capability i) never = absurd (never _ refl)
 
   -- the list that an object is, is read
-  read_too : (o : Object) (l : ListPlace) → list_place_in slot expected o ≡ Ok l → (v : ListView) × (read_list g (Some 1) expected o ≡ Ok v) × (v.count ≡ l.count)
+  read_too : (o : Object) (l : ListPlace) → list_place_in taker.Reader slot expected o ≡ Ok l → (v : ListView) × (read_list g (Some 1) expected o ≡ Ok v) × (v.count ≡ l.count)
   read_too object.Null l e = (_, refl, ap (λ (x : ListPlace). x.count) (ok_is _ _ e))
   read_too (object.List p size n) l e =
       let a = guard_ok (is_accepted_as (size_number expected) (list_head size 0 0)) WrongElementSize _ l e in
@@ -153,18 +153,18 @@ module _ (law : ListsAreRead) (n : ℕ) (s : Segments) (slot : code.Place) (expe
   read_here f e = record { found = e; tree = tree; below = Some 0; level = refl }
 
   -- it has as many elements as the value
-  pub named_count : (o : ListPlace) → list_named s slot expected ≡ Ok o → o.count ≡ list_count t
+  pub named_count : (o : ListPlace) → list_named taker.Reader s slot expected ≡ Ok o → o.count ≡ list_count t
   named_count o e =
       let a = bind_ok (object_at s (place_view slot)) _ o e in
       let x = read_too (ground s) slot expected a.0.object o a.2 in
       sym x.2 ∙ shown_count (tree_at n s) x.0 t ((law n (place_view slot) a.0 t (ground s) (Some 1) expected (read_here a.0 a.1)).0 x.0 x.1)
 
   -- where the value can be read as a list of the type, it names one
-  pub named_there : (sch : Schema) (ty : Ty) → size_number expected ≡ expected_size ty → HasNoFault (read sch t (list ty)) → IsOk (list_named s slot expected)
+  pub named_there : (sch : Schema) (ty : Ty) → size_number expected ≡ expected_size ty → HasNoFault (read sch t (list ty)) → IsOk (list_named taker.Reader s slot expected)
   named_there sch ty same sound =
       let a = object_there n s (place_view slot) t tree in
       let never : (k : Kind) → read_list (ground s) (Some 1) expected a.0.object ≡ Err k → ⊥ =
       λ k e. subst HasNoFault ((law n (place_view slot) a.0 t (ground s) (Some 1) expected (read_here a.0 a.1)).1 k sch ty same e) sound in
       let x = alike (ground s) slot expected a.0.object never in
-      let there : list_named s slot expected ≡ Ok x.o = ok_then (object_at s (place_view slot)) _ a.0 _ a.1 x.place in
+      let there : list_named taker.Reader s slot expected ≡ Ok x.o = ok_then (object_at s (place_view slot)) _ a.0 _ a.1 x.place in
       subst IsOk (sym there) refl

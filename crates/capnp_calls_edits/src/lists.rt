@@ -17,7 +17,7 @@ ghost use Rattle.capnp_calls_edits.specs.Behind.{BytesGrowBehind};
 
 use capnp_copy_arenas::arena::BuilderArena;
 use capnp_copy_arenas::init::ListPlace;
-use capnp_copy_widening::lists::get_list;
+use capnp_copy_widening::lists::{Taker, get_list};
 use capnp_copy_widening::struct_lists::get_struct_list;
 use capnp_layout_builders::gets::begin;
 use capnp_model_writes::laws::{changes_of_values, changes_with_more_levels};
@@ -67,8 +67,8 @@ fn begin_list<A: BuilderArena>(
 /// one, else the list is empty, at the pointer itself. Where the elements are structs, the list
 /// becomes one of structs of their schema's sizes.
 ///
-/// It is refused as `write_default` is, then as `get_struct_list` and `get_list` of
-/// `capnp_copy_widening`.
+/// It is refused as `write_default` is, then as `get_struct_list` and a reader's `get_list` of
+/// `capnp_copy_widening`. So bits aren't taken as voids.
 pub(crate) fn list_behind<A: BuilderArena>(
     arena: &mut A,
     slot: Place,
@@ -90,5 +90,5 @@ pub(crate) fn list_behind<A: BuilderArena>(
 {
     gets_are_readings();
     begin_list(arena, slot, set, ty, default)?;
-    get_list(arena, slot, ty.expected_element_size())
+    get_list(arena, slot, ty.expected_element_size(), Taker::Reader)
 }

@@ -64,8 +64,8 @@ use capnp_wire_objects::place::Place;
 /// - `FieldNotFound`: the struct lacks the name.
 /// - `IndexOutOfRange`: the list has no such index.
 /// - `TypeMismatch`: a field or an element doesn't take the value.
-/// - A struct on the way is refused as by `struct_or_default`, a list as by `get_list` and
-///   `get_struct_list` of `capnp_copy_widening`.
+/// - A struct on the way is refused as by `struct_or_default`, a list as by a reader's `get_list`
+///   and `get_struct_list` of `capnp_copy_widening`. So bits aren't taken as voids.
 /// - The last field is refused as by `clear_field`, `begin_field`, `initn_slot` and `set_flat`. An
 ///   element at the path's end is refused as by `set_flat` and `init_element` of
 ///   `capnp_schema_lists` and by `copy_content_from`.

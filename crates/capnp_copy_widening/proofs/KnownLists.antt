@@ -36,6 +36,7 @@ use Rattle.capnp_copy_arenas.proofs.lemmas.RoomLaws.{still_some}
 use Rattle.capnp_copy_arenas.proofs.lemmas.Parts.{section_there}
 use Rattle.capnp_model.proofs.lemmas.PointerWords.{list_kind_small}
 use Rattle.capnp_copy_widening.specs.Got.{list_place_in}
+use Rattle.capnp_copy_widening.specs.declared.lists.Taker.TheVariants as taker
 use Rattle.capnp_copy_widening.specs.MovedElements.{IsOfList, HasList, HasStructs, least_data_words, least_pointers}
 use Rattle.capnp_copy_widening.specs.WidenedLists.{list_there, IsWideList}
 use Rattle.capnp_copy_widening.proofs.SpreadPointers.{one_pointer}
@@ -53,19 +54,19 @@ pub data Known (s : Segments) (o : ListPlace) : Type 0 where
 -- ---- the place that was answered
 
 -- what an object's list has
-from_plain : (slot : code.Place) (q : code.Place) (size : ElementSize) (n : ℕ) (o : ListPlace) → list_place_in slot InlineComposite (object.List q size n) ≡ Ok o → (o.claimed ≡ n) × (o.count ≡ n) × (o.size ≡ size)
+from_plain : (slot : code.Place) (q : code.Place) (size : ElementSize) (n : ℕ) (o : ListPlace) → list_place_in taker.Reader slot InlineComposite (object.List q size n) ≡ Ok o → (o.claimed ≡ n) × (o.count ≡ n) × (o.size ≡ size)
 from_plain slot q size n o e =
     let g = guard_ok (is_accepted_as 7 (list_head size 0 0)) WrongElementSize _ o e in
     let is = ok_is _ _ g.1 in
     (sym (ap (λ (x : ListPlace). x.claimed) is), sym (ap (λ (x : ListPlace). x.count) is), sym (ap (λ (x : ListPlace). x.size) is))
 
-from_pointers : (slot : code.Place) (q : code.Place) (n : ℕ) (o : ListPlace) → list_place_in slot InlineComposite (object.PointerList q n) ≡ Ok o → (o.claimed ≡ n) × (o.count ≡ n)
+from_pointers : (slot : code.Place) (q : code.Place) (n : ℕ) (o : ListPlace) → list_place_in taker.Reader slot InlineComposite (object.PointerList q n) ≡ Ok o → (o.claimed ≡ n) × (o.count ≡ n)
 from_pointers slot q n o e =
     let g = guard_ok (is_accepted_as 7 (list_head Pointer 0 0)) WrongElementSize _ o e in
     let is = ok_is _ _ g.1 in
     (sym (ap (λ (x : ListPlace). x.claimed) is), sym (ap (λ (x : ListPlace). x.count) is))
 
-from_structs : (slot : code.Place) (q : code.Place) (words n d k : ℕ) (o : ListPlace) → list_place_in slot InlineComposite (object.StructList q words n d k) ≡ Ok o → (o.count ≡ n) × (o.data_words ≡ d) × (o.pointers ≡ k)
+from_structs : (slot : code.Place) (q : code.Place) (words n d k : ℕ) (o : ListPlace) → list_place_in taker.Reader slot InlineComposite (object.StructList q words n d k) ≡ Ok o → (o.count ≡ n) × (o.data_words ≡ d) × (o.pointers ≡ k)
 from_structs slot q words n d k o e =
     let g = guard_ok (is_accepted_as 7 (list_head InlineComposite d k)) WrongElementSize _ o e in
     let is = ok_is _ _ g.1 in
@@ -81,7 +82,7 @@ short s p a pads size n ws e k there =
     let fits : Fits (plain_list size n (section_of ws % 2 ^ (size_bits size * n))) = tree_at_fits 1 s p _ means in
     fits.1
 
-known_plain : (s : Segments) (slot : code.Place) (o : ListPlace) (f : Object) → size_number o.size < 6 → LeadsTo s (place_view slot) (object_of_list o) → whole s (object_of_list o) ≡ Ok f → list_place_in slot InlineComposite f ≡ Ok o → Known s o
+known_plain : (s : Segments) (slot : code.Place) (o : ListPlace) (f : Object) → size_number o.size < 6 → LeadsTo s (place_view slot) (object_of_list o) → whole s (object_of_list o) ≡ Ok f → list_place_in taker.Reader slot InlineComposite f ≡ Ok o → Known s o
 known_plain s slot o f l leads e is =
     let kind = list_kind_small (size_number o.size) l in
     let x = bind_ok (ok_or (words_at s (place_view o.start) (list_words (list_kind (size_number o.size)) (size_number o.size) o.claimed)) OutOfBounds) _ f e in
@@ -89,7 +90,7 @@ known_plain s slot o f l leads e is =
     let there : words_at s (place_view o.start) (words_for (size_bits (size_number o.size) * o.claimed)) ≡ Some x.0 = subst (λ (kd : ListKind). words_at s (place_view o.start) (list_words kd (size_number o.size) o.claimed) ≡ Some x.0) kind words in
     let y : whole_list (place_view o.start) of_bits (size_number o.size) o.claimed x.0 ≡ Ok f = subst (λ (kd : ListKind). whole_list (place_view o.start) kd (size_number o.size) o.claimed x.0 ≡ Ok f) kind x.2 in
     let object_is = ok_is _ _ y in
-    let in_list : list_place_in slot InlineComposite (object.List (placed (place_view o.start)) (plain_size (size_number o.size)) o.claimed) ≡ Ok o = ap (list_place_in slot InlineComposite) object_is ∙ is in
+    let in_list : list_place_in taker.Reader slot InlineComposite (object.List (placed (place_view o.start)) (plain_size (size_number o.size)) o.claimed) ≡ Ok o = ap (list_place_in taker.Reader slot InlineComposite) object_is ∙ is in
     let z = from_plain slot (placed (place_view o.start)) (plain_size (size_number o.size)) o.claimed o in_list in
     let few = short s (place_view slot) (place_view o.start) leads.0 (size_number o.size) o.claimed x.0 leads.1 kind there in
     plain_known l (sym z.1) (omega (arith, few, z.1)) (let all : is_some (words_at s (place_view o.start) (words_for (size_bits (size_number o.size) * o.claimed))) ≡ true = ap is_some there in
@@ -98,30 +99,30 @@ known_plain s slot o f l leads e is =
     after_zero : (p : Place) → after p 0 ≡ p
     after_zero p = let e : p.position + 0 ≡ p.position = omega arith in ap (place p.segment) e
 
-known_pointers : (s : Segments) (slot : code.Place) (o : ListPlace) (f : Object) → o.size ≡ Pointer → whole s (object_of_list o) ≡ Ok f → list_place_in slot InlineComposite f ≡ Ok o → Known s o
+known_pointers : (s : Segments) (slot : code.Place) (o : ListPlace) (f : Object) → o.size ≡ Pointer → whole s (object_of_list o) ≡ Ok f → list_place_in taker.Reader slot InlineComposite f ≡ Ok o → Known s o
 known_pointers s slot o f size e is =
     let six : size_number o.size ≡ 6 = ap size_number size in
     let e' : whole s (a_list (place_view o.start) 6 o.claimed) ≡ Ok f = subst (λ (x : ℕ). whole s (a_list (place_view o.start) x o.claimed) ≡ Ok f) six e in
     let x = bind_ok (ok_or (words_at s (place_view o.start) o.claimed) OutOfBounds) _ f e' in
     let object_is = ok_is _ _ x.2 in
-    let z = from_pointers slot (placed (place_view o.start)) o.claimed o (ap (list_place_in slot InlineComposite) object_is ∙ is) in
+    let z = from_pointers slot (placed (place_view o.start)) o.claimed o (ap (list_place_in taker.Reader slot InlineComposite) object_is ∙ is) in
     let there : is_some (words_at s (place_view o.start) o.claimed) ≡ true = ap is_some (ok_or_some _ _ _ x.1) in
     pointers_known size (sym z.1) (subst (λ (n : ℕ). is_some (words_at s (place_view o.start) n) ≡ true) (sym z.1) there)
 
-known_structs : (s : Segments) (slot : code.Place) (o : ListPlace) (f : Object) → o.size ≡ InlineComposite → whole s (object_of_list o) ≡ Ok f → list_place_in slot InlineComposite f ≡ Ok o → Known s o
+known_structs : (s : Segments) (slot : code.Place) (o : ListPlace) (f : Object) → o.size ≡ InlineComposite → whole s (object_of_list o) ≡ Ok f → list_place_in taker.Reader slot InlineComposite f ≡ Ok o → Known s o
 known_structs s slot o f size e is =
     let seven : size_number o.size ≡ 7 = ap size_number size in
     let e' : whole s (a_list (place_view o.start) 7 o.claimed) ≡ Ok f = subst (λ (x : ℕ). whole s (a_list (place_view o.start) x o.claimed) ≡ Ok f) seven e in
     let x = bind_ok (ok_or (words_at s (place_view o.start) (1 + o.claimed)) OutOfBounds) _ f e' in
     let y = bind_ok (tag_in x.0) _ f x.2 in
     let object_is = ok_is _ _ y.2 in
-    let z = from_structs slot (placed (after (place_view o.start) 1)) o.claimed y.0.count y.0.data_words y.0.pointers o (ap (list_place_in slot InlineComposite) object_is ∙ is) in
+    let z = from_structs slot (placed (after (place_view o.start) 1)) o.claimed y.0.count y.0.data_words y.0.pointers o (ap (list_place_in taker.Reader slot InlineComposite) object_is ∙ is) in
     structs_known size x.0 (ok_or_some _ _ _ x.1) (y.1 ∙ ap (λ (t : Tag). let r : Result Tag Kind = Ok t in r) (tag_is y.0 o.count o.data_words o.pointers (sym z.0) (sym z.1) (sym z.2)))
   where
     tag_is : (t : Tag) (a b c : ℕ) → t.count ≡ a → t.data_words ≡ b → t.pointers ≡ c → t ≡ record { count = a; data_words = b; pointers = c }
     tag_is t a b c e f g = ap (λ (x : ℕ). let u : Tag = record { count = x; data_words = t.data_words; pointers = t.pointers } in u) e ∙ ap (λ (x : ℕ). let u : Tag = record { count = a; data_words = x; pointers = t.pointers } in u) f ∙ ap (λ (x : ℕ). let u : Tag = record { count = a; data_words = b; pointers = x } in u) g
 
-by_size : (s : Segments) (slot : code.Place) (o : ListPlace) (f : Object) (size : ElementSize) → o.size ≡ size → LeadsTo s (place_view slot) (object_of_list o) → whole s (object_of_list o) ≡ Ok f → list_place_in slot InlineComposite f ≡ Ok o → Known s o
+by_size : (s : Segments) (slot : code.Place) (o : ListPlace) (f : Object) (size : ElementSize) → o.size ≡ size → LeadsTo s (place_view slot) (object_of_list o) → whole s (object_of_list o) ≡ Ok f → list_place_in taker.Reader slot InlineComposite f ≡ Ok o → Known s o
 by_size s slot o f Void e leads w is = known_plain s slot o f (let n : size_number o.size ≡ 0 = ap size_number e in omega (arith, n)) leads w is
 by_size s slot o f Bit e leads w is = known_plain s slot o f (let n : size_number o.size ≡ 1 = ap size_number e in omega (arith, n)) leads w is
 by_size s slot o f Byte e leads w is = known_plain s slot o f (let n : size_number o.size ≡ 2 = ap size_number e in omega (arith, n)) leads w is

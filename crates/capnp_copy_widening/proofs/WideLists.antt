@@ -37,6 +37,7 @@ use Rattle.capnp_copy_widening.specs.WidenedLists.{list_there, IsWideList, Widen
 use Rattle.capnp_copy_widening.proofs.lemmas.GotStructs.{padded_enough, padded_most, same_object}
 use Rattle.capnp_copy_widening.proofs.lemmas.ObjectsThere.{named_at}
 use Rattle.capnp_copy_widening.specs.Got.{list_place_in}
+use Rattle.capnp_copy_widening.specs.declared.lists.Taker.TheVariants as taker
 use Rattle.capnp_copy_widening.proofs.FilledLists.{struct_words, struct_pointers, structs_shape}
 use Rattle.capnp_copy_widening.proofs.SpreadPointers.{one_pointer}
 use Rattle.capnp_copy_widening.proofs.lemmas.CopiedNumbers.{plain_shape, one_data_word}
@@ -190,13 +191,13 @@ refused_list s slot old d k d' k' e there some narrow ed ek r =
     subst (λ (x : Result ListPlace Kind). WideListRefused s (place_view slot) x d k e) (sym there) (some, narrow, r2)
 
 -- the list of a null pointer is one of structs, and empty
-null_in : (s : Segments) (slot : code.Place) (o : ListPlace) (f : Found) → object_at s (place_view slot) ≡ Ok f → list_place_in slot InlineComposite f.object ≡ Ok o → word_at s (place_view slot) ≡ Some 0 → (o.size ≡ InlineComposite) × (o.count ≡ 0)
+null_in : (s : Segments) (slot : code.Place) (o : ListPlace) (f : Found) → object_at s (place_view slot) ≡ Ok f → list_place_in taker.Reader slot InlineComposite f.object ≡ Ok o → word_at s (place_view slot) ≡ Some 0 → (o.size ≡ InlineComposite) × (o.count ≡ 0)
 null_in s slot o f there is e =
     let named = named_at s (place_view slot) f there in
     let leads = null_found s (place_view slot) e in
     let same = same_object s (place_view slot) named.object_named nothing (f.pads, named.leads) leads in
     let null : f.object ≡ object.Null = sym (ok_is _ _ (ap (whole s) (sym same) ∙ named.is_whole)) in
-    let got = ok_is _ _ (ap (list_place_in slot InlineComposite) (sym null) ∙ is) in
+    let got = ok_is _ _ (ap (list_place_in taker.Reader slot InlineComposite) (sym null) ∙ is) in
     (sym (ap (λ (x : ListPlace). x.size) got), sym (ap (λ (x : ListPlace). x.count) got))
 
 pub null_of_structs : (s : Segments) (slot : code.Place) (o : ListPlace) → list_there s slot ≡ Ok o → word_at s (place_view slot) ≡ Some 0 → (o.size ≡ InlineComposite) × (o.count ≡ 0)

@@ -1,6 +1,5 @@
 -- Lists that are got as lists of structs, and widened. (Encoding, "Lists")
 use Rattle.std.specs.Prelude.{◌≡◌, ◌⊎◌, ℕ, suc, max, ◌+◌, ◌*◌, ◌^◌, ◌≤◌, List, Some, Result, Ok, Err, IsOk, IfOk, IfErr, OnOk, OnErr}
-use Rattle.capnp_model.specs.Chains.{◌and_then◌}
 use Rattle.capnp_model.specs.Kinds.{Kind}
 use Rattle.capnp_model.specs.Segments.{Segments, Place, word_at}
 use Rattle.capnp_model.specs.Trees.{Tree}
@@ -11,7 +10,6 @@ use Rattle.capnp_units.specs.Errors.{kind_of}
 use Rattle.capnp_units.specs.Segments.{words_in}
 use Rattle.capnp_wire_objects.specs.Places.{place_view}
 use Rattle.capnp_wire_objects.specs.declared.place.Place as code
-use Rattle.capnp_wire_objects.specs.Objects.{object_at}
 use Rattle.capnp_model_writes.specs.Footprints.{Owns}
 use Rattle.capnp_model_writes.specs.Changes.{Replaces}
 use Rattle.capnp_copy_arenas.specs.Elements.{IsWhole}
@@ -19,14 +17,15 @@ use Rattle.capnp_copy_arenas.specs.Lists.{object_of_list}
 use Rattle.capnp_copy_arenas.specs.States.{ArenaState}
 use Rattle.capnp_copy_arenas.specs.Values.{LeadsTo}
 use Rattle.capnp_copy_arenas.specs.declared.init.ListPlace.{ListPlace}
-use Rattle.capnp_copy_widening.specs.Got.{list_place_in}
+use Rattle.capnp_copy_widening.specs.Got.{list_named}
+use Rattle.capnp_copy_widening.specs.declared.lists.Taker.TheVariants as taker
 use Rattle.capnp_copy_widening.specs.MovedElements.{as_structs, least_data_words, least_pointers, HasStructs}
 use Rattle.capnp_copy_arenas.specs.Allocations.{TakesAtMost}
 use Rattle.capnp_copy_widening.specs.Widened.{GrowthRefused, TakesNear, NoWiderRoom, TakesNearObject, LacksWiderRoom}
 
 -- The list that the pointer at a place names, of elements that can be structs, else the kind of the fault: a list of bits can't.
 abbrev pub list_there : Segments → code.Place → Result ListPlace Kind
-list_there s slot = object_at s (place_view slot) and_then λ f. list_place_in slot InlineComposite f.object
+list_there s slot = list_named taker.Reader s slot InlineComposite
 
 -- Whatever value is owned there becomes a list of structs of at least n data words and pointers,
 -- null stays, and nothing else changes.

@@ -1,7 +1,6 @@
 //! Lists that are got.
 ghost use Rattle.std.specs.Prelude.{◌≡◌, ◌⊎◌, ◌+◌, ◌-◌, ◌*◌, ◌<◌, ◌≤◌, ◌^◌, ℕ, true, Some, Ok, IfOk};
 ghost use Rattle.std.specs.Option.{is_some};
-ghost use Rattle.capnp_model.specs.Chains.{◌and_then◌};
 ghost use Rattle.capnp_model.specs.Readings.{is_accepted_as};
 ghost use Rattle.capnp_model.specs.Segments.{word_at, words_at};
 ghost use Rattle.capnp_units.specs.Segments.{words_in};
@@ -9,11 +8,10 @@ ghost use Rattle.capnp_units.specs.Sizes.{size_number};
 ghost use Rattle.capnp_units.specs.declared.sizes.ElementSize.TheVariants.{InlineComposite};
 ghost use Rattle.capnp_wire_objects.specs.Places.{place_view, seen};
 ghost use Rattle.capnp_wire.specs.Reads.{list_head};
-ghost use Rattle.capnp_wire_objects.specs.Objects.{object_at};
 ghost use Rattle.capnp_copy_arenas.specs.Elements.{IsNullOrWhole};
 ghost use Rattle.capnp_copy_arenas.specs.Lists.{object_of_list};
 ghost use Rattle.capnp_copy_arenas.specs.Values.{LeadsTo};
-ghost use Rattle.capnp_copy_widening.specs.Got.{list_place_in};
+ghost use Rattle.capnp_copy_widening.specs.Got.{is_taken_by, list_named};
 ghost use Rattle.capnp_copy_widening.specs.MovedElements.{HasStructs};
 
 use capnp_copy_arenas::init::ListPlace;
@@ -24,6 +22,13 @@ use capnp_wire_objects::arena::ReaderArena;
 use capnp_wire_objects::named::found_at;
 use capnp_wire_objects::object::{Object, whole};
 use capnp_wire_objects::place::Place;
+
+/// Who takes a list's elements as ones of an expected size.
+#[derive(Clone, Copy)]
+pub enum Taker {
+    Reader,
+    Builder,
+}
 
 /// Whether elements of a size can be read as ones of an expected size. Structs have n data words
 /// and pointers.
@@ -43,9 +48,23 @@ fn is_accepted(expected: ElementSize, size: ElementSize, data_words: u16, pointe
     }
 }
 
-/// The list that the pointer at a place names, near or far, with elements that can be read as ones
-/// of the expected size:
-/// - bits only as bits;
+/// Whether a list's elements are taken as ones of an expected size: as they can be read, and by a
+/// builder bits as voids too.
+fn is_taken(taker: Taker, expected: ElementSize, list: ListPlace) -> bool
+    ensures { result ≡ is_taken_by taker expected list }
+{
+    let is_accepted = is_accepted(expected, list.size, list.data_words, list.pointers);
+    match taker {
+        Taker::Reader => is_accepted,
+        Taker::Builder => {
+            (expected == ElementSize::Void && list.size == ElementSize::Bit) || is_accepted
+        }
+    }
+}
+
+/// The list that the pointer at a place names, near or far, with elements that are taken as ones of
+/// the expected size:
+/// - bits as bits, and by a builder as voids;
 /// - other plain elements and pointers as elements with as many bits and pointers at most;
 /// - structs as what their first data word or their first pointer can be.
 ///
@@ -55,12 +74,16 @@ fn is_accepted(expected: ElementSize, size: ElementSize, data_words: u16, pointe
 /// It is refused
 /// - as a reader refuses what is there (`object_at`);
 /// - with `WrongPointerKind` where a struct or a capability is there;
-/// - with `WrongElementSize` where the elements can't be read so.
+/// - with `WrongElementSize` where the elements aren't taken so.
 #[tactic(auto, unfolding(capnp_wire_objects::specs::Objects::object_at))]
-pub fn get_list<A: ReaderArena>(arena: &A, slot: Place, expected: ElementSize) -> Result<ListPlace>
-    ensures list { seen (λ o. o) result
-        ≡ (object_at (words_in (A.segments arena.now)) (place_view slot) and_then λ f. list_place_in
-        slot expected f.object) }
+pub fn get_list<A: ReaderArena>(
+    arena: &A,
+    slot: Place,
+    expected: ElementSize,
+    taker: Taker,
+) -> Result<ListPlace>
+    ensures list { seen (λ o. o) result ≡ list_named taker (words_in (A.segments arena.now)) slot
+        expected }
     ensures object { IfOk result (λ o.
         (word_at (words_in (A.segments arena.now)) (place_view slot) ≡ Some 0)
         ⊎ LeadsTo (words_in (A.segments arena.now)) (place_view slot) (object_of_list o)) }
@@ -117,7 +140,7 @@ pub fn get_list<A: ReaderArena>(arena: &A, slot: Place, expected: ElementSize) -
         },
         _ => return Err(Error::from(ErrorKind::WrongPointerKind)),
     };
-    if !is_accepted(expected, list.size, list.data_words, list.pointers) {
+    if !is_taken(taker, expected, list) {
         return Err(Error::from(ErrorKind::WrongElementSize));
     }
     Ok(list)

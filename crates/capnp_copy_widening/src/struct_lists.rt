@@ -13,7 +13,7 @@ ghost use Rattle.capnp_copy_widening.specs.MovedElements.{least_data_words, leas
 ghost use Rattle.capnp_copy_widening.specs.WidenedLists.{list_there, IsWideList, WidensToList, GetsStructList};
 
 use crate::elements::fill_elements;
-use crate::lists::get_list;
+use crate::lists::{Taker, get_list};
 use crate::room::allocate_wider;
 use capnp_copy_arenas::arena::BuilderArena;
 use capnp_copy_arenas::clear::clear;
@@ -149,7 +149,7 @@ pub fn get_struct_list<A: BuilderArena>(
         GetsStructList (at arena.old) (at arena.new) slot size result
         (IsSizeOrRefusal A.refuses) }
 {
-    let old = get_list(arena, slot, ElementSize::InlineComposite)?;
+    let old = get_list(arena, slot, ElementSize::InlineComposite, Taker::Reader)?;
     if word_at(arena, slot) == Some(0) || is_wide(old, size) {
         return Ok(old);
     }

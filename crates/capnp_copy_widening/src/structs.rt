@@ -5,7 +5,7 @@ ghost use Rattle.capnp_model.specs.Segments.{after, words_at};
 ghost use Rattle.capnp_units.specs.Segments.{words_in};
 ghost use Rattle.capnp_wire_objects.specs.Places.{place_view};
 ghost use Rattle.capnp_copy_arenas.specs.Refusals.{IsSizeOrRefusal};
-ghost use Rattle.capnp_copy_arenas.specs.States.{state_in};
+ghost use Rattle.capnp_copy_arenas.specs.States.{HasWords, state_in};
 ghost use Rattle.capnp_copy_arenas.specs.Structs.{object_of_struct};
 ghost use Rattle.capnp_copy_arenas.specs.Values.{LeadsTo};
 ghost use Rattle.capnp_copy_widening.specs.Widened.{WidensStruct, GetsStruct};
@@ -38,11 +38,9 @@ fn widen_struct<A: BuilderArena>(
 ) -> Result<StructPlace>
     requires found { LeadsTo (words_in (A.segments arena.old)) (place_view slot)
         (object_of_struct old) }
-    requires there { is_some (words_at (words_in (A.segments arena.old)) (place_view slot) 1)
-        ≡ true }
+    requires there { HasWords (A.segments arena.old) slot 1 }
     requires near { slot.position < 2 ^ 61 }
-    requires inside { is_some (words_at (words_in (A.segments arena.old)) (place_view old.start)
-        (old.data_words + old.pointers)) ≡ true }
+    requires inside { HasWords (A.segments arena.old) old.start (old.data_words + old.pointers) }
     requires close { old.start.position + (old.data_words + old.pointers) < 2 ^ 61 }
     requires wider { (old.data_words ≤ size.data_words) × (old.pointers ≤ size.pointers)
         × (0 < size.data_words + size.pointers) }

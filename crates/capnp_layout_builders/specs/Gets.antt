@@ -24,7 +24,8 @@ use Rattle.capnp_copy_arenas.specs.Values.{LeadsTo}
 use Rattle.capnp_copy_arenas.specs.declared.fields.StructPlace.{StructPlace}
 use Rattle.capnp_copy_arenas.specs.declared.init.ListPlace.{ListPlace}
 use Rattle.capnp_copy_widening.specs.Widened.{IsWide, WideStructRefused, StructTakes, StructLacks, IsStructOrNull}
-use Rattle.capnp_copy_widening.specs.Got.{list_place_in}
+use Rattle.capnp_copy_widening.specs.Got.{list_named}
+use Rattle.capnp_copy_widening.specs.declared.lists.Taker.TheVariants as taker
 use Rattle.capnp_copy_widening.specs.MovedElements.{as_structs}
 use Rattle.capnp_copy_widening.specs.WidenedLists.{StructsGot, HasWideList, WideListRefused, ListTakes, ListTakesAtMost, ListLacks, list_there}
 
@@ -98,22 +99,18 @@ pub record GetsStructOrDefault (default : Option (List (List ℕ))) (old new : A
   pub lacking : IfErr r (StructLacking default old new slot size told)
   pub books : new.books ≡ old.books
 
--- The list that the pointer at a place names, where elements of a size are expected, else the kind of the fault.
-abbrev pub list_named : Segments → code.Place → ElementSize → Result ListPlace Kind
-list_named s slot expected = object_at s (place_view slot) and_then λ f. list_place_in slot expected f.object
-
 -- A list is got: the default is written, and nothing else. The returned place is where the pointer
 -- leads, and the list lies whole; null's is the empty list at the pointer itself.
 pub record ListGot (default : Option (List (List ℕ))) (s u : Segments) (slot : code.Place) (expected : ElementSize) (o : ListPlace) : Type 0 where
   pub begins : Begins default s u (place_view slot) (Ok tt)
   pub value : Gets default s u (place_view slot) (λ v. v)
-  pub list : list_named u slot expected ≡ Ok o
+  pub list : list_named taker.Builder u slot expected ≡ Ok o
   pub object : (word_at u (place_view slot) ≡ Some 0) ⊎ LeadsTo u (place_view slot) (object_of_list o)
   pub inside : IsNullOrWhole u (place_view slot) o
 
 -- Why no list is given, and what stands then, as of structs.
 abbrev pub NoListGot : Option (List (List ℕ)) → Segments → Segments → code.Place → ElementSize → Error → Type 0
-NoListGot default s u slot expected e = Begins default s u (place_view slot) (Err e) ⊎ (Begins default s u (place_view slot) (Ok tt) × (list_named u slot expected ≡ Err (kind_of e.kind)))
+NoListGot default s u slot expected e = Begins default s u (place_view slot) (Err e) ⊎ (Begins default s u (place_view slot) (Ok tt) × (list_named taker.Builder u slot expected ≡ Err (kind_of e.kind)))
 
 -- A list is got or isn't given, and the arena borrows what it did. The default alone takes words, and of an error `told` says why it came, where it comes of nothing that is read.
 pub record GetsListOrDefault (default : Option (List (List ℕ))) (old new : ArenaState) (slot : code.Place) (expected : ElementSize) (r : Result ListPlace Error) (told : Error → Type 0) : Type 0 where

@@ -16,7 +16,7 @@ use capnp_copy_arenas::arena::BuilderArena;
 use capnp_copy_arenas::fields::StructPlace;
 use capnp_copy_arenas::init::ListPlace;
 use capnp_copy_values::defaults::write_default;
-use capnp_copy_widening::lists::get_list;
+use capnp_copy_widening::lists::{Taker, get_list};
 use capnp_copy_widening::struct_lists::get_struct_list;
 use capnp_copy_widening::structs::get_struct;
 use capnp_model_writes::laws::{changes_of_values, changes_with_more_levels};
@@ -81,7 +81,7 @@ fn list_here<A: BuilderArena>(
     changes_of_values();
     changes_with_more_levels();
     begin(arena, slot, default)?;
-    get_list(arena, slot, expected)
+    get_list(arena, slot, expected, Taker::Builder)
 }
 
 /// The list of structs at a place, with a default in place of null.
@@ -139,7 +139,7 @@ impl<'a, A: BuilderArena> PointerBuilder<'a, A> {
     }
 
     /// The list that the pointer names, near or far, with elements that can be read as ones of the
-    /// size, as readers take them. In place of null the default is written, where there is one and
+    /// size, as readers take them, or bits as voids, which readers refuse. In place of null the default is written, where there is one and
     /// its root isn't null, else the list is empty, of that size, at the pointer itself.
     ///
     /// It is refused

@@ -1,9 +1,11 @@
 -- What is returned where content is put into an element, and what is left. (Encoding, "Lists",
 -- "Blobs")
-use Rattle.std.specs.Prelude.{◌≡◌, ⊤, ℕ, map, length, Result, Ok, Err, OnOk, IfErr}
+use Rattle.std.specs.Prelude.{◌≡◌, ⊤, ℕ, [], map, length, Result, Ok, Err, OnOk, IfErr}
 use Rattle.capnp_model.specs.Sizes.{object_words}
-use Rattle.capnp_model.specs.Calls.{Content, refused_by, bits_of, object}
-use Rattle.capnp_model.specs.Edits.{Edit}
+use Rattle.capnp_model.specs.Calls.{Content, refused_by, bits_of, object, initn, element_content}
+use Rattle.capnp_model.specs.Edits.{Edit, put_child, edit_element}
+use Rattle.capnp_model.specs.Schemas.{Ty, Schema}
+use Rattle.capnp_model.specs.Trees.{Tree}
 use Rattle.capnp_units.specs.Segments.{words_in}
 use Rattle.capnp_units.specs.declared.errors.Error.{Error}
 use Rattle.capnp_copy_arenas.specs.Allocations.{TakesJust, TakesAtMost}
@@ -19,6 +21,10 @@ pub record PutsElementObject (old new : ArenaState) (o : ListPlace) (f : ℕ →
   pub taken : TakesJust (words_in old.segments) old.room (words_in new.segments) o.start.segment words
   pub bound : TakesAtMost (words_in old.segments) (words_in new.segments) words 1
 
+-- An element's pointer gets a value that is a new object.
+abbrev pub PutsElementTree : ArenaState → ArenaState → ListPlace → Tree → ℕ → Type 0
+PutsElementTree old new o t index = PutsElementObject old new o (λ words pointers. put_child 0 t) index (object_words t)
+
 -- No segment changes its length.
 pub record PutsElementBits (old new : ArenaState) (o : ListPlace) (f : ℕ → ℕ → Edit) (index : ℕ) : Type 0 where
   pub writes : EditsElement (words_in old.segments) (words_in new.segments) o f index
@@ -31,3 +37,7 @@ abbrev pub PutsElementContent : ArenaState → ArenaState → ListPlace → (ℕ
 PutsElementContent old new o f index (refused_by k) r = answered r ≡ Err k
 PutsElementContent old new o f index (bits_of n) r = (answered r ≡ Ok tt) × PutsElementBits old new o f index
 PutsElementContent old new o f index (object t) r = OnOk r (PutsElementObject old new o f index (object_words t)) × IfErr r (NewObjectRefused old o.start.segment t)
+
+-- What is returned where n zeros are put into an element of a type, and what it becomes.
+abbrev pub PutsElementZeros : ArenaState → ArenaState → ListPlace → Schema → Ty → ℕ → ℕ → Result ⊤ Error → Type 0
+PutsElementZeros old new o s ty index n = PutsElementContent old new o (edit_element s [] (initn n) ty) index (element_content s (initn n) ty)

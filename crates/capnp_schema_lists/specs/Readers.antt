@@ -1,5 +1,5 @@
 -- Lists that are built, as readers see them. (Encoding, "Lists")
-use Rattle.std.specs.Prelude.{◌≢◌, ℕ, ℤ, List}
+use Rattle.std.specs.Prelude.{◌≡◌, ◌≢◌, ℕ, ℤ, List}
 use Rattle.capnp_model.specs.Schemas.{Ty}
 use Rattle.capnp_units.specs.Sizes.{size_number}
 use Rattle.capnp_wire.specs.Views.{ListView, list_at}
@@ -8,9 +8,9 @@ use Rattle.capnp_copy_arenas.specs.declared.init.ListPlace.{ListPlace}
 use Rattle.capnp_values.specs.ListSizes.{size_of}
 use Rattle.capnp_schema_lists.specs.declared.dynamic_list.Builder.{Builder}
 
--- Elements are bits only where they are of type Bool.
+-- Elements that are structs aren't bits.
 abbrev pub IsBytewise : ListPlace → Ty → Type 0
-IsBytewise o ty = size_number (size_of ty) ≢ 1 → size_number o.size ≢ 1
+IsBytewise o ty = size_number (size_of ty) ≡ 7 → size_number o.size ≢ 1
 
 -- The list as readers see it, under the arena's nesting limit.
 abbrev pub list_of : {A : Type 0} → (A → List (List ℕ)) → (A → ℤ) → Builder A → ListView

@@ -2,8 +2,6 @@
 ghost use Rattle.std.specs.Prelude.{◌≡◌, ◌<◌, option_map, IfErr, OnOk, OnErr};
 ghost use Rattle.capnp_model.specs.Calls.{blob_tree};
 ghost use Rattle.capnp_model.specs.Coverage.{Grows};
-ghost use Rattle.capnp_model.specs.Edits.{put_child};
-ghost use Rattle.capnp_model.specs.Sizes.{object_words};
 ghost use Rattle.capnp_units.specs.Segments.{words_in};
 ghost use Rattle.capnp_values_queries.specs.Types.{ty_of};
 ghost use Rattle.capnp_schema_structs.specs.Blobs.{list_bytes_of};
@@ -12,7 +10,7 @@ ghost use Rattle.capnp_copy_arenas.specs.States.{state_in};
 ghost use Rattle.capnp_schema_structs.specs.Puts.{NewObjectRefused};
 ghost use Rattle.capnp_schema_lists.specs.Elements.{blob_given};
 ghost use Rattle.capnp_schema_lists.specs.Lists.{IsListThere, HasPointer};
-ghost use Rattle.capnp_schema_lists.specs.Puts.{PutsElementObject};
+ghost use Rattle.capnp_schema_lists.specs.Puts.{PutsElementTree};
 
 use crate::places::element_pointer;
 use capnp_copy_arenas::arena::BuilderArena;
@@ -44,10 +42,8 @@ pub(crate) fn put_blob<A: BuilderArena>(
     requires there { IsListThere (words_in (A.segments arena.old)) list }
     requires pointer { HasPointer list }
     requires index { index < list.count }
-    ensures puts { let t = blob_tree (list_bytes_of blob.entry) in
-        let at = state_in A.segments A.room A.books in OnOk result (PutsElementObject
-        (at arena.old) (at arena.new) list (λ words pointers. put_child 0 t) index
-        (object_words t)) }
+    ensures puts { let at = state_in A.segments A.room A.books in OnOk result (PutsElementTree
+        (at arena.old) (at arena.new) list (blob_tree (list_bytes_of blob.entry)) index) }
     ensures refused { let t = blob_tree (list_bytes_of blob.entry) in IfErr result
         (NewObjectRefused (state_in A.segments A.room A.books arena.old) list.start.segment t) }
     ensures cause { IfErr result (IsSizeOrRefusal A.refuses) }

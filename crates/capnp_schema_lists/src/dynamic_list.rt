@@ -188,7 +188,7 @@ impl<'a, A: BuilderArena> Builder<'a, A> {
     }
 
     /// The list to read, under its elements' type. Its pointers are followed under the arena's
-    /// nesting limit. Its elements aren't bits, unless they are of type Bool.
+    /// nesting limit. Where these are structs, its elements aren't bits.
     pub fn reborrow_as_reader(&self) -> Reader<'_, A>
         requires ready { IsReadyList A.segments self.now }
         requires bytewise { IsBytewise self.now.place (ty_of self.now.element_type) }

@@ -1,20 +1,19 @@
 //! Lists of zeros, nulls and empty structs, and texts and data of zero bytes, put into elements,
 //! over places.
-ghost use Rattle.std.specs.Prelude.{◌≡◌, ◌<◌, [], true, IfErr, OnErr};
-ghost use Rattle.capnp_model.specs.Accepted.{schema_of};
+ghost use Rattle.std.specs.Prelude.{◌≡◌, ◌<◌, true, IfErr, OnErr};
 ghost use Rattle.capnp_model.specs.Calls.{initn, element_content};
 ghost use Rattle.capnp_model.specs.Coverage.{Grows};
-ghost use Rattle.capnp_model.specs.Edits.{edit_element};
 ghost use Rattle.capnp_units.specs.Errors.{kind_of};
 ghost use Rattle.capnp_units.specs.Segments.{words_in};
 ghost use Rattle.capnp_records.specs.Sets.{nodes_of};
 ghost use Rattle.capnp_values_queries.specs.Types.{ty_of, is_type_of};
 ghost use Rattle.capnp_copy_arenas.specs.Refusals.{IsSizeOrRefusal};
 ghost use Rattle.capnp_copy_arenas.specs.States.{state_in};
+ghost use Rattle.capnp_values.specs.Shown.{schema_in};
 ghost use Rattle.capnp_schema_structs.specs.Puts.{HasCause};
 ghost use Rattle.capnp_schema_lists.specs.Elements.{Holds, no_new_element};
 ghost use Rattle.capnp_schema_lists.specs.Lists.{IsListThere};
-ghost use Rattle.capnp_schema_lists.specs.Puts.{PutsElementContent};
+ghost use Rattle.capnp_schema_lists.specs.Puts.{PutsElementZeros};
 
 use crate::places::element_pointer;
 use capnp_copy_arenas::arena::BuilderArena;
@@ -61,13 +60,10 @@ pub fn init_element<A: BuilderArena>(
     requires holds { Holds list (ty_of ty) }
     requires known { is_type_of (nodes_of set.now) ty ≡ true }
     requires index { index < list.count }
-    ensures puts { let at = state_in A.segments A.room A.books in
-        let s = schema_of (nodes_of set.now) in
-        PutsElementContent (at arena.old) (at arena.new) list
-        (edit_element s [] (initn size) (ty_of ty)) index
-        (element_content s (initn size) (ty_of ty)) result }
-    ensures cause { let s = schema_of (nodes_of set.now) in IfErr result (HasCause
-        (element_content s (initn size) (ty_of ty)) (IsSizeOrRefusal A.refuses)) }
+    ensures puts { let at = state_in A.segments A.room A.books in PutsElementZeros (at arena.old)
+        (at arena.new) list (schema_in set.now) (ty_of ty) index size result }
+    ensures cause { IfErr result (HasCause (element_content (schema_in set.now) (initn size)
+        (ty_of ty)) (IsSizeOrRefusal A.refuses)) }
     ensures refused { OnErr result (A.segments arena.new ≡ A.segments arena.old) }
     ensures grows { Grows (words_in (A.segments arena.old)) (words_in (A.segments arena.new)) }
     ensures books { A.books arena.new ≡ A.books arena.old }

@@ -1,8 +1,7 @@
 -- Lists that are got lie there, with elements of their type.
-use Rattle.std.proofs.Common.{◌≡◌, ◌⊎◌, inl, inr, ℕ, ◌+◌, ◌*◌, ◌^◌, ◌<◌, ◌==◌, max, if◌then◌else◌, Bool, true, false, List, [], ◌∷◌, Option, Some, None, Ok, refl, sym, ◌∙◌, ap, subst, arith}
+use Rattle.std.proofs.Common.{◌≡◌, ◌⊎◌, inl, inr, ℕ, ◌+◌, ◌-◌, ◌*◌, ◌^◌, ◌<◌, ◌==◌, max, if◌then◌else◌, Bool, true, false, List, [], ◌∷◌, Option, Some, None, Ok, refl, sym, ◌∙◌, ap, subst, arith}
 use Rattle.std.specs.Option.{is_some}
 use Rattle.capnp_model.specs.Kinds.{WrongElementSize}
-use Rattle.capnp_model.specs.Readings.{is_accepted_as}
 use Rattle.capnp_model.specs.Sections.{words_for}
 use Rattle.capnp_model.specs.Segments.{Segments, Place, after, word_at}
 use Rattle.capnp_model.specs.Pointers.{nothing}
@@ -19,17 +18,17 @@ use Rattle.capnp_units.specs.declared.sizes.ElementSize.TheVariants.{Void, Bit, 
 use Rattle.capnp_units.specs.Sizes.{size_number}
 use Rattle.capnp_wire.specs.Elements.{step_bits, step_words}
 use Rattle.capnp_wire_objects.specs.Places.{place_view}
-use Rattle.capnp_wire.specs.Reads.{list_head}
 use Rattle.capnp_model_writes.proofs.lemmas.Spans.{words_front, words_back}
 use Rattle.capnp_copy_arenas.specs.Elements.{IsWhole}
 use Rattle.capnp_copy_arenas.specs.Lists.{object_of_list}
 use Rattle.capnp_copy_arenas.specs.Values.{LeadsTo}
 use Rattle.capnp_copy_arenas.specs.declared.init.ListPlace.{ListPlace}
-use Rattle.capnp_copy_widening.specs.Got.{list_place_in}
+use Rattle.capnp_copy_widening.specs.Got.{is_taken_by, list_place_in, list_named}
+use Rattle.capnp_copy_widening.specs.declared.lists.Taker.TheVariants as taker
 use Rattle.capnp_copy_widening.specs.MovedElements.{least_data_words, least_pointers}
 use Rattle.capnp_copy_widening.proofs.lemmas.GotStructs.{same_object}
 use Rattle.capnp_copy_widening.proofs.lemmas.ObjectsThere.{named_at}
-use Rattle.capnp_layout_builders.specs.Gets.{list_named, ListGot, StructListGot}
+use Rattle.capnp_layout_builders.specs.Gets.{ListGot, StructListGot}
 use Rattle.capnp_values_queries.specs.Types.{ty_of_base}
 use Rattle.capnp_values_queries.specs.declared.introspect.Base.{Base}
 use Rattle.capnp_values.specs.ListSizes.{size_of}
@@ -41,38 +40,41 @@ use Rattle.capnp_schema_values.proofs.AcceptedLists.{holds, holds_no_structs, by
 -- ---- what the place of a list tells
 
 record Told (expected : ElementSize) (o : ListPlace) : Type 0 where
-  accepted : is_accepted_as (size_number expected) (list_head o.size o.data_words o.pointers) ≡ true
+  taken : is_taken_by taker.Builder expected o ≡ true
   counted : size_number o.size < 7 → o.claimed ≡ o.count
 
 -- the empty list of null
 abbrev empty : code.Place → ElementSize → ListPlace
 empty slot x = record { start = slot; size = x; claimed = 0; count = 0; data_words = 0; pointers = 0 }
 
-accepts_itself : (x : ElementSize) → is_accepted_as (size_number x) (list_head x 0 0) ≡ true
-accepts_itself Void = refl
-accepts_itself Bit = refl
-accepts_itself Byte = refl
-accepts_itself TwoBytes = refl
-accepts_itself FourBytes = refl
-accepts_itself EightBytes = refl
-accepts_itself Pointer = refl
-accepts_itself InlineComposite = refl
+takes_itself : (slot : code.Place) (x : ElementSize) → is_taken_by taker.Builder x (empty slot x) ≡ true
+takes_itself slot Void = refl
+takes_itself slot Bit = refl
+takes_itself slot Byte = refl
+takes_itself slot TwoBytes = refl
+takes_itself slot FourBytes = refl
+takes_itself slot EightBytes = refl
+takes_itself slot Pointer = refl
+takes_itself slot InlineComposite = refl
 
-told_in : (slot : code.Place) (expected : ElementSize) (f : Object) (o : ListPlace) → list_place_in slot expected f ≡ Ok o → Told expected o
-told_in slot expected object.Null o e = subst (Told expected) (ok_is _ _ e) (record { accepted = accepts_itself expected; counted = λ l. refl })
+told_in : (slot : code.Place) (expected : ElementSize) (f : Object) (o : ListPlace) → list_place_in taker.Builder slot expected f ≡ Ok o → Told expected o
+told_in slot expected object.Null o e = subst (Told expected) (ok_is _ _ e) (record { taken = takes_itself slot expected; counted = λ l. refl })
 told_in slot expected (object.List p size n) o e =
-    let g = guard_ok (is_accepted_as (size_number expected) (list_head size 0 0)) WrongElementSize _ o e in
-    subst (Told expected) (ok_is _ _ g.1) (record { accepted = g.0; counted = λ l. refl })
+    let there : ListPlace = record { start = p; size = size; claimed = n; count = n; data_words = 0; pointers = 0 } in
+    let g = guard_ok (is_taken_by taker.Builder expected there) WrongElementSize _ o e in
+    subst (Told expected) (ok_is _ _ g.1) (record { taken = g.0; counted = λ l. refl })
 told_in slot expected (object.PointerList p n) o e =
-    let g = guard_ok (is_accepted_as (size_number expected) (list_head Pointer 0 0)) WrongElementSize _ o e in
-    subst (Told expected) (ok_is _ _ g.1) (record { accepted = g.0; counted = λ l. refl })
+    let there : ListPlace = record { start = p; size = Pointer; claimed = n; count = n; data_words = 0; pointers = 0 } in
+    let g = guard_ok (is_taken_by taker.Builder expected there) WrongElementSize _ o e in
+    subst (Told expected) (ok_is _ _ g.1) (record { taken = g.0; counted = λ l. refl })
 told_in slot expected (object.StructList p words n d k) o e =
-    let g = guard_ok (is_accepted_as (size_number expected) (list_head InlineComposite d k)) WrongElementSize _ o e in
-    subst (Told expected) (ok_is _ _ g.1) (record { accepted = g.0; counted = λ l. absurd (omega (arith, l)) })
+    let there : ListPlace = record { start = record { segment = p.segment; position = p.position - 1 }; size = InlineComposite; claimed = words; count = n; data_words = d; pointers = k } in
+    let g = guard_ok (is_taken_by taker.Builder expected there) WrongElementSize _ o e in
+    subst (Told expected) (ok_is _ _ g.1) (record { taken = g.0; counted = λ l. absurd (omega (arith, l)) })
 told_in slot expected (object.Struct p d k) o e = absurd (cc e)
 told_in slot expected (object.Capability i) o e = absurd (cc e)
 
-told : (s : Segments) (slot : code.Place) (expected : ElementSize) (o : ListPlace) → list_named s slot expected ≡ Ok o → Told expected o
+told : (s : Segments) (slot : code.Place) (expected : ElementSize) (o : ListPlace) → list_named taker.Builder s slot expected ≡ Ok o → Told expected o
 told s slot expected o e = let x = bind_ok (object_at s (place_view slot)) _ o e in told_in slot expected x.0.object o x.2
 
 -- ---- null
@@ -84,10 +86,10 @@ null_object s p f e there =
     let same = same_object s p named.object_named nothing (f.pads, named.leads) leads in
     sym (ok_is _ _ (ap (whole s) (sym same) ∙ named.is_whole))
 
-null_place : (s : Segments) (slot : code.Place) (expected : ElementSize) (o : ListPlace) → word_at s (place_view slot) ≡ Some 0 → list_named s slot expected ≡ Ok o → empty slot expected ≡ o
+null_place : (s : Segments) (slot : code.Place) (expected : ElementSize) (o : ListPlace) → word_at s (place_view slot) ≡ Some 0 → list_named taker.Builder s slot expected ≡ Ok o → empty slot expected ≡ o
 null_place s slot expected o e named =
     let x = bind_ok (object_at s (place_view slot)) _ o named in
-    ok_is _ _ (ap (list_place_in slot expected) (sym (null_object s (place_view slot) x.0 e x.1)) ∙ x.2)
+    ok_is _ _ (ap (list_place_in taker.Builder slot expected) (sym (null_object s (place_view slot) x.0 e x.1)) ∙ x.2)
 
 -- no word, behind one that is there or at it
 none_there : (s : Segments) (p : Place) (w : ℕ) (b : Bool) → word_at s p ≡ Some w → p.position + 1 < 2 ^ 61 → AreThere s (after p (if b then 1 else 0)) 0
@@ -109,7 +111,7 @@ empty_whole s slot x d k w e near =
 
 -- ---- lists of no structs
 
-lies : (s : Segments) (slot : code.Place) (expected : ElementSize) (o : ListPlace) → slot.position + 1 < 2 ^ 61 → list_named s slot expected ≡ Ok o → ((word_at s (place_view slot) ≡ Some 0) × (o.count ≡ 0)) ⊎ IsWhole s o → IsWhole s o
+lies : (s : Segments) (slot : code.Place) (expected : ElementSize) (o : ListPlace) → slot.position + 1 < 2 ^ 61 → list_named taker.Builder s slot expected ≡ Ok o → ((word_at s (place_view slot) ≡ Some 0) × (o.count ≡ 0)) ⊎ IsWhole s o → IsWhole s o
 lies s slot expected o near named (inr h) = h
 lies s slot expected o near named (inl h) = subst (IsWhole s) (null_place s slot expected o h.0 named) (empty_whole s slot expected 0 0 0 h.0 near)
 
@@ -121,9 +123,9 @@ plain_placed around b count default s u slot o none near got =
     record {
       got = subst (λ n. ElementsGot around ty n default s u slot o) (sym none) got;
       there = record { whole = lies u slot (size_of ty) o near got.list got.inside; counted = x.counted };
-      holds = holds o b count none x.accepted;
+      holds = holds o b count none x.taken;
       sizes = holds_no_structs o around ty none;
-      bytewise = bytewise o ty x.accepted;
+      bytewise = bytewise o ty none;
     }
 
 -- ---- lists of structs

@@ -72,7 +72,7 @@ placed_of (value.Capability c) = placed.Capability c
 
 -- ---- what is there
 
--- The list is there, with elements of its type, which is of its set; its elements are bits only where they are of type Bool.
+-- The list is there, with elements of its type, which is of its set; those that are structs aren't bits.
 pub record IsListPlaced (s : Segments) (l : ListPart) : Type 0 where
   pub there : IsListThere s l.place
   pub holds : Holds l.place (ty_of l.element_type)

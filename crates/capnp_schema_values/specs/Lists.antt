@@ -30,7 +30,7 @@ abbrev pub ElementsGot : Schema → Ty → Option ℕ → Option (List (List ℕ
 ElementsGot around ty (Some id) default s u slot o = ShapedStructsGot (around.shape_of id) default s u slot o
 ElementsGot around ty None default s u slot o = ListGot default s u slot (size_of ty) o
 
--- It lies in the message, with elements of its type; these are bits only where they are of type Bool.
+-- It lies in the message, with elements of its type; those that are structs aren't bits.
 pub record PlaceGot (around : Schema) (ty : Ty) (default : Option (List (List ℕ))) (s u : Segments) (slot : code.Place) (o : ListPlace) : Type 0 where
   pub got : ElementsGot around ty (struct_named ty) default s u slot o
   pub there : IsListThere u o

@@ -122,7 +122,7 @@ fn place_of<A: BuilderArena>(
 
 /// The list that the pointer at a place names, of elements of a type of the set. A null pointer
 /// gets the default, where there is one, else the list is empty, at the pointer itself. A list of
-/// structs is widened to their schema's sizes.
+/// structs is widened to their schema's sizes. Bits are taken as voids too.
 ///
 /// It is refused as `PointerBuilder::get_list`, and where the elements are structs, as
 /// `get_struct_list`.

@@ -15,7 +15,9 @@ use Rattle.capnp_copy_arenas.specs.Elements.{IsNullOrWhole}
 use Rattle.capnp_copy_arenas.specs.Lists.{object_of_list}
 use Rattle.capnp_copy_arenas.specs.Values.{LeadsTo}
 use Rattle.capnp_copy_arenas.specs.declared.init.ListPlace.{ListPlace}
-use Rattle.capnp_layout_builders.specs.Gets.{list_named, Gets}
+use Rattle.capnp_copy_widening.specs.Got.{list_named}
+use Rattle.capnp_copy_widening.specs.declared.lists.Taker.TheVariants as taker
+use Rattle.capnp_layout_builders.specs.Gets.{Gets}
 use Rattle.capnp_calls_edits.specs.Elements.{ListBehind}
 use Rattle.std.proofs.lemmas.Result.{err_from_is_err_and}
 use Rattle.capnp_model.specs.Readings.{expected_size}
@@ -26,7 +28,7 @@ use Rattle.capnp_calls_edits.proofs.ClaimsLists.{owned_count, named_accepted, ne
 use Rattle.capnp_calls_edits.proofs.GotLists.{list_leads, list_found}
 use Rattle.capnp_calls_edits.proofs.lists.list_behind.Goals as goal
 
-got_by : (default : Option (List (List ℕ))) (s u : Segments) (slot : code.Place) (expected : ElementSize) (around : Schema) (ty : Ty) → Gets default s u (place_view slot) (as_list around ty) → (r : Result ListPlace Error) → seen (λ o. o) r ≡ list_named u slot expected → IfOk r (λ o. (word_at u (place_view slot) ≡ Some 0) ⊎ LeadsTo u (place_view slot) (object_of_list o)) → IfOk r (IsNullOrWhole u (place_view slot)) → ListsAreRead → size_number expected ≡ expected_size ty → IfOk r (ListBehind default s u slot around ty)
+got_by : (default : Option (List (List ℕ))) (s u : Segments) (slot : code.Place) (expected : ElementSize) (around : Schema) (ty : Ty) → Gets default s u (place_view slot) (as_list around ty) → (r : Result ListPlace Error) → seen (λ o. o) r ≡ list_named taker.Reader u slot expected → IfOk r (λ o. (word_at u (place_view slot) ≡ Some 0) ⊎ LeadsTo u (place_view slot) (object_of_list o)) → IfOk r (IsNullOrWhole u (place_view slot)) → ListsAreRead → size_number expected ≡ expected_size ty → IfOk r (ListBehind default s u slot around ty)
 got_by default s u slot expected around ty v (Err e) is o lies law same = tt
 got_by default s u slot expected around ty v (Ok x) is o lies law same = record {
   value = v;

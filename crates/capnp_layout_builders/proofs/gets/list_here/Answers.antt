@@ -10,13 +10,15 @@ use Rattle.capnp_copy_arenas.specs.Elements.{IsNullOrWhole}
 use Rattle.capnp_copy_arenas.specs.Lists.{object_of_list}
 use Rattle.capnp_copy_arenas.specs.Values.{LeadsTo}
 use Rattle.capnp_copy_arenas.specs.declared.init.ListPlace.{ListPlace}
-use Rattle.capnp_layout_builders.specs.Gets.{Begins, list_named, ListGot}
+use Rattle.capnp_copy_widening.specs.Got.{list_named}
+use Rattle.capnp_copy_widening.specs.declared.lists.Taker.TheVariants as taker
+use Rattle.capnp_layout_builders.specs.Gets.{Begins, ListGot}
 use Rattle.capnp_layout_builders.proofs.lemmas.Begun.{Laws, listed_then, refused_as, told_only, always_ok}
 use Rattle.capnp_copy_arenas.specs.Refusals.{IsSizeOrRefusal}
 use Rattle.capnp_copy_arenas.specs.States.{state_in}
 use Rattle.capnp_layout_builders.proofs.gets.list_here.Goals as goal
 
-got_by : (l : Laws) (default : Option (List (List ℕ))) (s u : Segments) (slot : code.Place) (expected : ElementSize) → Begins default s u (place_view slot) (Ok tt) → (r : Result ListPlace Error) → seen (λ o. o) r ≡ list_named u slot expected → IfOk r (λ o. (word_at u (place_view slot) ≡ Some 0) ⊎ LeadsTo u (place_view slot) (object_of_list o)) → IfOk r (IsNullOrWhole u (place_view slot)) → IfOk r (ListGot default s u slot expected)
+got_by : (l : Laws) (default : Option (List (List ℕ))) (s u : Segments) (slot : code.Place) (expected : ElementSize) → Begins default s u (place_view slot) (Ok tt) → (r : Result ListPlace Error) → seen (λ o. o) r ≡ list_named taker.Builder u slot expected → IfOk r (λ o. (word_at u (place_view slot) ≡ Some 0) ⊎ LeadsTo u (place_view slot) (object_of_list o)) → IfOk r (IsNullOrWhole u (place_view slot)) → IfOk r (ListGot default s u slot expected)
 got_by l default s u slot expected b (Err e) is o lies = tt
 got_by l default s u slot expected b (Ok x) is o lies = record { begins = b; value = listed_then l default s u (place_view slot) tt b; list = sym is; object = o; inside = lies }
 
@@ -33,7 +35,7 @@ returns g c =
     } in
     record {
       got = got_by laws (option_copied c.args.default) s u c.args.slot c.args.expected c.in_ok-begin.ensures.begins c.get_list.result c.get_list.ensures.list c.get_list.ensures.object c.get_list.ensures.inside;
-      refused = refused_as (option_copied c.args.default) s u (place_view c.args.slot) (list_named u c.args.slot c.args.expected) c.in_ok-begin.ensures.begins c.get_list.result c.get_list.ensures.list;
+      refused = refused_as (option_copied c.args.default) s u (place_view c.args.slot) (list_named taker.Builder u c.args.slot c.args.expected) c.in_ok-begin.ensures.begins c.get_list.result c.get_list.ensures.list;
       taken = always_ok c.get_list.result c.in_ok-begin.ensures.told;
       lacking = told_only (option_copied c.args.default) (state_in g.A.ReaderArena.segments g.A.BuilderArena.room g.A.BuilderArena.books c.args.arena.now) (state_in g.A.ReaderArena.segments g.A.BuilderArena.room g.A.BuilderArena.books c.begin.new.arena) (place_view c.args.slot) (IsSizeOrRefusal g.A.BuilderArena.refuses) c.get_list.result c.in_ok-begin.ensures.told;
       books = search rules;

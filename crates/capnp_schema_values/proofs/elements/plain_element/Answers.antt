@@ -1,6 +1,7 @@
 use Rattle.std.proofs.Common.{rules}
 use Rattle.capnp_model.specs.Schemas.{width}
 use Rattle.capnp_records.specs.Sets.{nodes_of}
+use Rattle.capnp_values_queries.specs.Types.{ty_of}
 use Rattle.capnp_wire.specs.Views.{list_at, element_number}
 use Rattle.capnp_copy_arenas.specs.Elements.{first_element}
 use Rattle.capnp_schema_values.proofs.AcceptedLists.{plain_bytewise}
@@ -9,7 +10,7 @@ use Rattle.capnp_schema_values.proofs.elements.plain_element.Goals as goal
 
 pub new-requires-clause-bytewise : goal.new-requires-clause-bytewise
 new-requires-clause-bytewise g c =
-    let bytewise = plain_bytewise c.args.list c.args.ty.base c.args.ty.list_count c.requires.plain c.requires.holds in
+    let bytewise = plain_bytewise c.args.list (ty_of c.args.ty) c.requires.plain in
     search rules
 
 pub returns-in-Ok : goal.returns-in-Ok
