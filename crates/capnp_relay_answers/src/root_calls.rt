@@ -84,6 +84,14 @@ impl<'a> RootCalls<'a> {
         })
     }
 
+    /// The calls, resolved under the schema.
+    pub fn resolved(&self) -> &[Resolved<'a>]
+        ensures resolved { AreResolved (root_schema self.now) result.now }
+        ensures calls { calls_of result.now ≡ root_calls self.now }
+    {
+        &self.calls
+    }
+
     /// Whether what each call puts is known.
     #[inline]
     pub(crate) fn are_known(&self) -> bool {

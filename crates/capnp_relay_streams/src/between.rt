@@ -1,25 +1,28 @@
 //! The relay between two versions of a schema.
-ghost use Rattle.std.specs.Prelude.{◌≡◌, ◌+◌, ◌*◌, length, replicate, IfErr, OnOk};
+ghost use Rattle.std.specs.Prelude.{◌≡◌, ◌+◌, ◌*◌, map, length, replicate, IfOk, IfErr, OnOk};
+ghost use Rattle.capnp_calls.specs.CallViews.{call_view};
 ghost use Rattle.capnp_calls.specs.Roots.{IsRoot};
 ghost use Rattle.capnp_relay_loop.specs.Streams.{streams_of};
 ghost use Rattle.capnp_relay_loop.specs.Run.{RunEndsAs};
 ghost use Rattle.capnp_relay_loop.specs.Pauses.{RelaysPausing, moment, pauses_of};
 ghost use Rattle.capnp_calls_versions.specs.Renamed.{renamings_of};
+ghost use Rattle.capnp_relay_answers.specs.RootCalls.{root_schema, root_calls};
 ghost use Rattle.capnp_relay_streams.specs.Newer.{MayRun};
 ghost use Rattle.capnp_relay_streams.specs.Relaying.{relay_work};
 ghost use Rattle.capnp_relay_streams.specs.Ends.{IsHeld, RelaysBetween, RelaysBetweenWith, PausesBetween, IfRun, IfHeld};
 
 use crate::options::RelayOptions;
-use crate::relay::relay_pausing;
+use crate::relay::relay_calls;
 use capnp_calls::Call;
 use capnp_calls::laws::{calls_are_given, roots_are_no_groups};
-use capnp_calls_versions::admitted::{Admission, admitted_with};
+use capnp_calls_versions::admitted::{Admission, admitted_resolved};
 use capnp_calls_versions::compatible::compatible_with;
 use capnp_calls_versions::renamings::Renamings;
 use capnp_calls_versions::root::Root;
 use capnp_model::laws::records_of_trimmed_values;
 use capnp_model::laws_of_edits::{records_after_calls, records_of_written_values};
 use capnp_model_versions::laws_of_renamings::calls_across_renamed_versions;
+use capnp_relay_answers::root_calls::RootCalls;
 use capnp_relay_loop::ends::{Counts, RelayFault};
 use capnp_relay_loop::pauses::{NoPause, Pause};
 use capnp_stream_io::traits::{BufRead, Read, Write};
@@ -43,34 +46,32 @@ pub enum BetweenFault {
     Relay(RelayFault),
 }
 
-/// Whether the calls may be relayed between the two versions.
-fn check(
+/// The calls, resolved, which may be relayed between the two versions.
+fn resolve_between<'a>(
     alloc: Global,
-    root: StructSchema<'_>,
+    root: StructSchema<'a>,
     newer: StructSchema<'_>,
     renamings: &Renamings,
-    calls: &[Call],
-) -> Result<(), BetweenFault>
-    ensures ok { OnOk result
+    calls: &'a [Call],
+) -> Result<RootCalls<'a>, BetweenFault>
+    requires root { IsRoot root }
+    ensures may { OnOk result
         (MayRun (renamings_of renamings.now) root.entry newer.entry calls.now) }
+    ensures schema { IfOk result (λ c. root_schema c ≡ root.entry) }
+    ensures calls { IfOk result (λ c. root_calls c ≡ map call_view calls.now) }
     ensures held { IfErr result
         (IsHeld (renamings_of renamings.now) root.entry newer.entry calls.now) }
 {
-    let older = Root {
-        set: root.set(),
-        id: root.raw().id,
-    };
-    let newer = Root {
-        set: newer.set(),
-        id: newer.raw().id,
-    };
-    match compatible_with(alloc, older, newer, renamings) {
+    match compatible_with(alloc, Root::of(root), Root::of(newer), renamings) {
         Ok(true) => {}
         Ok(false) => return Err(BetweenFault::NotCompatible),
         Err(_) => return Err(BetweenFault::Memory),
     }
-    match admitted_with(alloc, calls, older, newer, renamings) {
-        Ok(Admission::Admitted) => Ok(()),
+    let Ok(calls) = RootCalls::new(alloc, root, calls) else {
+        return Err(BetweenFault::Memory);
+    };
+    match admitted_resolved(alloc, calls.resolved(), root, newer, renamings) {
+        Ok(Admission::Admitted) => Ok(calls),
         Ok(Admission::Refused(n)) => Err(BetweenFault::NotAdmitted(n)),
         Err(_) => Err(BetweenFault::Memory),
     }
@@ -174,8 +175,9 @@ pub fn relay_between_pausing<R: BufRead, W: Write, L: Write, P: Pause<R, W, L>>(
     records_of_trimmed_values();
     calls_are_given();
     roots_are_no_groups();
-    check(alloc, root, newer, renamings, calls)?;
-    match relay_pausing::<R, W, L, P>(alloc, source, out, log, root, calls, options, region) {
+    let calls = resolve_between(alloc, root, newer, renamings, calls)?;
+    region.fill(0);
+    match relay_calls::<R, W, L, P>(alloc, source, out, log, calls, options, region) {
         Ok(counts) => Ok(counts),
         Err(e) => Err(BetweenFault::Relay(e)),
     }

@@ -7,7 +7,8 @@ ghost use Rattle.capnp_relay_loop.specs.Run.{RunEndsAs};
 ghost use Rattle.capnp_relay_loop.specs.Work.{work_by};
 ghost use Rattle.capnp_relay_streams.specs.Options.{reader_of, writer_of};
 ghost use Rattle.capnp_relay_loop.specs.Pauses.{RelaysPausing, moment, pauses_of, PausesBeforeReads};
-ghost use Rattle.capnp_relay_streams.specs.Relaying.{relay_work};
+ghost use Rattle.capnp_relay_answers.specs.RootCalls.{root_schema, root_calls};
+ghost use Rattle.capnp_relay_streams.specs.Relaying.{calls_work, relay_work};
 
 use crate::at_root::{CallsAtRoot, PlainCallsAtRoot};
 use crate::options::{Form, RelayOptions};
@@ -129,6 +130,40 @@ fn answer_in_forms<R: BufRead, W: Write, L: Write, A: Answers, P: Pause<R, W, L>
     }
 }
 
+/// As `relay_pausing`, with calls that are resolved and a region of zeros.
+pub(crate) fn relay_calls<R: BufRead, W: Write, L: Write, P: Pause<R, W, L>>(
+    alloc: Global,
+    source: &mut R,
+    out: &mut W,
+    log: &mut L,
+    calls: RootCalls<'_>,
+    options: RelayOptions,
+    region: &mut [u8],
+) -> Result<Counts, RelayFault>
+    requires zeros { region.old ≡ replicate (length region.old) 0 }
+    ensures run { let seen = streams_of ⟦<R as Read>⟧ ⟦<W as Write>⟧ ⟦<L as Write>⟧ in
+        RelaysPausing P.may_fail (calls_work (root_schema calls.entry) (root_calls calls.entry)
+        options W.may_grow L.may_grow) (seen source.old out.old log.old)
+        (seen source.new out.new log.new) result }
+    ensures pauses { PausesBeforeReads (pauses_of ⟦<R as Read>⟧ ⟦<W as Write>⟧ ⟦<L as Write>⟧
+        P.holds P.fails) (calls_work (root_schema calls.entry) (root_calls calls.entry) options
+        W.may_grow L.may_grow) (moment source.old out.old log.old)
+        (moment source.new out.new log.new) result }
+    ensures zeros { region.new ≡ region.old }
+{
+    let bounds = options.bounds;
+    if options.plain {
+        let answers = PlainCallsAtRoot { calls, bounds };
+        return answer_in_forms::<R, W, L, PlainCallsAtRoot<'_>, P>(
+            alloc, source, out, log, &answers, options, region,
+        );
+    }
+    let answers = CallsAtRoot { calls, bounds };
+    answer_in_forms::<R, W, L, CallsAtRoot<'_>, P>(
+        alloc, source, out, log, &answers, options, region,
+    )
+}
+
 /// As `relay`, with a pause before each message is read and a region of any length: a message that
 /// doesn't fit into it is edited in memory from `alloc`. What the pause promises holds when a
 /// message is read. A fault of a pause ends the run as `Out` or `Log`: the messages before it are
@@ -153,19 +188,8 @@ pub fn relay_pausing<R: BufRead, W: Write, L: Write, P: Pause<R, W, L>>(
     ensures zeros { region.new ≡ replicate (length region.old) 0 }
 {
     region.fill(0);
-    let calls = match RootCalls::new(alloc, root, calls) {
-        Ok(calls) => calls,
-        Err(_) => return Err(wants_memory()),
-    };
-    let bounds = options.bounds;
-    if options.plain {
-        let answers = PlainCallsAtRoot { calls, bounds };
-        return answer_in_forms::<R, W, L, PlainCallsAtRoot<'_>, P>(
-            alloc, source, out, log, &answers, options, region,
-        );
+    match RootCalls::new(alloc, root, calls) {
+        Ok(calls) => relay_calls::<R, W, L, P>(alloc, source, out, log, calls, options, region),
+        Err(_) => Err(wants_memory()),
     }
-    let answers = CallsAtRoot { calls, bounds };
-    answer_in_forms::<R, W, L, CallsAtRoot<'_>, P>(
-        alloc, source, out, log, &answers, options, region,
-    )
 }

@@ -11,8 +11,5 @@ returns-in-Err g c =
     let wanted = c.wants_memory.ensures in
     record { run = wants_first (relay_work c.args.root c.args.calls.now c.args.options g.W.Write.may_grow g.L.Write.may_grow) g.P.Pause.may_fail here c.wants_memory.result wanted.fault wanted.counts.0 wanted.counts.1; pauses = (0, moment c.args.source.now c.args.out.now c.args.log.now, refl, inl refl); zeros = c.fill.ensures.after (λ y e. e) }
 
-pub returns-then-options : goal.returns-then-options
-returns-then-options g c = record { run = rw c.if-options.true (rw (c.in-Ok.ensures.schema, c.in-Ok.ensures.calls) at c.answer_in_forms.ensures.run); pauses = rw c.if-options.true (rw (c.in-Ok.ensures.schema, c.in-Ok.ensures.calls) at c.answer_in_forms.ensures.pauses); zeros = c.answer_in_forms.ensures.zeros ∙ c.fill.ensures.after (λ y e. e) }
-
-pub returns : goal.returns
-returns g c = record { run = rw c.if-options.false (rw (c.in-Ok.ensures.schema, c.in-Ok.ensures.calls) at c.answer_in_forms-2.ensures.run); pauses = rw c.if-options.false (rw (c.in-Ok.ensures.schema, c.in-Ok.ensures.calls) at c.answer_in_forms-2.ensures.pauses); zeros = c.answer_in_forms-2.ensures.zeros ∙ c.fill.ensures.after (λ y e. e) }
+pub returns-in-Ok : goal.returns-in-Ok
+returns-in-Ok g c = record { run = rw (c.in-Ok.ensures.schema, c.in-Ok.ensures.calls) at c.relay_calls.ensures.run; pauses = rw (c.in-Ok.ensures.schema, c.in-Ok.ensures.calls) at c.relay_calls.ensures.pauses; zeros = c.relay_calls.ensures.zeros ∙ c.fill.ensures.after (λ y e. e) }
