@@ -2,13 +2,12 @@
 ghost use Rattle.std.specs.Prelude.{◌≡◌, map, Err, IfOk, IfErr};
 ghost use Rattle.capnp_copy_arenas.specs.Deep.{IsDeep};
 ghost use Rattle.capnp_copy_arenas.specs.Refusals.{IsSizeOrRefusal};
-ghost use Rattle.capnp_schema_structs.specs.Builders.{IsReady, words_around_struct};
+ghost use Rattle.capnp_schema_structs.specs.Builders.{IsReady};
 ghost use Rattle.capnp_calls.specs.CallViews.{call_view};
 ghost use Rattle.capnp_calls.specs.Replies.{reply_view};
 ghost use Rattle.capnp_calls.specs.Roots.{IsRoot};
 ghost use Rattle.capnp_calls_run.specs.declared.fault.RunFault.{RunFault};
-ghost use Rattle.capnp_calls_run.specs.Handles.{IsSameHandle};
-ghost use Rattle.capnp_calls_run.specs.Runs.{RunsAt, EndsLongAt, StopsAt};
+ghost use Rattle.capnp_calls_run.specs.Handles.{IsSameHandle, RunsBuilder, StopsBuilder, EndsLongBuilder};
 
 use crate::fault::RunFault;
 use crate::run::run_at;
@@ -30,14 +29,12 @@ pub fn run<A: BuilderArena>(
     requires arena { IsDeep A.segments A.nesting }
     requires ready { IsReady A.segments root.old }
     requires root { IsRoot root.old.schema }
-    ensures all { let words = words_around_struct A.segments in IfOk result (λ told.
-        RunsAt (words root.old) (words root.new) root.old.place root.old.schema
+    ensures all { IfOk result (λ told. RunsBuilder A.segments root.old root.new
         (map call_view calls.now) (map reply_view told.items)) }
-    ensures stops { let words = words_around_struct A.segments in IfErr result
-        (StopsAt (IsSizeOrRefusal A.refuses) (words root.old) (words root.new) root.old.place
-        root.old.schema (map call_view calls.now)) }
-    ensures size { result ≡ Err RunFault.Size → EndsLongAt (words_around_struct A.segments root.old)
-        root.old.place root.old.schema (map call_view calls.now) }
+    ensures stops { IfErr result (StopsBuilder A.segments (IsSizeOrRefusal A.refuses) root.old
+        root.new (map call_view calls.now)) }
+    ensures size { result ≡ Err RunFault.Size
+        → EndsLongBuilder A.segments root.old (map call_view calls.now) }
     ensures handle { IsSameHandle root.old root.new }
     ensures books { A.books root.new.memory.now.arena ≡ A.books root.old.memory.now.arena }
 {

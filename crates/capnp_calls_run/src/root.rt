@@ -9,7 +9,7 @@ ghost use Rattle.capnp_calls.specs.Replies.{reply_view};
 ghost use Rattle.capnp_calls.specs.Resolved.{calls_of, AreResolved};
 ghost use Rattle.capnp_calls.specs.Roots.{IsRoot};
 ghost use Rattle.capnp_calls_run.specs.declared.fault.RunFault.{RunFault};
-ghost use Rattle.capnp_calls_run.specs.Runs.{RunsRoot, EndsLongRoot, StopsRoot};
+ghost use Rattle.capnp_calls_run.specs.Arenas.{BytesRunRoot, BytesEndLongRoot, BytesStopRoot};
 
 use crate::fault::RunFault;
 use crate::run::run_at;
@@ -39,14 +39,12 @@ pub fn run_root<A: BuilderArena>(
     requires there { is_some (words_at (words_in (A.segments arena.old)) root 1) ≡ true }
     requires root { IsRoot schema }
     requires resolved { AreResolved schema calls.now }
-    ensures all { IfOk result (λ told. RunsRoot (words_in (A.segments arena.old))
-        (words_in (A.segments arena.new)) schema.entry (calls_of calls.now)
-        (map reply_view told.items)) }
-    ensures size { result ≡ Err RunFault.Size → EndsLongRoot (words_in (A.segments arena.old))
-        schema.entry (calls_of calls.now) }
-    ensures stops { IfErr result (StopsRoot (IsSizeOrRefusal A.refuses)
-        (words_in (A.segments arena.old)) (words_in (A.segments arena.new)) schema.entry
-        (calls_of calls.now)) }
+    ensures all { IfOk result (λ told. BytesRunRoot (A.segments arena.old) (A.segments arena.new)
+        schema.entry (calls_of calls.now) (map reply_view told.items)) }
+    ensures size { result ≡ Err RunFault.Size
+        → BytesEndLongRoot (A.segments arena.old) schema.entry (calls_of calls.now) }
+    ensures stops { IfErr result (BytesStopRoot (IsSizeOrRefusal A.refuses) (A.segments arena.old)
+        (A.segments arena.new) schema.entry (calls_of calls.now)) }
     ensures books { A.books arena.new ≡ A.books arena.old }
 {
     changes_of_values();

@@ -20,7 +20,8 @@ ghost use Rattle.capnp_calls.specs.Roots.{IsRoot};
 ghost use Rattle.capnp_model.specs.Printing.{as_it_is};
 ghost use Rattle.capnp_units.specs.declared.kinds.ErrorKind.{ErrorKind};
 ghost use Rattle.capnp_calls_run.specs.declared.fault.RunFault.{RunFault};
-ghost use Rattle.capnp_calls_run.specs.Runs.{TestsAt, AnswersAt, PutsLongAt, TellsWhy, FailsAt, RunsAt, EndsLongAt, StopsAt};
+ghost use Rattle.capnp_calls_run.specs.Runs.{TestsAt, TellsWhy};
+ghost use Rattle.capnp_calls_run.specs.Arenas.{BytesAnswerAt, BytesFailAt, BytesPutLongAt, BytesRunAt, BytesStopAt, BytesEndLongAt};
 
 use crate::fault::RunFault;
 use capnp_calls::laws::roots_are_no_groups;
@@ -102,14 +103,12 @@ fn answer<A: BuilderArena>(
     requires near { object.start.position + (object.data_words + object.pointers) < 2 ^ 61 }
     requires wide { HoldsShape object (shape_of_struct schema) }
     requires resolved { IsResolved schema call.now }
-    ensures answer { IfOk result (λ r. AnswersAt (words_in (A.segments arena.old))
-        (words_in (A.segments arena.new)) object schema.entry (call_of call.now)
-        (reply_view r)) }
-    ensures stops { IfErr result (FailsAt (IsSizeOrRefusal A.refuses)
-        (words_in (A.segments arena.old)) (words_in (A.segments arena.new)) object schema.entry
-        (call_of call.now)) }
+    ensures answer { IfOk result (λ r. BytesAnswerAt (A.segments arena.old) (A.segments arena.new)
+        object schema.entry (call_of call.now) (reply_view r)) }
+    ensures stops { IfErr result (BytesFailAt (IsSizeOrRefusal A.refuses) (A.segments arena.old)
+        (A.segments arena.new) object schema.entry (call_of call.now)) }
     ensures size { result ≡ Err RunFault.Size
-        → PutsLongAt (words_in (A.segments arena.old)) object schema.entry (call_of call.now) }
+        → BytesPutLongAt (A.segments arena.old) object schema.entry (call_of call.now) }
     ensures books { A.books arena.new ≡ A.books arena.old }
 {
     changes_of_objects();
@@ -154,14 +153,12 @@ pub fn run_at<A: BuilderArena>(
     requires wide { HoldsShape object (shape_of_struct schema) }
     requires root { IsRoot schema }
     requires resolved { AreResolved schema calls.now }
-    ensures all { IfOk result (λ told. RunsAt (words_in (A.segments arena.old))
-        (words_in (A.segments arena.new)) object schema.entry (calls_of calls.now)
-        (map reply_view told.items)) }
-    ensures stops { IfErr result (StopsAt (IsSizeOrRefusal A.refuses)
-        (words_in (A.segments arena.old)) (words_in (A.segments arena.new)) object schema.entry
-        (calls_of calls.now)) }
-    ensures size { result ≡ Err RunFault.Size → EndsLongAt (words_in (A.segments arena.old))
-        object schema.entry (calls_of calls.now) }
+    ensures all { IfOk result (λ told. BytesRunAt (A.segments arena.old) (A.segments arena.new)
+        object schema.entry (calls_of calls.now) (map reply_view told.items)) }
+    ensures stops { IfErr result (BytesStopAt (IsSizeOrRefusal A.refuses) (A.segments arena.old)
+        (A.segments arena.new) object schema.entry (calls_of calls.now)) }
+    ensures size { result ≡ Err RunFault.Size
+        → BytesEndLongAt (A.segments arena.old) object schema.entry (calls_of calls.now) }
     ensures books { A.books arena.new ≡ A.books arena.old }
 {
     records_after_calls();
