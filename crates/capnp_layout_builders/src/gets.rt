@@ -139,8 +139,9 @@ impl<'a, A: BuilderArena> PointerBuilder<'a, A> {
     }
 
     /// The list that the pointer names, near or far, with elements that can be read as ones of the
-    /// size, as readers take them, or bits as voids, which readers refuse. In place of null the default is written, where there is one and
-    /// its root isn't null, else the list is empty, of that size, at the pointer itself.
+    /// size, as readers take them, or bits as voids, which readers refuse. In place of null the
+    /// default is written, where there is one and its root isn't null. Else the list is empty, of
+    /// that size, at the pointer itself.
     ///
     /// It is refused
     /// - as `write_default` is;
