@@ -1,5 +1,5 @@
 -- A list, text or data that is put into an element, as the model puts it.
-use Rattle.std.proofs.Common.{◌≡◌, ℕ, [], Ok, Err, Result, OnOk, IfErr, refl, sym, ap, subst, ◌∙◌}
+use Rattle.std.proofs.Common.{◌≡◌, ℕ, [], Result, OnOk, IfErr, refl, sym, ap, subst, ◌∙◌}
 use Rattle.std.specs.Prelude.{⊤}
 use Rattle.capnp_model.specs.Kinds.{InitnIsOnlyValidForListTextOrDataFields}
 use Rattle.capnp_model.specs.Schemas.{Ty, void, plain, text, blob, untyped, interface, struct, list, Schema}

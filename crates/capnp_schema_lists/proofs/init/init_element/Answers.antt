@@ -1,15 +1,14 @@
 use Rattle.std.proofs.Common.{[], arith, ap, sym, subst, ◌∙◌, refl, Err}
 use Rattle.capnp_model.specs.Accepted.{schema_of}
-use Rattle.capnp_model.specs.Calls.{initn, refused_by, element_content}
+use Rattle.capnp_model.specs.Calls.{initn, element_content}
 use Rattle.capnp_model.specs.Edits.{put_child, edit_element}
-use Rattle.capnp_model.specs.Kinds.{InitnIsOnlyValidForListTextOrDataFields}
 use Rattle.capnp_model.specs.Sizes.{object_words}
 use Rattle.capnp_units.specs.Errors.{kind_of}
 use Rattle.capnp_units.specs.Segments.{words_in}
 use Rattle.capnp_records.specs.Sets.{nodes_of}
 use Rattle.capnp_values_queries.specs.Types.{ty_of}
 use Rattle.capnp_layout_builders.specs.Making.{Makes}
-use Rattle.capnp_schema_structs.specs.NewLists.{tree_of_new, content_of_list}
+use Rattle.capnp_schema_structs.specs.NewLists.{tree_of_new}
 use Rattle.capnp_copy_arenas.specs.States.{state_in}
 use Rattle.capnp_schema_structs.specs.Puts.{NewObjectRefused}
 use Rattle.capnp_schema_lists.specs.Elements.{no_new_element}
