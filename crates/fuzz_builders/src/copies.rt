@@ -8,7 +8,7 @@ use crate::parts::{list_node, struct_node, struct_read};
 use crate::random::Random;
 use crate::tree::{Slot, Tree};
 use crate::walks::{Source, Spot};
-use crate::widths::list_wanted;
+use crate::widths::list_read;
 use capnp_copy_arenas::arena::{BuilderArena, Memory};
 use capnp_units::kinds::ErrorKind;
 use capnp_units::limiter::ReadLimiter;
@@ -196,7 +196,7 @@ pub fn set_list<A: BuilderArena, B: ReaderArena>(
     ensures { A.books memory.new.arena ≡ A.books memory.old.arena }
 {
     let mut unlimited = ReadLimiter::new(None);
-    let wanted = list_wanted(from.shape_at(source.slot), expected);
+    let wanted = list_read(from.shape_at(source.slot), expected);
     let other = match source.pointer.get_list(&mut unlimited, expected, None) {
         Ok(other) => other,
         Err(error) => return Ok(judged(Some(error.kind), wanted)),

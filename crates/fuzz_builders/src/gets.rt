@@ -8,7 +8,7 @@ use crate::outcomes::{Done, judged, made_where, refusal_of};
 use crate::random::Random;
 use crate::tree::{Shape, Slot, Tree, zeros};
 use crate::walks::Spot;
-use crate::widths::{list_wanted, struct_wanted, structs_wanted};
+use crate::widths::{list_taken, struct_wanted, structs_wanted};
 use capnp_copy_arenas::arena::{BuilderArena, Memory};
 use capnp_copy_arenas::init::ListPlace;
 use capnp_units::sizes::{ElementSize, StructSize};
@@ -85,7 +85,7 @@ pub fn get_list<A: BuilderArena>(
 ) -> Done
     ensures { A.books memory.new.arena ≡ A.books memory.old.arena }
 {
-    let wanted = list_wanted(tree.shape_at(spot.slot), expected);
+    let wanted = list_taken(tree.shape_at(spot.slot), expected);
     let got = list_got(memory, spot.place, expected);
     let done = judged(refusal_of(&got), wanted);
     match got {

@@ -113,9 +113,9 @@ fn holds(bits: usize, pointers: u16, expected: ElementSize) -> bool {
     bits_of(expected) <= bits && wanted <= pointers
 }
 
-/// What a call has to answer that gets a list of elements that can be read as ones of a size.
+/// What a reader has to answer that gets a list of elements that can be read as ones of a size.
 /// Single bits are read only as such, and no structs as single bits.
-pub fn list_wanted(shape: Shape, expected: ElementSize) -> Wanted {
+pub fn list_read(shape: Shape, expected: ElementSize) -> Wanted {
     let single = expected == ElementSize::Bit;
     let is_fit = match shape {
         Shape::Null => true,
@@ -139,6 +139,22 @@ pub fn list_wanted(shape: Shape, expected: ElementSize) -> Wanted {
     } else {
         Wanted::Refused(ErrorKind::WrongElementSize)
     }
+}
+
+/// What a builder has to answer that gets a list of elements as ones of a size: what a reader does,
+/// but single bits are taken as voids too.
+pub fn list_taken(shape: Shape, expected: ElementSize) -> Wanted {
+    let are_bits = matches!(
+        shape,
+        Shape::Numbers {
+            size: ElementSize::Bit,
+            ..
+        }
+    );
+    if are_bits && expected == ElementSize::Void {
+        return Wanted::Made;
+    }
+    list_read(shape, expected)
 }
 
 /// The items of a row of elements that have n each, as those of elements that have more: what is
