@@ -26,7 +26,9 @@ use capnp_wire_objects::place::Place;
 /// Who takes a list's elements as ones of an expected size.
 #[derive(Clone, Copy)]
 pub enum Taker {
+    /// Bits are taken as bits alone.
     Reader,
+    /// Bits are taken as voids too: nothing of them is read.
     Builder,
 }
 

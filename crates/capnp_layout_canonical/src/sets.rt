@@ -26,8 +26,8 @@ fn levels_above(levels: Option<u32>) -> u32
     }
 }
 
-/// Puts the canonical copy of a scratch's value in place of the value. So many levels may be followed
-/// from the pointers of its object; with `None` not even its own.
+/// Puts the canonical copy of a scratch's value in place of the value. With `Some(n)`, at most n
+/// levels may be followed from the pointers of its object; with `None` not even its own pointer.
 fn copy_scratch<A: BuilderArena, C: BuilderArena>(
     builder: &mut PointerBuilder<'_, A>,
     scratch: &PointerBuilder<'_, C>,

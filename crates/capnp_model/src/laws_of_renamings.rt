@@ -16,5 +16,6 @@ pub fn nothing_renamed()
         → IsCompatibleWith [] o n older newer → IsCompatible o n older newer }
     ensures admitted { (o n : Schema) (older newer : ℕ) (c : Call)
         → is_admitted_with [] o n older newer c ≡ is_admitted o n older newer c }
-    ensures calls { (o : Schema) (id : ℕ) (calls : List Call) → renamed_calls [] o id calls ≡ calls }
+    ensures calls { (o : Schema) (id : ℕ) (calls : List Call)
+        → renamed_calls [] o id calls ≡ calls }
 {}

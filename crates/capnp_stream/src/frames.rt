@@ -48,8 +48,8 @@ fn take_piece<F: MessageForm, R: BufRead>(
     ensures len { IfOk result (λ v. length v.items ≡ 8 * words) }
     ensures ok { IfOk result (λ v. TakesPiece F.reader (R.remaining source.old)
         (R.remaining source.new) (whole_words v.items)) }
-    ensures cut { IfErr result
-        (λ e. IsPieceRefusal F.reader words (R.remaining source.old) (R.remaining source.new) e.kind) }
+    ensures cut { IfErr result (λ e. IsPieceRefusal F.reader words (R.remaining source.old)
+        (R.remaining source.new) e.kind) }
     ensures own { IfErr result (λ e. IsReadKind F.faults e.kind) }
     ensures count { Counts result (R.failures source.old) (R.failures source.new) }
 {

@@ -66,8 +66,10 @@ impl<'a, A: ReaderArena> Backing<'a, A> {
     /// The bytes of n words from a place on, lent out of those of its segment.
     #[inline(always)]
     pub(crate) fn lend_of(self, bytes: &'a [u8], start: Place, words: usize) -> &'a [u8]
-        requires bytes { bytes.now ≡ segment_bytes (backing_bytes A.segments self) start.segment }
-        requires there { AreThere (words_in (backing_bytes A.segments self)) (place_view start) words }
+        requires bytes { bytes.now
+            ≡ segment_bytes (backing_bytes A.segments self) start.segment }
+        requires there { AreThere (words_in (backing_bytes A.segments self))
+            (place_view start) words }
         ensures len { length result.now ≡ 8 * words }
         ensures section { number_of 8 result.now
             ≡ section_at (words_in (backing_bytes A.segments self.entry)) (place_view start) words }

@@ -1,4 +1,7 @@
 //! Where values end that stand as their canonical words.
+//!
+//! As in `copy`, `structs_end` takes its list part by part, since a record would go through memory
+//! for each list.
 ghost use Rattle.std.specs.Prelude.{◌≡◌, ℕ, ◌+◌, ◌*◌, ◌^◌, ◌≤◌, ◌<◌};
 ghost use Rattle.capnp_units.specs.Segments.{words_in};
 ghost use Rattle.capnp_wire_objects.specs.declared.object.Object.TheVariants as seen;

@@ -291,7 +291,8 @@ pub fn call_of_words(
     verb: WordVerb,
     words: &str,
 ) -> Result<CallParts, WordTrouble>
-    ensures { IfOk result (λ p. MakeCall nodes.now floats.now root verb words.now p.0.items p.1 p.2) }
+    ensures { IfOk result (λ p. MakeCall nodes.now floats.now root verb words.now
+        p.0.items p.1 p.2) }
 {
     match verb {
         WordVerb::Get => return Ok((path_of(alloc, words)?, Verb::Get, None)),

@@ -92,9 +92,9 @@ impl<'a, A: BuilderArena> FromPointerBuilder<'a, A> for PersonBuilder<'a, A> {
         requires there { HasWords (A.segments builder.memory.now.arena) builder.place 1 }
         requires near { builder.place.position < 2 ^ 61 }
         ensures same { IfOk result (λ o. o.memory.ghost_name ≡ builder.entry.memory.ghost_name) }
-        ensures got { let b = builder.entry in let at = memory_words A.segments in IfOk result
-            (λ o. IsPersonGot (option_copied default.entry) (at b.memory.now) (at o.memory.now)
-            b.place o.place) }
+        ensures got { let b = builder.entry in let at = memory_words A.segments in IfOk result (λ o.
+            IsPersonGot (option_copied default.entry) (at b.memory.now) (at o.memory.now) b.place
+            o.place) }
         ensures books { IfOk result (λ o.
             A.books o.memory.now.arena ≡ A.books builder.entry.memory.now.arena) }
         ensures* refused { let b = builder.entry in let at = memory_words A.segments in sem 𝓛
