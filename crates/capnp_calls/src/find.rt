@@ -30,8 +30,8 @@ fn first_found(way: &[FoundField]) -> Option<FoundField>
     way.first().copied()
 }
 
-/// The index of the field that a name finds in the struct or the group of a node, `Some(None)` where
-/// that has no such field. `None` where a way doesn't say it.
+/// The index of the field that a name finds in the struct or the group of a node, `Some(None)`
+/// where that has no such field. `None` where a way doesn't say it.
 #[inline]
 pub fn known_place(way: &[FoundField], node: u64) -> Option<Option<u16>>
     ensures { (s : Schema) (name : List ℕ) → FindsFirst s name way.now

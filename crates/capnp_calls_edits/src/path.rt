@@ -130,6 +130,7 @@ fn write_steps<A: BuilderArena>(
         return Err(Error::from(ErrorKind::WrongStep));
     };
     let field = get_field(schema, name, way)?;
+    // For the proof, which cites what the node record says of the field.
     let _said = field.get_proto();
     if rest.is_empty() {
         write_end(arena, object, field, action)
@@ -161,6 +162,7 @@ fn write_behind<A: BuilderArena>(
         (IsSizeOrRefusal A.refuses e)) }
     ensures books { A.books arena.new ≡ A.books arena.old }
 {
+    // For the proof, which cites the record of the field's parent and what it says of the field.
     let holder = field.parent().record();
     let _words = holder.data_word_count;
     let _said = field.get_proto();

@@ -14,8 +14,8 @@ use capnp_wire_objects::arena::ReaderArena;
 use std::alloc::Global;
 
 /// What a call replies at a struct: the text of a `get`, a refusal, or `Done` where it is to be
-/// written. Nothing is written, and the struct may have other sizes than its schema says. No name is
-/// compared where a field of the call was found under the struct that stands there.
+/// written. Nothing is written, and the struct may have other sizes than its schema says. No name
+/// is compared where a field of the call was found under the struct that stands there.
 ///
 /// It takes memory for the text of a `get` alone. It takes stack for each step of the path, and for
 /// each group within a group that is set. A text takes it for at most 1,024 structs, groups and

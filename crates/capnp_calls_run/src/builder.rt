@@ -19,8 +19,8 @@ use capnp_schema_structs::dynamic_struct;
 use std::alloc::Global;
 
 /// Answers calls in turn at the struct of a builder, as `run_at` does, whose refusals it has. The
-/// calls are resolved first, and memory for that which is refused is `Refused` too. The handle stays
-/// where it was.
+/// calls are resolved first, and memory for that which is refused is `Refused` too. The handle
+/// stays where it was.
 pub fn run<A: BuilderArena>(
     alloc: Global,
     root: &mut dynamic_struct::Builder<'_, A>,

@@ -133,8 +133,8 @@ fn answer<A: BuilderArena>(
 /// and a `get` change nothing, and don't stop the next.
 ///
 /// The struct has at least its schema's two sizes. The calls are resolved under the schema, so that
-/// no name is looked for here. `Size`: a call that is done puts a text or data of 2^29 bytes or more
-/// with its last zero, or a list of structs of 2^29 words or more.
+/// no name is looked for here. `Size`: a call that is done puts a text or data of 2^29 bytes or
+/// more with its last zero, or a list of structs of 2^29 words or more.
 /// `Refused` is
 /// - `OutOfBounds`: the struct isn't there;
 /// - `SizeOverflow`, of the arena: the words of the message would pass 2^29 - 1;

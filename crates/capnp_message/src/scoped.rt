@@ -18,6 +18,7 @@ pub fn with_message<R, F: FnOnce(&mut Builder<HeapAllocator>) -> R>(alloc: Globa
 {
     let mut message = Builder::new_default(alloc);
     let result = build(&mut message);
+    // A message isn't dropped: this gives its memory back.
     let _heap = message.into_allocator();
     result
 }

@@ -30,6 +30,7 @@ fn is_default_of_base(base: BaseType, default: &Option<Value>) -> bool
 fn is_value_of(base: BaseType, value: &Value) -> bool
     ensures { result ≡ is_default_of (base_type (base_of base)) (Some (value_of value.now)) }
 {
+    // Each number is read for the proof, which cites that it lies in its type's range.
     match value {
         Value::Void => matches!(base, BaseType::Void | BaseType::Float32 | BaseType::Float64),
         Value::Bool(_) => matches!(base, BaseType::Bool),

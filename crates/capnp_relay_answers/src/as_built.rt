@@ -240,6 +240,7 @@ fn answer_plain_over<L: Allocator, M: ReaderArena>(
         &calls.calls,
         words,
     );
+    // A message isn't dropped: this gives its memory back.
     let _allocator = builder.into_allocator();
     answered
 }

@@ -67,8 +67,8 @@ pub struct RootCalls<'a> {
 impl<'a> RootCalls<'a> {
     ghost use Rattle.capnp_relay_answers.specs.RootCalls.{root_schema, root_calls};
 
-    /// These calls, at roots of this schema, resolved here, once. `OutOfMemory`: memory for that was
-    /// refused.
+    /// These calls, at roots of this schema, resolved here, once. `OutOfMemory`: memory for that
+    /// was refused.
     pub fn new(alloc: Global, schema: StructSchema<'a>, calls: &'a [Call]) -> Result<RootCalls<'a>>
         requires { IsRoot schema }
         ensures schema { IfOk result (λ c. root_schema c ≡ schema.entry) }

@@ -27,7 +27,8 @@ use std::alloc::Global;
 /// is longer is edited in memory from `alloc`.
 const REGION_LEN: usize = 64 * 1024;
 
-/// The bytes of the files that words name: `None` for one that can't be read, or that no word names.
+/// The bytes of the files that words name: `None` for one that can't be read, or that no word
+/// names.
 #[derive(Clone, Copy)]
 pub(crate) struct Files<'a> {
     pub(crate) schema: Option<&'a [u8]>,

@@ -139,6 +139,7 @@ fn list_value<A: ReaderArena>(
     ensures refused { IfErr result (IsRequestRefusal (list_value fault
         (seen_struct A.segments value.now))) }
 {
+    // For the proof, whose clauses name the fault.
     let _fault = fault;
     if value.is_pointer_field_null(0) {
         return Ok(None);

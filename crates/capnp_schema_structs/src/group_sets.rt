@@ -107,6 +107,7 @@ fn copy_some<'a, A: BuilderArena, B: ReaderArena>(
 {
     nulls_are_read();
     pointers_are_read();
+    // For the proof, which cites what the node record says of the field.
     let _said = field.get_proto();
     test_type(ty)?;
     Reader::new(*source, field.parent()).get(field)?;
@@ -135,6 +136,7 @@ fn copy_field<'a, A: BuilderArena, B: ReaderArena>(
     ensures books { A.books arena.new ≡ A.books arena.old }
 {
     nulls_are_read();
+    // For the proof, which cites what the node record says of the field.
     let _said = field.get_proto();
     match field.place() {
         FieldPlace::Void { .. } => {

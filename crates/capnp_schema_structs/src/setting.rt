@@ -127,6 +127,7 @@ pub fn set_flat<A: BuilderArena, B>(
     ensures grows { Grows (words_in (A.segments arena.old)) (words_in (A.segments arena.new)) }
     ensures books { A.books arena.new ≡ A.books arena.old }
 {
+    // For the proof, which cites what the node record says of the field.
     let _said = field.get_proto();
     match field.place() {
         FieldPlace::Void { .. } => mark(arena, object, field),

@@ -238,6 +238,7 @@ pub fn set_value<'a, A: BuilderArena, B: ReaderArena>(
         (A.segments memory.new.arena ≡ A.segments memory.old.arena) }
     ensures books { A.books memory.new.arena ≡ A.books memory.old.arena }
 {
+    // For the proof, which cites what the node record says of the field.
     let _said = field.get_proto();
     match field.place() {
         FieldPlace::Pointer { index, ty, .. } => {

@@ -4,8 +4,8 @@
 //! Numbers lie in words of eight bytes, the lowest byte first. A reader stands over an arena of
 //! segments or over a default value, and what it follows is paid for from a `ReadLimiter`.
 //!
-//! Gets are `inline(always)`: their bodies take some ten instructions, and a call would take as many
-//! again to pass readers and answers through memory. What isn't near is followed out of line.
+//! Gets are `inline(always)`: their bodies take some ten instructions, and a call would take as
+//! many again to pass readers and answers through memory. What isn't near is followed out of line.
 #![tactic(auto)]
 
 pub mod backing;

@@ -1,8 +1,8 @@
 //! The canonical words of a value.
 //!
 //! The functions that write take the struct's place, its size, the levels, the words and how far
-//! they are used as parameters of their own, up to twelve. They call each other for each object, and
-//! a record of them would be stored and read at each call, where parameters stay in registers.
+//! they are used as parameters of their own, up to twelve. They call each other for each object.
+//! A record of them would be stored and read at each call, where parameters stay in registers.
 ghost use Rattle.std.specs.Prelude.{◌≡◌, ℕ, ◌+◌, ◌*◌, ◌^◌, ◌≤◌, ◌<◌};
 ghost use Rattle.capnp_model.specs.Segments.{after};
 ghost use Rattle.capnp_units.specs.Segments.{words_in};

@@ -142,6 +142,7 @@ pub fn give_up(rt: &HostRuntime, name: Option<&str>) {
         return;
     };
     if let Ok(part) = part_of(rt, name) {
+        // The run has failed already, and says so. A part that can't be removed changes nothing.
         let _removed = fs::remove_file(rt, part.as_str());
     }
 }

@@ -264,6 +264,7 @@ impl Log {
         ensures { self.new.failures ≡ self.old.failures }
     {
         if let Ok(line) = told {
+            // Counts are told for people, and what is relayed doesn't depend on them.
             let _written = self.inner.write_all(line.as_bytes());
             let _flushed = self.inner.flush();
         }

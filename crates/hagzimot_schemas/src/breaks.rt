@@ -21,7 +21,9 @@ use std::alloc::{AllocError, Global};
 use std::fmt;
 use std::fmt::{Display, Formatter, Write};
 
-/// What breaks a newer schema's compatibility with an older from the two roots on, where fields are renamed: the first break alone or, with `all`, that of each pair of structs. None exactly where they are compatible. `OutOfMemory` is the one error.
+/// What breaks a newer schema's compatibility with an older from the two roots on, where fields are
+/// renamed: the first break alone or, with `all`, that of each pair of structs. None exactly where
+/// they are compatible. `OutOfMemory` is the one error.
 pub fn breaks_between(
     alloc: Global,
     older: Root<'_>,
@@ -68,7 +70,8 @@ pub fn field_name(node: &NodeRecord, index: usize) -> Option<&str>
     }
 }
 
-/// A name in one version, and in the other of this age where it is another there. Each stands between two marks.
+/// A name in one version, and in the other of this age where it is another there. Each stands
+/// between two marks.
 #[derive(Clone, Copy)]
 struct Names<'a> {
     older: &'a str,
@@ -92,7 +95,8 @@ impl Display for Names<'_> {
     }
 }
 
-/// A break between two nodes, the second in the version of this age. A node that is missing is `None`.
+/// A break between two nodes, the second in the version of this age. A node that is missing is
+/// `None`.
 #[derive(Clone, Copy)]
 struct Broken<'a> {
     older: Option<&'a NodeRecord>,
@@ -244,7 +248,9 @@ impl Display for Broken<'_> {
     }
 }
 
-/// What is said of a break of the newer version's compatibility with the older, as `shop.capnp:Order: field "total" lies elsewhere in the newer schema`. A name that is another in the newer version is told in both. An error where a growth was refused.
+/// What is said of a break of the newer version's compatibility with the older, as
+/// `shop.capnp:Order: field "total" lies elsewhere in the newer schema`. A name that is another in
+/// the newer version is told in both. An error where a growth was refused.
 pub fn sentence(
     alloc: Global,
     older: Version<'_>,

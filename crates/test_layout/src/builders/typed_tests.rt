@@ -98,8 +98,8 @@ impl<'a, A: BuilderArena> FromPointerBuilder<'a, A> for PersonBuilder<'a, A> {
         ensures books { IfOk result (λ o.
             A.books o.memory.now.arena ≡ A.books builder.entry.memory.now.arena) }
         ensures* refused { let b = builder.entry in let at = memory_words A.segments in sem 𝓛
-            (RestsIfErr (the_row A.row) b.memory (λ o. o.memory.ghost_name) result (λ n.
-            IfErr result (IsPersonNotGot (option_copied default.entry) (at b.memory.now) (at n) b.place)
+            (RestsIfErr (the_row A.row) b.memory (λ o. o.memory.ghost_name) result (λ n. IfErr
+            result (IsPersonNotGot (option_copied default.entry) (at b.memory.now) (at n) b.place)
             × (A.books n.arena ≡ A.books b.memory.now.arena))) }
     {
         let PointerBuilder { memory, place } = builder;
