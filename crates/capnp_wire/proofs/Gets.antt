@@ -117,7 +117,3 @@ module _ {X W : Type 0} (view : X → W) (more : Object → Result W Kind) (p : 
   -- Where none was reached it is refused alike.
   pub refused_of : (d e : Error) (r : Result X Error) → r ≡ Err e → e ≡ d → GetGives (λ (z : Object). z) (λ z. Ok z) p old (Err d) new → GetGives view more p old r new
   refused_of d e r a b g = refused_on {Y = Object} view (λ z. Ok z) more p old new d e r a b g
-
--- A get of what is read in place of a pointer.
-pub read_instead : {X W : Type 0} (view : X → W) (read : PointerView → Object → Result W Kind) (p q : PointerView) (old new : ReadLimiter) (r : Result X Error) → p ≡ q → GetGives view (read p) p old r new → GetGives view (read q) q old r new
-read_instead view read p q old new r e g = subst (λ (x : PointerView). GetGives view (read x) x old r new) e g

@@ -62,6 +62,7 @@ impl<'a, A: ReaderArena> PointerReader<'a, A> {
     }
 
     /// The list behind the pointer; null is the empty list of the expected size.
+    #[inline(never)]
     fn list_here(
         &self,
         limiter: &mut ReadLimiter,
@@ -109,6 +110,7 @@ impl<'a, A: ReaderArena> PointerReader<'a, A> {
     /// It is refused as a struct is, and with `WrongElementSize` where its elements are too narrow.
     /// Single bits are read as single bits alone, and never from structs. Any other element has to
     /// have the bits and the pointers of the expected one, which for `InlineComposite` are none.
+    #[inline(always)]
     pub fn get_list(
         &self,
         limiter: &mut ReadLimiter,
@@ -124,7 +126,10 @@ impl<'a, A: ReaderArena> PointerReader<'a, A> {
         ensures bytewise { size_number expected ≢ 1
             → IfOk result (λ l. size_number (seen_list A.segments l).size ≢ 1) }
     {
-        self.with_default(default).list_here(limiter, expected)
+        match default {
+            None => self.list_here(limiter, expected),
+            Some(_) => self.with_default(default).list_here(limiter, expected),
+        }
     }
 }
 

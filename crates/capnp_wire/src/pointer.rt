@@ -156,6 +156,10 @@ impl<'a, A: ReaderArena> PointerReader<'a, A> {
     }
 
     /// The struct behind the pointer; null is the empty struct.
+    ///
+    /// It stands out of line, as the other gets of what lies behind a pointer. So a get without a
+    /// default hands on where its pointer lies, and copies none.
+    #[inline(never)]
     fn struct_here(&self, limiter: &mut ReadLimiter) -> Result<StructReader<'a, A>>
         ensures { GetGives (seen_struct A.segments)
             (read_struct (ground_of A.segments self.now.backing) self.now.levels)
@@ -184,6 +188,7 @@ impl<'a, A: ReaderArena> PointerReader<'a, A> {
     }
 
     /// The bytes of the byte list behind the pointer, and none of null.
+    #[inline(always)]
     fn bytes_here(&self, limiter: &mut ReadLimiter) -> Result<Option<&'a [u8]>>
         ensures { GetGives option_copied
             (read_bytes (ground_of A.segments self.now.backing) self.now.levels)
@@ -212,6 +217,7 @@ impl<'a, A: ReaderArena> PointerReader<'a, A> {
     }
 
     /// The data behind the pointer; null is none.
+    #[inline(never)]
     fn data_here(&self, limiter: &mut ReadLimiter) -> Result<&'a [u8]>
         ensures { GetGives (λ r. r.now)
             (read_blob (ground_of A.segments self.now.backing) self.now.levels)
@@ -224,6 +230,7 @@ impl<'a, A: ReaderArena> PointerReader<'a, A> {
     }
 
     /// The text behind the pointer without its zero byte; null is the empty text.
+    #[inline(never)]
     fn text_here(&self, limiter: &mut ReadLimiter) -> Result<&'a [u8]>
         ensures { GetGives (λ r. r.now)
             (read_text (ground_of A.segments self.now.backing) self.now.levels)
@@ -252,6 +259,7 @@ impl<'a, A: ReaderArena> PointerReader<'a, A> {
     ///
     /// The words are granted where they don't pass what is left, also where the get is refused
     /// then.
+    #[inline(always)]
     pub fn get_struct(
         &self,
         limiter: &mut ReadLimiter,
@@ -262,7 +270,10 @@ impl<'a, A: ReaderArena> PointerReader<'a, A> {
             GetGives (seen_struct A.segments) (read_struct p.basis p.levels) p limiter.old result
             limiter.new }
     {
-        self.with_default(default).struct_here(limiter)
+        match default {
+            None => self.struct_here(limiter),
+            Some(_) => self.with_default(default).struct_here(limiter),
+        }
     }
 
     /// The data behind the pointer, lent in place. A null pointer reads as the default's root, and
@@ -270,6 +281,7 @@ impl<'a, A: ReaderArena> PointerReader<'a, A> {
     ///
     /// It is refused as a struct is; with `WrongElementSize` where a list of other elements than
     /// bytes is there.
+    #[inline(always)]
     pub fn get_data(
         &self,
         limiter: &mut ReadLimiter,
@@ -279,7 +291,10 @@ impl<'a, A: ReaderArena> PointerReader<'a, A> {
             (option_copied default.entry) in
             GetGives (λ r. r.now) (read_blob p.basis p.levels) p limiter.old result limiter.new }
     {
-        self.with_default(default).data_here(limiter)
+        match default {
+            None => self.data_here(limiter),
+            Some(_) => self.with_default(default).data_here(limiter),
+        }
     }
 
     /// The text behind the pointer, lent in place without the zero byte at its end; it may be no
@@ -287,6 +302,7 @@ impl<'a, A: ReaderArena> PointerReader<'a, A> {
     ///
     /// It is refused as data are, and with `TextWithoutZeroByte` where the last byte isn't zero or
     /// there is none.
+    #[inline(always)]
     pub fn get_text(
         &self,
         limiter: &mut ReadLimiter,
@@ -296,7 +312,10 @@ impl<'a, A: ReaderArena> PointerReader<'a, A> {
             (option_copied default.entry) in
             GetGives (λ r. r.now) (read_text p.basis p.levels) p limiter.old result limiter.new }
     {
-        self.with_default(default).text_here(limiter)
+        match default {
+            None => self.text_here(limiter),
+            Some(_) => self.with_default(default).text_here(limiter),
+        }
     }
 
     /// The sort of object that the pointer names, where it begins inside its segment; its words
