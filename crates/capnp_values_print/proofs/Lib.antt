@@ -12,6 +12,7 @@ mod Opening
 mod PrintedExamples
 mod Results
 mod SingleTexts
+mod SlotTypes
 mod TextLemmas
 mod TwoBlanks
 mod WholeReadings

@@ -100,10 +100,7 @@ module _ (s : Schema) (ty : Ty) (l : ListView) (left : ℕ) (style : Style) wher
 
 -- ---- members
 
-module _ (nulls : NullsAreRead) (s : StructSchema) (v : StructView) (f : Field) (said : FieldNode) (parent : f.parent ≡ s) (is : IsFieldRecord f.parent f.index said) (good : KeepsDefault said.kind) (e : Entry) (at : entry_of_field f ≡ Some e) where
-  around : Schema
-  around = schema_around f.parent
-
+module _ (s : StructSchema) (v : StructView) (f : Field) (said : FieldNode) (parent : f.parent ≡ s) (is : IsFieldRecord f.parent f.index said) (e : Entry) (at : entry_of_field f ≡ Some e) where
   entry_same : e ≡ entry_in (schema_around f.parent) said
   entry_same = first (entry_of_field f) e _ at is.entry
     where
@@ -119,16 +116,17 @@ module _ (nulls : NullsAreRead) (s : StructSchema) (v : StructView) (f : Field) 
   read_same h = ap (λ a. only_if a (Read (levels_left v.levels) (schema_around s) v e.body)) h
 
   -- its text
-  member_is : (left : ℕ) (style : Style) → is_active e.member (discriminant_shown s v) ≡ true
+  pub member_is : (left : ℕ) (style : Style) → is_active e.member (discriminant_shown s v) ≡ true
       → member_text left style s v e ≡ printed (schema_around f.parent) as_it_is (null_printed (schema_around f.parent) as_it_is left) style (as_body (field_body (schema_around f.parent).shape_of said.kind)) (Read (levels_left v.levels) (schema_around f.parent) v (field_body (schema_around f.parent).shape_of said.kind))
   member_is left style h =
       ap (printed (schema_around s) as_it_is (null_printed (schema_around s) as_it_is left) style (as_body e.body)) (read_same h)
       ∙ ap (λ b. printed (schema_around s) as_it_is (null_printed (schema_around s) as_it_is left) style (as_body b) (Read (levels_left v.levels) (schema_around s) v b)) body_same
       ∙ ap (λ (z : StructSchema). printed (schema_around z) as_it_is (null_printed (schema_around z) as_it_is left) style (as_body (field_body (schema_around f.parent).shape_of said.kind)) (Read (levels_left v.levels) (schema_around z) v (field_body (schema_around f.parent).shape_of said.kind))) (sym parent)
 
+module _ (nulls : NullsAreRead) (s : StructSchema) (v : StructView) (f : Field) (said : FieldNode) (parent : f.parent ≡ s) (is : IsFieldRecord f.parent f.index said) (good : KeepsDefault said.kind) (e : Entry) (at : entry_of_field f ≡ Some e) where
   -- one that isn't entered
   pub member_here : (left : ℕ) (style : Style) → is_active e.member (discriminant_shown s v) ≡ true → enters_there v (schema_around f.parent) said.kind ≡ false → text_or_fault left style (kind_shown (schema_around f.parent) v said.kind) ≡ member_text left style s v e
-  member_here left style h not = by (is_null_slot v (Some (field_body (schema_around f.parent).shape_of said.kind))) refl (enters said.kind) refl not ∙ sym (member_is left style h)
+  member_here left style h not = by (is_null_slot v (Some (field_body (schema_around f.parent).shape_of said.kind))) refl (enters said.kind) refl not ∙ sym (member_is s v f said parent is e at left style h)
     where
       by : (n : Bool) → is_null_slot v (Some (field_body (schema_around f.parent).shape_of said.kind)) ≡ n → (m : Bool) → enters said.kind ≡ m → (is_null_slot v (Some (field_body (schema_around f.parent).shape_of said.kind)) && enters said.kind) ≡ false
           → text_or_fault left style (kind_shown (schema_around f.parent) v said.kind) ≡ printed (schema_around f.parent) as_it_is (null_printed (schema_around f.parent) as_it_is left) style (as_body (field_body (schema_around f.parent).shape_of said.kind)) (Read (levels_left v.levels) (schema_around f.parent) v (field_body (schema_around f.parent).shape_of said.kind))
@@ -143,10 +141,10 @@ module _ (nulls : NullsAreRead) (s : StructSchema) (v : StructView) (f : Field) 
 
   -- one that is
   pub member_entered : (left : ℕ) (style : Style) → is_active e.member (discriminant_shown s v) ≡ true → enters_there v (schema_around f.parent) said.kind ≡ true → text_or_fault left style (kind_shown (schema_around f.parent) v said.kind) ≡ member_text (suc left) style s v e
-  member_entered left style h told = field_entered nulls (schema_around f.parent) v left style said.kind (both_true _ _ told) good ∙ sym (member_is (suc left) style h)
+  member_entered left style h told = field_entered nulls (schema_around f.parent) v left style said.kind (both_true _ _ told) good ∙ sym (member_is s v f said parent is e at (suc left) style h)
 
   pub member_refused : (style : Style) → is_active e.member (discriminant_shown s v) ≡ true → enters_there v (schema_around f.parent) said.kind ≡ true → member_text 0 style s v e ≡ Err NestingLimitExceeded
-  member_refused style h told = member_is 0 style h ∙ field_refused nulls (schema_around f.parent) v style said.kind (both_true _ _ told) good
+  member_refused style h told = member_is s v f said parent is e at 0 style h ∙ field_refused nulls (schema_around f.parent) v style said.kind (both_true _ _ told) good
 
 -- ---- steps of loops
 

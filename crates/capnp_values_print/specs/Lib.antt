@@ -7,3 +7,4 @@ pub mod Defaults
 pub mod Members
 pub mod Parts
 pub mod Models
+pub mod Slots

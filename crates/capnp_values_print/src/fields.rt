@@ -25,18 +25,19 @@ pub(crate) struct Opened<'a, A> {
 // Inlined, what it takes of the stack would be taken by each struct that is printed in another.
 #[inline(never)]
 pub(crate) fn open_member<'a, A: ReaderArena>(
-    reader: dynamic_struct::Reader<'a, A>,
-    field: Field<'a>,
+    reader: &dynamic_struct::Reader<'a, A>,
+    field: &Field<'a>,
     left: u32,
 ) -> Result<Opened<'a, A>>
-    requires parent { field.parent ≡ reader.schema }
-    requires active { IsActive reader.schema (struct_seen A.segments reader.source) field }
-    ensures { let r = reader.entry in
-        OpensMember A.segments left r.schema (struct_seen A.segments r.source) field.entry result }
+    requires parent { field.now.parent ≡ reader.now.schema }
+    requires active { IsActive reader.now.schema (struct_seen A.segments reader.now.source)
+        field.now }
+    ensures { let r = reader.now in
+        OpensMember A.segments left r.schema (struct_seen A.segments r.source) field.now result }
 {
     nulls_are_read();
-    let enters = enters_default(reader, field)?;
-    let got = reader.get(field);
+    let enters = enters_default(*reader, *field)?;
+    let got = reader.get(*field);
     if !enters {
         let value = got?;
         return Ok(Opened { value, left });
@@ -55,11 +56,11 @@ pub(crate) fn open_member<'a, A: ReaderArena>(
 // Inlined, what it takes of the stack would be taken by each list that is printed in another.
 #[inline(never)]
 pub(crate) fn open_element<'a, A: ReaderArena>(
-    list: dynamic_list::Reader<'a, A>,
+    list: &dynamic_list::Reader<'a, A>,
     index: u32,
 ) -> Result<dynamic_value::Reader<'a, A>>
-    requires { index < (list_seen A.segments list.source).count }
-    ensures { seen (shown A.segments) result ≡ shown_at A.segments list.entry index }
+    requires { index < (list_seen A.segments list.now.source).count }
+    ensures { seen (shown A.segments) result ≡ shown_at A.segments list.now index }
 {
     list.get(index)
 }

@@ -7,5 +7,6 @@ pub mod laws;
 mod members;
 mod names;
 mod single;
+mod slots;
 pub mod stringify;
 mod values;

@@ -11,6 +11,7 @@ ghost use Rattle.capnp_values_print.specs.Members.{AreActive, field_shown};
 ghost use Rattle.capnp_values_print.specs.Parts.{IsActive, enters_there};
 
 use crate::defaults::has_default;
+use crate::slots::is_null_field;
 use capnp_records::node::NO_DISCRIMINANT;
 use capnp_units::errors::Result;
 use capnp_values::dynamic_struct;
@@ -18,10 +19,12 @@ use capnp_values_queries::fields::Field;
 use capnp_wire_objects::arena::ReaderArena;
 
 /// The value of the discriminant at which the active union member is, if there is one.
+// Inlined, what it takes of the stack would be taken by each struct that is printed in another.
+#[inline(never)]
 pub(crate) fn active_member<A: ReaderArena>(
-    reader: dynamic_struct::Reader<'_, A>,
+    reader: &dynamic_struct::Reader<'_, A>,
 ) -> Result<Option<u16>>
-    ensures { let r = reader.entry in
+    ensures { let r = reader.now in
         IsOkAnd result (λ active.
         AreActive r.schema (discriminant_shown r.schema (struct_seen A.segments r.source)) active) }
 {
@@ -47,7 +50,7 @@ pub(crate) fn is_active<A: ReaderArena>(
     if member == NO_DISCRIMINANT {
         return Ok(true);
     }
-    match active_member(reader)? {
+    match active_member(&reader)? {
         None => Ok(false),
         Some(value) => Ok(value == member),
     }
@@ -55,25 +58,28 @@ pub(crate) fn is_active<A: ReaderArena>(
 
 /// Whether a field is printed: a union member where it is active, the first only where it is no
 /// null pointer; another field where it is no null pointer.
+// Inlined, what it takes of the stack would be taken by each struct that is printed in another.
+#[inline(never)]
 pub(crate) fn is_printed<A: ReaderArena>(
-    reader: dynamic_struct::Reader<'_, A>,
-    field: Field<'_>,
+    reader: &dynamic_struct::Reader<'_, A>,
+    field: &Field<'_>,
     active: Option<u16>,
 ) -> Result<bool>
-    requires parent { field.parent ≡ reader.schema }
-    requires active { AreActive reader.schema
-        (discriminant_shown reader.schema (struct_seen A.segments reader.source)) active }
-    ensures { let r = reader.entry in let v = struct_seen A.segments r.source in
+    requires parent { field.now.parent ≡ reader.now.schema }
+    requires active { let r = reader.now in
+        AreActive r.schema (discriminant_shown r.schema (struct_seen A.segments r.source)) active }
+    ensures { let r = reader.now in let v = struct_seen A.segments r.source in
         IsOkAnd result (λ b.
-        (e : Entry) → entry_of_field field.entry ≡ Some e
+        (e : Entry) → entry_of_field field.now ≡ Some e
         → b ≡ field_shown (schema_around r.schema) v (discriminant_shown r.schema v) e) }
 {
-    let member = field.get_proto().discriminant_value;
+    let said = field.get_proto();
+    let member = said.discriminant_value;
     if member == NO_DISCRIMINANT {
-        return reader.has(field);
+        return Ok(!is_null_field(reader, &said.body));
     }
     if member == 0 {
-        return reader.has(field);
+        return reader.has(*field);
     }
     match active {
         None => Ok(false),

@@ -95,7 +95,7 @@ pub fn print_field<A: ReaderArena>(
         return Err(Error::from(ErrorKind::InactiveMember));
     }
     let indent = form(alternate);
-    let opened = open_member(reader, field, DEFAULTS)?;
+    let opened = open_member(&reader, &field, DEFAULTS)?;
     let mut text = Vec::new(*out.allocator());
     push_value(opened.value, indent, opened.left, &mut text)?;
     out.append(&mut text)?;

@@ -17,6 +17,7 @@ use crate::fields::{open_element, open_member};
 use crate::members::{active_member, is_printed};
 use crate::names::{inner, push_end, push_mark, push_name, push_single};
 use crate::single::Indent;
+use crate::slots::push_slot;
 use capnp_units::errors::Result;
 use capnp_values::dynamic_value::Reader;
 use capnp_values::laws::nulls_are_read;
@@ -83,12 +84,12 @@ fn push_fields<A: ReaderArena>(
         Appends (fields_text left (style_of indent) r.schema (struct_seen A.segments r.source))
         out.old.items result out.new.items }
 {
-    let active = active_member(reader)?;
+    let active = active_member(&reader)?;
     let deeper = inner(indent)?;
     let mut first = true;
     for i in 0..fields.len() {
         let field = fields.get(i);
-        if !is_printed(reader, field, active)? {
+        if !is_printed(&reader, &field, active)? {
             continue;
         }
         push_name(out, indent, first, field.get_proto().name.as_bytes())?;
@@ -116,7 +117,10 @@ fn push_member<A: ReaderArena>(
         e) out.old.items result out.new.items }
 {
     nulls_are_read();
-    let opened = open_member(reader, field, left)?;
+    if push_slot(out, &reader, &field.get_proto().body)? {
+        return Ok(());
+    }
+    let opened = open_member(&reader, &field, left)?;
     push_value(opened.value, indent, opened.left, out)
 }
 
@@ -157,7 +161,7 @@ fn push_elements<A: ReaderArena>(
 {
     let deeper = inner(indent)?;
     for i in 0..list.len() {
-        let value = open_element(list, i)?;
+        let value = open_element(&list, i)?;
         push_mark(out, indent, i == 0)?;
         push_value(value, deeper, left, out)?;
     }

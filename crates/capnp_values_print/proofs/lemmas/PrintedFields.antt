@@ -3,6 +3,7 @@ use Rattle.std.proofs.Common.{◌≡◌, ℕ, zero, suc, ◌==◌, ◌&&◌, ◌
 use Rattle.std.proofs.lemmas.Bool.Decides.{nat_tests}
 use Rattle.capnp_model.specs.Schemas.{Field as FieldNode, Schema}
 use Rattle.capnp_model.specs.Readings.{is_active, only_if}
+use Rattle.capnp_model.specs.Accepted.{field_body}
 use Rattle.capnp_model.specs.Printing.{is_shown}
 use Rattle.capnp_values_queries.specs.Fields.{Entry, entry_in, field_at}
 use Rattle.capnp_values_queries.specs.Structs.{schema_around, fields_of_struct}
@@ -63,6 +64,15 @@ module _ (s : StructSchema) (v : StructView) (f : Field) (said : FieldNode) (par
       ∙ ap (λ (z : StructSchema). is_active_field (discriminant_shown z v) (option_map (λ (x : Entry). x.member) (entry_of_field f)) && not (is_null_slot v (option_map (λ (x : Entry). x.body) (entry_of_field f)))) parent
       ∙ ap (λ (o : Option Entry). is_active_field (discriminant_shown s v) (option_map (λ (x : Entry). x.member) o) && not (is_null_slot v (option_map (λ (x : Entry). x.body) o))) h
       ∙ has_shown (schema_around s) v (discriminant_shown s v) e told
+
+  -- a field that is no member, by its pointer
+  pub by_null : (b : Bool) → ((z : Schema) → b ≡ is_null_slot v (Some (field_body z.shape_of said.kind))) → said.member ≡ None → (e : Entry) → entry_of_field f ≡ Some e → not b ≡ field_shown (schema_around s) v (discriminant_shown s v) e
+  by_null b told none e h =
+      let body : e.body ≡ field_body (schema_around f.parent).shape_of said.kind = ap (λ (x : Entry). x.body) (entry_is e h) in
+      let member : e.member ≡ None = member_is e h ∙ none in
+      ap not (told (schema_around f.parent) ∙ ap (λ z. is_null_slot v (Some z)) (sym body))
+      ∙ ap (λ m. is_active_field (discriminant_shown s v) (Some m) && not (is_null_slot v (Some e.body))) (sym member)
+      ∙ has_shown (schema_around s) v (discriminant_shown s v) e (inl member)
 
   -- another member by the active one
   pub by_value : (active : Option ℕ) → AreActive s (discriminant_shown s v) active → (k : ℕ) → said.member ≡ Some (suc k) → (e : Entry) → entry_of_field f ≡ Some e → is_active (Some (suc k)) active ≡ field_shown (schema_around s) v (discriminant_shown s v) e

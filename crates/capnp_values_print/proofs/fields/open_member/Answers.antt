@@ -15,9 +15,9 @@ returns-in_err-enters g c = absurd c.in_err-enters.ensures
 
 pub returns-in_err-value : goal.returns-in_err-value
 returns-in_err-value g c =
-    let s = c.args.reader.schema in
-    let v = struct_seen g.A.ReaderArena.segments c.args.reader.source in
-    let f = c.args.field in
+    let s = c.args.reader.now.schema in
+    let v = struct_seen g.A.ReaderArena.segments c.args.reader.now.source in
+    let f = c.args.field.now in
     let left = c.args.left in
     let got = c.get-got.ensures in
     let not : enters_there v (schema_around f.parent) got.said.kind ≡ false = sym (c.in_ok-enters.ensures got.said got.is) ∙ c.if-not-enters.true in
@@ -28,8 +28,8 @@ returns-in_err-value g c =
 
 pub returns-then-not-enters : goal.returns-then-not-enters
 returns-then-not-enters g c =
-    let v = struct_seen g.A.ReaderArena.segments c.args.reader.source in
-    let f = c.args.field in
+    let v = struct_seen g.A.ReaderArena.segments c.args.reader.now.source in
+    let f = c.args.field.now in
     let got = c.get-got.ensures in
     let not : enters_there v (schema_around f.parent) got.said.kind ≡ false = sym (c.in_ok-enters.ensures got.said got.is) ∙ c.if-not-enters.true in
     let shows : kind_shown (schema_around f.parent) v got.said.kind ≡ Ok (shown g.A.ReaderArena.segments c.in_ok-value.value) = sym got.shows ∙ ap (seen (shown g.A.ReaderArena.segments)) c.in_ok-value.was in
@@ -37,18 +37,18 @@ returns-then-not-enters g c =
 
 pub returns-then-left-eq0 : goal.returns-then-left-eq0
 returns-then-left-eq0 g c =
-    let s = c.args.reader.schema in
-    let v = struct_seen g.A.ReaderArena.segments c.args.reader.source in
-    let f = c.args.field in
+    let s = c.args.reader.now.schema in
+    let v = struct_seen g.A.ReaderArena.segments c.args.reader.now.source in
+    let f = c.args.field.now in
     let got = c.get-got.ensures in
     let told : enters_there v (schema_around f.parent) got.said.kind ≡ true = sym (c.in_ok-enters.ensures got.said got.is) ∙ c.if-not-enters.false in
     λ e h style. ap (λ n. member_text n style s v e) c.if-left-eq0.true ∙ member_refused c.nulls_are_read.ensures s v f got.said c.requires.parent got.is got.default e h style (c.requires.active e h) told ∙ ap (λ k. Err (kind_of k)) (sym c.from.ensures)
 
 pub returns-in_err-default : goal.returns-in_err-default
 returns-in_err-default g c =
-    let s = c.args.reader.schema in
-    let v = struct_seen g.A.ReaderArena.segments c.args.reader.source in
-    let f = c.args.field in
+    let s = c.args.reader.now.schema in
+    let v = struct_seen g.A.ReaderArena.segments c.args.reader.now.source in
+    let f = c.args.field.now in
     let left = c.args.left in
     let got = c.get-got.ensures in
     let told : enters_there v (schema_around f.parent) got.said.kind ≡ true = sym (c.in_ok-enters.ensures got.said got.is) ∙ c.if-not-enters.false in
@@ -60,8 +60,8 @@ returns-in_err-default g c =
 
 pub returns : goal.returns
 returns g c =
-    let v = struct_seen g.A.ReaderArena.segments c.args.reader.source in
-    let f = c.args.field in
+    let v = struct_seen g.A.ReaderArena.segments c.args.reader.now.source in
+    let f = c.args.field.now in
     let left = c.args.left in
     let got = c.get-got.ensures in
     let told : enters_there v (schema_around f.parent) got.said.kind ≡ true = sym (c.in_ok-enters.ensures got.said got.is) ∙ c.if-not-enters.false in

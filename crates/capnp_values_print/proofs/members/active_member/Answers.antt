@@ -11,15 +11,15 @@ use Rattle.capnp_values_print.proofs.members.active_member.Goals as goal
 
 pub returns-in-None : goal.returns-in-None
 returns-in-None g c =
-    let s = c.args.reader.schema in
-    let d = discriminant_shown s (struct_seen g.A.ReaderArena.segments c.args.reader.source) in
+    let s = c.args.reader.now.schema in
+    let d = discriminant_shown s (struct_seen g.A.ReaderArena.segments c.args.reader.now.source) in
     let found = rw c.in-None.is at c.in_ok-which.ensures in
     none_active (fields_of_struct s) d (sym found.index)
 
 pub returns-in-Some : goal.returns-in-Some
 returns-in-Some g c =
-    let s = c.args.reader.schema in
-    let d = discriminant_shown s (struct_seen g.A.ReaderArena.segments c.args.reader.source) in
+    let s = c.args.reader.now.schema in
+    let d = discriminant_shown s (struct_seen g.A.ReaderArena.segments c.args.reader.now.source) in
     let f = c.in-Some.field in
     let said = field_of c.get_proto.result.now in
     let found = rw c.in-Some.is at c.in_ok-which.ensures in

@@ -1,8 +1,8 @@
-use Rattle.std.proofs.Common.{rules, ◌≡◌, ℕ, suc, ◌+◌, ◌-◌, ◌<◌, ◌≤◌, ◌==◌, inr, true, false, Some, List, ◌++◌, refl, ap, sym, ◌∙◌, subst, arith}
+use Rattle.std.proofs.Common.{rules, ◌≡◌, ℕ, suc, ◌+◌, ◌-◌, ◌<◌, ◌≤◌, ◌==◌, inr, Bool, true, false, Some, Ok, List, ◌++◌, refl, ap, sym, ◌∙◌, subst, arith}
 use Rattle.std.specs.Prelude.{codes}
 use Rattle.capnp_model.specs.Accepted.{schema_of}
 use Rattle.capnp_model.specs.Printing.{Style, inner, closing}
-use Rattle.capnp_records.specs.NodeViews.{field_of}
+use Rattle.capnp_records.specs.NodeViews.{field_of, kind_of_field}
 use Rattle.capnp_records.specs.Sets.{nodes_of}
 use Rattle.capnp_values_queries.specs.Types.{ty_of}
 use Rattle.capnp_values_queries.specs.Fields.{field_count}
@@ -16,12 +16,14 @@ use Rattle.capnp_values_print.specs.Members.{field_shown}
 use Rattle.capnp_values_print.specs.Parts.{fields_text, member_text, elements_text, IsPrinted}
 use Rattle.capnp_values_print.specs.Printed.{Text, item_mark, shown_text}
 use Rattle.capnp_values_print.specs.Singles.{single_text}
+use Rattle.capnp_values_print.specs.Slots.{AppendsSlot}
 use Rattle.capnp_values_print.specs.Texts.{style_of}
 use Rattle.capnp_values_print.proofs.lemmas.ElementTexts.{text_or_fault}
 use Rattle.capnp_values_print.proofs.Loops.{memory, refused, refused_more, between_signs, ends, goes_same, goes_on, goes_wrong}
 use Rattle.capnp_values_print.proofs.Opening.{opened_text}
 use Rattle.capnp_values_print.proofs.lemmas.PrintedFields.{active_shown}
 use Rattle.capnp_values_print.proofs.SingleTexts.{single_value}
+use Rattle.capnp_values_print.proofs.SlotTypes.{single_member, slot_refused}
 use Rattle.capnp_values_print.proofs.Wholes.{entry_exists, entry_at, name_is, elements_begin, shown_same, struct_empty, struct_some, list_empty, list_some, told_empty, told_some, FieldsLeft, fields_begin, field_left_out, field_left_in, fields_end, ElementsLeft, element_left, no_elements_left}
 use Rattle.capnp_values_print.proofs.values.+text.Goals as goal
 
@@ -196,6 +198,23 @@ push_fields-loop-i-preserved g t c =
 
 -- ---- members
 
+pub push_member-returns-in_err-push_slot : goal.push_member-returns-in_err-push_slot
+push_member-returns-in_err-push_slot g t c =
+    let s = c.args.reader.schema in
+    let v = struct_seen g.A.ReaderArena.segments c.args.reader.source in
+    let style = style_of c.args.indent in
+    let err = c.in_err-push_slot.field-0.0 in
+    λ e h. refused (member_text c.args.left style s v e) c.args.out.now.items c.push_slot.new.out.items c.from_residual.result err c.from_residual.ensures.1
+    (slot_refused s v c.args.field (field_of c.get_proto.result.now) c.requires.parent c.get_proto.ensures e h (active_shown (schema_around s) _ _ e (c.requires.printed e h)) c.args.left style err c.in_err-push_slot.ensures)
+
+pub push_member-returns-then-branch : goal.push_member-returns-then-branch
+push_member-returns-then-branch g t c =
+    let s = c.args.reader.schema in
+    let v = struct_seen g.A.ReaderArena.segments c.args.reader.source in
+    let k = kind_of_field c.get_proto.result.now.body in
+    let a = subst (λ (b : Bool). AppendsSlot v k c.args.out.now.items (Ok b) c.push_slot.new.out.items) c.if-branch.true c.in_ok-push_slot.ensures in
+    λ e h. single_member s v c.args.field (field_of c.get_proto.result.now) c.requires.parent c.get_proto.ensures e h (active_shown (schema_around s) _ _ e (c.requires.printed e h)) c.args.left (style_of c.args.indent) c.args.out.now.items c.push_slot.new.out.items a
+
 pub push_member-open_member-requires-clause-parent : goal.push_member-open_member-requires-clause-parent
 push_member-open_member-requires-clause-parent g t c = c.requires.parent
 
@@ -208,7 +227,7 @@ pub push_member-returns-in_err-opened : goal.push_member-returns-in_err-opened
 push_member-returns-in_err-opened g t c =
     let s = c.args.reader.schema in
     let v = struct_seen g.A.ReaderArena.segments c.args.reader.source in
-    λ e h. refused (member_text c.args.left (style_of c.args.indent) s v e) c.args.out.now.items c.args.out.now.items c.from_residual.result c.in_err-opened.field-0.0 c.from_residual.ensures.1 (inr (c.in_err-opened.ensures e h (style_of c.args.indent)))
+    λ e h. refused (member_text c.args.left (style_of c.args.indent) s v e) c.args.out.now.items c.push_slot.new.out.items c.from_residual-in_err-opened.result c.in_err-opened.field-0.0 c.from_residual-in_err-opened.ensures.1 (inr (c.in_err-opened.ensures e h (style_of c.args.indent)))
 
 pub push_member-returns : goal.push_member-returns
 push_member-returns g t c =
@@ -216,8 +235,11 @@ push_member-returns g t c =
     let v = struct_seen g.A.ReaderArena.segments c.args.reader.source in
     let o = c.in_ok-opened.opened in
     let style = style_of c.args.indent in
+    let k = kind_of_field c.get_proto.result.now.body in
+    let same : c.push_slot.new.out.items ≡ c.args.out.now.items = subst (λ (b : Bool). AppendsSlot v k c.args.out.now.items (Ok b) c.push_slot.new.out.items) c.if-branch.false c.in_ok-push_slot.ensures in
+    let pushed = subst (λ (old : List ℕ). Appends (shown_text o.left style (shown g.A.ReaderArena.segments o.value)) old c.push_value.result c.push_value.new.out.items) same c.push_value.ensures in
     λ e h. subst (λ (z : Text). Appends z c.args.out.now.items c.push_value.result c.push_value.new.out.items)
-    (opened_text c.nulls_are_read.ensures s v c.args.field c.requires.parent c.args.left (shown g.A.ReaderArena.segments o.value) o.left c.in_ok-opened.ensures (λ e h. active_shown (schema_around s) _ _ e (c.requires.printed e h)) e h style) c.push_value.ensures
+    (opened_text c.nulls_are_read.ensures s v c.args.field c.requires.parent c.args.left (shown g.A.ReaderArena.segments o.value) o.left c.in_ok-opened.ensures (λ e h. active_shown (schema_around s) _ _ e (c.requires.printed e h)) e h style) pushed
 
 -- ---- lists
 
