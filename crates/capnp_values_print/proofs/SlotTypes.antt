@@ -1,5 +1,5 @@
 -- Types of slots, and what slots of them show.
-use Rattle.std.proofs.Common.{◌≡◌, ℕ, zero, suc, ◌*◌, ◌<◌, ◌++◌, ◌⊎◌, Bool, true, false, Option, Some, None, List, Result, Ok, Err, refl, ap, sym, ◌∙◌, subst, inl, inr, arith}
+use Rattle.std.proofs.Common.{◌≡◌, ℕ, zero, suc, ◌*◌, ◌<◌, ◌++◌, ◌⊎◌, true, false, Option, Some, None, List, Ok, Err, refl, ap, sym, ◌∙◌, subst, inl, inr, arith}
 use Rattle.capnp_model.specs.Chains.{◌and_then◌}
 use Rattle.capnp_model.specs.Schemas.{bool, int, uint, «enum», Ty, void, plain, text, blob, untyped, interface, struct, list, lists_of, base_type, Value, BaseType, FieldKind, slot, group, Field as FieldNode, Schema}
 use Rattle.capnp_model.specs.Readings.{is_active}

@@ -1,6 +1,6 @@
 -- Slots whose text is appended straight off the words of a message.
 use Rattle.std.specs.Prelude.{ℕ, ◌≡◌, ◌⊎◌, ◌*◌, ◌^◌, ◌<◌, Bool, true, false, Option, Some, None, List, ◌++◌, Result, Ok, Err}
-use Rattle.capnp_model.specs.Schemas.{int, uint, width, Ty, plain, Value, TypeRecord, BaseType, FieldKind, slot, Schema}
+use Rattle.capnp_model.specs.Schemas.{int, uint, width, Ty, plain, Value, BaseType, FieldKind, slot, Schema}
 use Rattle.capnp_model.specs.Accepted.{field_body}
 use Rattle.capnp_units.specs.declared.errors.Error.{Error}
 use Rattle.capnp_units.specs.declared.kinds.ErrorKind.TheVariants.{OutOfMemory}
