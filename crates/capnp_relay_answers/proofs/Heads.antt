@@ -1,8 +1,8 @@
 -- The first word of a value tells whether calls can run at it.
-use Rattle.std.proofs.Common.{◌≡◌, ℕ, zero, suc, ◌+◌, ◌*◌, ◌%◌, ◌<◌, ◌≤◌, ◌^◌, List, [], ◌∷◌, length, refl, ap, ◌∙◌, arith}
+use Rattle.std.proofs.Common.{◌≡◌, ℕ, zero, suc, ◌+◌, ◌*◌, ◌%◌, ◌<◌, ◌≤◌, ◌^◌, true, false, List, [], ◌∷◌, length, refl, ap, sym, ◌∙◌, arith}
 use Rattle.std.specs.Prelude.{nat_eq, ◌-◌, slice_index_or}
 use Rattle.std.specs.Int.{from_le_bytes, w64}
-use Rattle.capnp_model.specs.Trees.{Tree, null, capability, structure, plain_list, pointer_list, struct_list, none, ◌▸◌}
+use Rattle.capnp_model.specs.Trees.{Tree, null, capability, structure, plain_list, pointer_list, struct_list, none, ◌▸◌, is_null}
 use Rattle.capnp_model.specs.Encoding.{canonical_words, pointer, body}
 use Rattle.capnp_wire_canonical.specs.Writes.{filled}
 use Rattle.capnp_relay_answers.specs.Reading.{can_be_opened}
@@ -48,3 +48,20 @@ pub front_opens : (count : ℕ) (words : List (List ℕ)) (t : Tree) → 0 < cou
 front_opens zero words t some inside is = absurd (omega (arith, some))
 front_opens (suc n) [] t some inside is = absurd (omega (arith, inside))
 front_opens (suc n) (w ∷ ws) t some inside is = first_opens t (from_le_bytes w64 w) _ is
+
+-- a word that isn't zero begins no null
+first_some : (t : Tree) (w : ℕ) (ws : List ℕ) → w ∷ ws ≡ canonical_words t → nat_eq w 0 ≡ false → is_null t ≡ false
+unfolding canonical_words
+first_some null w ws is no =
+    let zeros : nat_eq w 0 ≡ true = ap (λ n. nat_eq n 0) (head_is w (pointer 0 null) ws (body null) is) in
+    absurd (let both : true ≡ false = sym zeros ∙ no in cc both)
+first_some (structure words section kids) w ws is no = refl
+first_some (capability i) w ws is no = refl
+first_some (plain_list size n section) w ws is no = refl
+first_some (pointer_list ts) w ws is no = refl
+first_some (struct_list d k es) w ws is no = refl
+
+pub front_some : (count : ℕ) (words : List (List ℕ)) (t : Tree) → 0 < count → count ≤ length words → filled count words ≡ canonical_words t → nat_eq (from_le_bytes w64 (slice_index_or words 0 [])) 0 ≡ false → is_null t ≡ false
+front_some zero words t some inside is no = absurd (omega (arith, some))
+front_some (suc n) [] t some inside is no = absurd (omega (arith, inside))
+front_some (suc n) (w ∷ ws) t some inside is no = first_some t (from_le_bytes w64 w) _ is no

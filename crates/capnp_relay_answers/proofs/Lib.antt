@@ -9,3 +9,4 @@ mod Fronts
 mod Copies
 mod PlainEdited
 mod PlainWhole
+mod Gets

@@ -18,6 +18,7 @@ use Rattle.capnp_relay_answers.specs.declared.found.Found.TheVariants as founds
 abbrev pub IsFound : StructSchema → List Resolved → Found → Type 0
 IsFound schema calls (founds.Plain sets) = ArePlain schema (calls_of calls) sets.items
 IsFound schema calls founds.Spliced = KnowSplices schema calls
+IsFound schema calls founds.Gets = ⊤
 IsFound schema calls founds.Unknown = ⊤
 
 -- n words at the front of a buffer are those of what the calls make of the value that old canonical

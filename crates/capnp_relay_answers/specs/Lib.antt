@@ -2,5 +2,6 @@ pub mod Answers
 pub mod Reading
 pub mod Bounds
 pub mod Found
+pub mod Gets
 pub mod RootCalls
 pub mod Plain

@@ -8,6 +8,7 @@ ghost use Rattle.capnp_relay_answers.specs.RootCalls.{root_schema, root_calls};
 
 use crate::bounds::Bounds;
 use crate::built::answer_built;
+use crate::gets::reply_in_place;
 use crate::reading::{can_be_opened, read_value};
 use crate::root_calls::RootCalls;
 use capnp_copy_arenas::allocator::Allocator;
@@ -67,6 +68,32 @@ fn answer_known<M: ReaderArena>(
         count: after,
         calls,
     }))
+}
+
+/// The answer of calls that are each a `get`: their replies, where the message's words were read to,
+/// and these words as they are. `None` where its root is null.
+#[inline(never)]
+fn answer_gets<M: ReaderArena>(
+    alloc: Global,
+    message: &M,
+    bounds: Bounds,
+    calls: &RootCalls<'_>,
+    words: &mut Vec<Word>,
+) -> Result<Option<MessageAnswer>, Want>
+    ensures answer { IfOk result (λ found. IfSome found (IsAnswered (root_schema calls.now)
+        (root_calls calls.now) bounds (words_in (M.segments message.now)) words.new.items)) }
+    ensures memory { IfErr result (λ want. want ≡ Want.Memory) }
+{
+    trimmed_values();
+    words_mean_their_value();
+    let count = match read_root(message, bounds, words)? {
+        Ok(count) => count,
+        Err(reason) => return Ok(Some(MessageAnswer::Refused(reason))),
+    };
+    let Some(replies) = reply_in_place(alloc, words, count, calls.schema, calls.resolved())? else {
+        return Ok(None);
+    };
+    Ok(Some(MessageAnswer::Written { count, replies }))
 }
 
 /// The answer to a message, whose value is edited in memory of this allocator. All of it is given
@@ -157,6 +184,10 @@ pub fn answer_in_place<M: ReaderArena>(
 {
     if calls.are_known() {
         if let Some(answer) = answer_known(message, bounds, calls, words)? {
+            return Ok(answer);
+        }
+    } else if calls.are_gets() {
+        if let Some(answer) = answer_gets(alloc, message, bounds, calls, words)? {
             return Ok(answer);
         }
     }

@@ -5,6 +5,7 @@ ghost use Rattle.capnp_values_queries.specs.declared.structs.StructSchema.{Struc
 ghost use Rattle.capnp_calls.specs.Resolved.{KnowSplices};
 ghost use Rattle.capnp_relay_answers.specs.Found.{IsFound};
 
+use capnp_calls::Action;
 use capnp_calls::resolved::Resolved;
 use capnp_calls_in_place::sets::plain_sets;
 use capnp_calls_in_place::splices::are_spliced;
@@ -19,8 +20,21 @@ pub(crate) enum Found {
     Plain(Vec<PlainSet>),
     /// Each a number, a text or data, into a struct that a path leads to.
     Spliced,
+    /// Nothing: each is a `get`. No clause says so, since each reply tells again whether its call
+    /// writes.
+    Gets,
     /// One does something else.
     Unknown,
+}
+
+/// Whether each call is a `get`.
+fn are_gets(calls: &[Resolved<'_>]) -> bool {
+    for call in calls {
+        if !matches!(call.action(), Action::Get) {
+            return false;
+        }
+    }
+    true
 }
 
 /// What these calls put. `OutOfMemory`: memory for it was refused.
@@ -34,6 +48,9 @@ pub(crate) fn find_puts(alloc: Global, calls: &[Resolved<'_>]) -> Result<Found>
     }
     if are_spliced(calls) {
         return Ok(Found::Spliced);
+    }
+    if are_gets(calls) {
+        return Ok(Found::Gets);
     }
     Ok(Found::Unknown)
 }

@@ -7,6 +7,7 @@ pub mod as_built;
 pub mod bounds;
 mod built;
 mod found;
+mod gets;
 mod near;
 mod reading;
 pub mod root_calls;

@@ -95,7 +95,13 @@ impl<'a> RootCalls<'a> {
     /// Whether what each call puts is known.
     #[inline]
     pub(crate) fn are_known(&self) -> bool {
-        !matches!(self.found, Found::Unknown)
+        matches!(self.found, Found::Plain(_) | Found::Spliced)
+    }
+
+    /// Whether each is a `get`.
+    #[inline]
+    pub(crate) fn are_gets(&self) -> bool {
+        matches!(self.found, Found::Gets)
     }
 
     /// Puts what the calls set into a message whose n canonical words stand at the front of a
@@ -117,7 +123,7 @@ impl<'a> RootCalls<'a> {
                 Ok(None)
             }
             Found::Spliced => put_splices(words, count, &self.calls),
-            Found::Unknown => Ok(None),
+            Found::Gets | Found::Unknown => Ok(None),
         }
     }
 }
