@@ -9,4 +9,4 @@ mod Fronts
 mod Copies
 mod PlainEdited
 mod PlainWhole
-mod Gets
+mod Told

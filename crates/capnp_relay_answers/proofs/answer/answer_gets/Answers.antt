@@ -10,7 +10,7 @@ use Rattle.capnp_relay_loop.specs.declared.answer.MessageAnswer.TheVariants as a
 use Rattle.capnp_relay_answers.specs.Answers.{ReadsRootValue}
 use Rattle.capnp_relay_answers.specs.Gets.{TellsWords}
 use Rattle.capnp_relay_answers.specs.RootCalls.{root_schema, root_calls}
-use Rattle.capnp_relay_answers.proofs.Gets.{gets_struct}
+use Rattle.capnp_relay_answers.proofs.Told.{gets_struct}
 use Rattle.capnp_relay_answers.proofs.Whole.{at_struct, length_filled}
 use Rattle.capnp_relay_answers.proofs.answer.answer_gets.Goals as goal
 

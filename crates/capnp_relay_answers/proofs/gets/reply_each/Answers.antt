@@ -11,7 +11,7 @@ use Rattle.capnp_calls.specs.Replies.{reply_view}
 use Rattle.capnp_calls.specs.Resolved.{call_of, calls_of}
 use Rattle.capnp_calls.proofs.lemmas.ResolvedCalls.{call_at}
 use Rattle.capnp_relay_answers.specs.Gets.{TellsAt}
-use Rattle.capnp_relay_answers.proofs.Gets.{tells_none, tells_more, other_reply}
+use Rattle.capnp_relay_answers.proofs.Told.{tells_none, tells_more, other_reply}
 use Rattle.capnp_relay_answers.proofs.gets.reply_each.Goals as goal
 
 pub loop-call-init : goal.loop-call-init

@@ -5,7 +5,7 @@ use Rattle.capnp_units.specs.Segments.{words_in}
 use Rattle.capnp_calls.specs.Replies.{reply_view}
 use Rattle.capnp_calls.specs.Resolved.{calls_of}
 use Rattle.capnp_wire_canonical.specs.Writes.{filled}
-use Rattle.capnp_relay_answers.proofs.Gets.{tells_words, over_found}
+use Rattle.capnp_relay_answers.proofs.Told.{tells_words, over_found}
 use Rattle.capnp_relay_answers.proofs.Whole.{view_front, length_filled}
 use Rattle.capnp_relay_answers.proofs.gets.reply_in_place.Goals as goal
 

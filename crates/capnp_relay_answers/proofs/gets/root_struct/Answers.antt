@@ -5,7 +5,7 @@ use Rattle.capnp_wire.specs.Reads.{read_struct}
 use Rattle.capnp_values_queries.specs.Structs.{schema_around, shape_of_struct, id_of}
 use Rattle.capnp_values.specs.Standing.{LeadsToValue, IsRecord}
 use Rattle.capnp_values.proofs.lemmas.Unlimited.{answers_reading}
-use Rattle.capnp_relay_answers.proofs.Gets.{pointed_record}
+use Rattle.capnp_relay_answers.proofs.Told.{pointed_record}
 use Rattle.capnp_relay_answers.proofs.gets.root_struct.Goals as goal
 
 pub returns-in-Ok-clause-record : goal.returns-in-Ok-clause-record
