@@ -52,16 +52,16 @@ front_opens (suc n) (w ∷ ws) t some inside is = first_opens t (from_le_bytes w
 -- a word that isn't zero begins no null
 first_some : (t : Tree) (w : ℕ) (ws : List ℕ) → w ∷ ws ≡ canonical_words t → nat_eq w 0 ≡ false → is_null t ≡ false
 unfolding canonical_words
-first_some null w ws is no =
+first_some null w ws is other =
     let zeros : nat_eq w 0 ≡ true = ap (λ n. nat_eq n 0) (head_is w (pointer 0 null) ws (body null) is) in
-    absurd (let both : true ≡ false = sym zeros ∙ no in cc both)
-first_some (structure words section kids) w ws is no = refl
-first_some (capability i) w ws is no = refl
-first_some (plain_list size n section) w ws is no = refl
-first_some (pointer_list ts) w ws is no = refl
-first_some (struct_list d k es) w ws is no = refl
+    absurd (let both : true ≡ false = sym zeros ∙ other in cc both)
+first_some (structure words section kids) w ws is other = refl
+first_some (capability i) w ws is other = refl
+first_some (plain_list size n section) w ws is other = refl
+first_some (pointer_list ts) w ws is other = refl
+first_some (struct_list d k es) w ws is other = refl
 
 pub front_some : (count : ℕ) (words : List (List ℕ)) (t : Tree) → 0 < count → count ≤ length words → filled count words ≡ canonical_words t → nat_eq (from_le_bytes w64 (slice_index_or words 0 [])) 0 ≡ false → is_null t ≡ false
-front_some zero words t some inside is no = absurd (omega (arith, some))
-front_some (suc n) [] t some inside is no = absurd (omega (arith, inside))
-front_some (suc n) (w ∷ ws) t some inside is no = first_some t (from_le_bytes w64 w) _ is no
+front_some zero words t some inside is other = absurd (omega (arith, some))
+front_some (suc n) [] t some inside is other = absurd (omega (arith, inside))
+front_some (suc n) (w ∷ ws) t some inside is other = first_some t (from_le_bytes w64 w) _ is other

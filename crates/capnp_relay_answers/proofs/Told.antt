@@ -57,11 +57,18 @@ module _ (s : Schema) (id : ℕ) where
   struct_record v (struct_list w p es) is = absurd (cc is.is)
 
   -- the struct behind a pointer has the record of the value that it leads to
-  pub pointed_record : PointersAreRead → (n : ℕ) (p : PointerView) (t : Tree) (v : StructView) → LeadsToValue n p t → Ok v ≡ pointed_struct p → IsRecord s (s.shape_of id) v (record_as (record_of s id t))
+  pointed_record : PointersAreRead → (n : ℕ) (p : PointerView) (t : Tree) (v : StructView) → LeadsToValue n p t → Ok v ≡ pointed_struct p → IsRecord s (s.shape_of id) v (record_as (record_of s id t))
   pointed_record are_read n p t v leads e =
       let P : Result StructView Kind → Type 0 = λ x. Answers s (x and_then λ w. Ok (a_struct s (s.shape_of id) w)) (null_as_empty s (struct id) (read s t (struct id))) in
       let got = subst P (sym e) (are_read n p t s (struct id) tt leads) in
       struct_record v t got.1
+
+-- and has it as a reader, under the reader's schema
+pub reader_has_record : {A : Type 0} → PointersAreRead → (bytes : A → List (List ℕ)) (reader : DynamicStruct A) (n : ℕ) (p q : PointerView) (t : Tree) (v : StructView) → p ≡ q → struct_seen bytes reader.source ≡ v → LeadsToValue n q t → Ok v ≡ pointed_struct p → HasRecordOf bytes reader t
+reader_has_record are_read bytes reader n p q t v at same leads e =
+    let s = schema_around reader.schema in
+    let id = id_of reader.schema in
+    subst (λ (x : StructView). IsRecord s (shape_of_struct reader.schema) x (record_as (record_of s id t))) (sym same) (pointed_record s id are_read n p t v (subst (λ (x : PointerView). LeadsToValue n x t) (sym at) leads) e)
 
 -- ---- calls in turn
 

@@ -72,7 +72,7 @@ fn answer_known<M: ReaderArena>(
 
 /// The answer of calls that are each a `get`: their replies, where the message's words were read to,
 /// and these words as they are. `None` where its root is null.
-#[inline(never)]
+#[inline(always)]
 fn answer_gets<M: ReaderArena>(
     alloc: Global,
     message: &M,
@@ -133,6 +133,33 @@ fn answer_over<L: Allocator, M: ReaderArena>(
     answered
 }
 
+/// As `answer_in_place`, where it isn't known what each call puts, or one can't be put. It is kept
+/// apart from the way of the others.
+#[inline(never)]
+fn answer_unknown<M: ReaderArena>(
+    alloc: Global,
+    message: &M,
+    bounds: Bounds,
+    calls: &RootCalls<'_>,
+    region: &mut [u8],
+    words: &mut Vec<Word>,
+) -> Result<MessageAnswer, Want>
+    requires zeros { AllZero region.old }
+    ensures answer { IfOk result (IsAnswered (root_schema calls.now) (root_calls calls.now) bounds
+        (words_in (M.segments message.now)) words.new.items) }
+    ensures size { result ≡ Err Want.Size → MakesTooLarge (root_schema calls.now)
+        (root_calls calls.now) bounds (words_in (M.segments message.now)) }
+    ensures zeros { region.new ≡ region.old }
+{
+    if calls.are_gets() {
+        if let Some(answer) = answer_gets(alloc, message, bounds, calls, words)? {
+            return Ok(answer);
+        }
+    }
+    let mut allocator = ScratchSpaceHeapAllocator::resume(alloc, region);
+    answer_over(alloc, &mut allocator, message, bounds, calls, words)
+}
+
 /// Answers calls in turn at the root of a message, as the model does, lists and all. The message's
 /// value, trimmed, is copied into the region and edited there. What it becomes is written into the
 /// buffer, as its canonical words.
@@ -143,6 +170,9 @@ fn answer_over<L: Allocator, M: ReaderArena>(
 /// - none of these fields is a union's member or a group;
 /// - all that is on the way is there, and a text or data has an old one whose place it takes;
 /// - no struct gets wider or narrower.
+///
+/// Where each call is a `get`, and the root isn't null, the value is read in the buffer, and the
+/// region isn't touched either.
 ///
 /// A message is skipped
 /// - as `Value`, where it has no value within the bounds, or one with a capability;
@@ -186,11 +216,6 @@ pub fn answer_in_place<M: ReaderArena>(
         if let Some(answer) = answer_known(message, bounds, calls, words)? {
             return Ok(answer);
         }
-    } else if calls.are_gets() {
-        if let Some(answer) = answer_gets(alloc, message, bounds, calls, words)? {
-            return Ok(answer);
-        }
     }
-    let mut allocator = ScratchSpaceHeapAllocator::resume(alloc, region);
-    answer_over(alloc, &mut allocator, message, bounds, calls, words)
+    answer_unknown(alloc, message, bounds, calls, region, words)
 }

@@ -51,8 +51,8 @@ fn reply_each<A: ReaderArena>(
     root: dynamic_struct::Reader<'_, A>,
     calls: &[Resolved<'_>],
 ) -> Result<Option<Vec<Reply>>>
-    requires resolved { AreResolved root.schema calls.now }
-    ensures told { IfOk result (λ found. IfSome found (λ told.
+    requires { AreResolved root.schema calls.now }
+    ensures { IfOk result (λ found. IfSome found (λ told.
         TellsAt A.segments root.entry (calls_of calls.now) (map reply_view told.items))) }
 {
     let mut replies = Vec::new(alloc);
@@ -90,7 +90,7 @@ pub(crate) fn reply_in_place(
 ) -> Result<Option<Vec<Reply>>>
     requires count { (0 < count) × (count < 2 ^ 29) × (count ≤ length words.now) }
     requires resolved { AreResolved schema calls.now }
-    ensures told { IfOk result (λ found. IfSome found (λ told. TellsWords schema.entry
+    ensures { IfOk result (λ found. IfSome found (λ told. TellsWords schema.entry
         (calls_of calls.now) (filled count words.now) (map reply_view told.items))) }
 {
     canonical_words_in_place();

@@ -19,10 +19,10 @@ loop-call-init g c =
     let seg = g.A.ReaderArena.segments in
     subst (λ (rs : List Reply). TellsAt seg c.args.root [] (map reply_view rs)) (sym c.new-replies.ensures.items) (tells_none seg c.args.root)
 
-pub reply_to-reply-requires-clause-resolved : goal.reply_to-reply-requires-clause-resolved
-reply_to-reply-requires-clause-resolved g c =
+pub reply_to-requires : goal.reply_to-requires
+reply_to-requires g c =
     let calls = c.args.calls.now in
-    call_at c.args.root.schema calls c.loop-call.call-index c.call-item.result c.requires.resolved (slice_get_read calls (length calls) c.loop-call.call-index c.call-item.result refl c.loop-call-test.true c.call-item.is)
+    record { resolved = call_at c.args.root.schema calls c.loop-call.call-index c.call-item.result c.requires (slice_get_read calls (length calls) c.loop-call.call-index c.call-item.result refl c.loop-call-test.true c.call-item.is) }
 
 pub loop-call-preserved : goal.loop-call-preserved
 loop-call-preserved g c =
@@ -36,11 +36,11 @@ loop-call-preserved g c =
     let before : List ModelReply = map reply_view c.loop-call.replies.items in
     let more : calls_of (take (i + 1) calls) ≡ front ++ call_of call ∷ [] =
     ap calls_of (take_more calls i call c.loop-call-test.true) ∙ map-append call_of (take i calls) _ ∙ ap (λ (x : Resolved). front ++ call_of x ∷ []) (sym c.call-item.is) in
-    let pushed : map reply_view c.push.new.self.items ≡ before ++ reply_view reply ∷ [] = ap (map reply_view) c.in_ok-push.ensures.items ∙ map-append reply_view c.loop-call.replies.items (reply ∷ []) in
+    let pushed : map reply_view c.push.new.self.items ≡ before ++ reply_view reply ∷ [] = ap (map reply_view) c.in_ok-push-in_default.ensures.items ∙ map-append reply_view c.loop-call.replies.items (reply ∷ []) in
     let next = tells_more seg root front (call_of call) before (reply_view reply) c.loop-call.invariant c.in_ok-reply.ensures.replied (other_reply reply c.in_default.not-Done) in
     subst (λ (rs : List ModelReply). TellsAt seg root (calls_of (take (i + 1) calls)) rs) (sym pushed) (subst (λ (cs : List ModelCall). TellsAt seg root cs (before ++ reply_view reply ∷ [])) (sym more) next)
 
-pub returns-clause-told : goal.returns-clause-told
-returns-clause-told g c =
+pub returns : goal.returns
+returns g c =
     let calls = c.args.calls.now in
     subst (λ (rs : List Resolved). TellsAt g.A.ReaderArena.segments c.args.root (calls_of rs) (map reply_view c.loop-call.replies.items)) (take_all c.loop-call.call-index calls c.loop-call-test.false) c.loop-call.invariant

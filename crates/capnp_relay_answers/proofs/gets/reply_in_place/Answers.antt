@@ -9,8 +9,8 @@ use Rattle.capnp_relay_answers.proofs.Told.{tells_words, over_found}
 use Rattle.capnp_relay_answers.proofs.Whole.{view_front, length_filled}
 use Rattle.capnp_relay_answers.proofs.gets.reply_in_place.Goals as goal
 
-pub returns-clause-told : goal.returns-clause-told
-returns-clause-told c =
+pub returns : goal.returns
+returns c =
     let count = c.args.count in
     let items = c.args.words.now in
     let words = filled count items in
