@@ -1,5 +1,5 @@
 -- Calls that write nothing, at a value that is read where its words stand.
-use Rattle.std.proofs.Common.{◌≡◌, ℕ, ℤ, zero, suc, pos, ◌+◌, ◌*◌, ◌^◌, ◌<◌, ◌≤◌, true, false, Option, Some, None, List, [], ◌∷◌, ◌++◌, length, map, append-nil, Result, Ok, Err, IfOk, IfSome, refl, ap, sym, subst, ◌∙◌, arith}
+use Rattle.std.proofs.Common.{◌≡◌, ℕ, zero, suc, pos, ◌+◌, ◌*◌, ◌^◌, ◌<◌, ◌≤◌, true, false, Option, Some, None, List, [], ◌∷◌, ◌++◌, length, map, append-nil, Result, Ok, Err, IfOk, IfSome, refl, ap, sym, subst, ◌∙◌, arith}
 use Rattle.std.specs.Prelude.{nat_le, Vec}
 use Rattle.std.specs.declared.alloc.Global.{Global}
 use Rattle.std.proofs.lemmas.Bool.Decides.{nat_tests}
@@ -16,7 +16,7 @@ use Rattle.capnp_model.specs.Readings.{Record, record_as, record_of, record_by_s
 use Rattle.capnp_model.specs.Calls.{Call}
 use Rattle.capnp_model.specs.Steps.{Outcome, refused, shown, done, step}
 use Rattle.capnp_model.specs.Edits.{edit, if_done, write_path}
-use Rattle.capnp_model.specs.Answers.{Reply, reply_done, reply_of, written, levels, replies, edits, widened_root}
+use Rattle.capnp_model.specs.Answers.{Reply, reply_done, reply_of, written, replies, edits, widened_root}
 use Rattle.capnp_model.specs.Printing.{as_it_is}
 use Rattle.capnp_model.proofs.lemmas.Marks.{read_child-padded_to}
 use Rattle.capnp_model.proofs.lemmas.Paths.{nothing_in}
@@ -36,10 +36,9 @@ use Rattle.capnp_calls.specs.Replies.{reply_view}
 use Rattle.capnp_calls.specs.declared.reply.Reply.{Reply as Own}
 use Rattle.capnp_calls.specs.declared.reply.Reply.TheVariants as reply
 use Rattle.capnp_calls_replies.specs.Replies.{RepliesTo}
-use Rattle.capnp_relay_answers.specs.Answers.{AnswersStruct, MeansTree}
+use Rattle.capnp_relay_answers.specs.Answers.{AnswersStruct}
 use Rattle.capnp_relay_answers.specs.Gets.{HasRecordOf, ShowsRoot, LeavesRoot, LeavesValue, TellsAt, TellsWords}
 use Rattle.capnp_relay_answers.specs.Reading.{can_be_opened}
-use Rattle.capnp_relay_loop.specs.MessageAnswers.{answer_view}
 use Rattle.capnp_relay_loop.specs.declared.answer.MessageAnswer.TheVariants as answers
 use Rattle.capnp_relay_answers.proofs.Edited.{answers_written}
 use Rattle.capnp_relay_answers.proofs.Whole.{OwnsWords}

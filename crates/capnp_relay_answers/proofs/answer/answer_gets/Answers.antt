@@ -1,4 +1,4 @@
-use Rattle.std.proofs.Common.{◌≡◌, List, ℕ, ◌≤◌, ◌^◌, IfSome, length, map, ap, sym, subst, ◌∙◌, arith}
+use Rattle.std.proofs.Common.{List, ℕ, ◌≤◌, ◌^◌, IfSome, length, map, ap, sym, subst, arith}
 use Rattle.capnp_model.specs.Calls.{Call}
 use Rattle.capnp_model.specs.Encoding.{canonical_words}
 use Rattle.capnp_model.specs.Trimming.{trim}
