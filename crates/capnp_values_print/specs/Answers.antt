@@ -17,6 +17,11 @@ abbrev pub Appends : {X : Type 0} → Text → List ℕ → Result X Error → L
 Appends t old (Ok x) new = (bytes : List ℕ) × (t ≡ Ok bytes) × (new ≡ old ++ bytes)
 Appends t old (Err e) new = IsTextRefused t e
 
+-- A text was put behind the old, or nothing was, for want of memory.
+abbrev pub Joins : {X : Type 0} → List ℕ → List ℕ → Result X Error → List ℕ → Type 0
+Joins old text (Ok x) new = new ≡ old ++ text
+Joins old text (Err e) new = (new ≡ old) × (e.kind ≡ OutOfMemory)
+
 -- The form: on one line, or with a line for each item.
 abbrev pub style_named : Bool → Style
 style_named false = on_one_line

@@ -19,7 +19,7 @@ use Rattle.capnp_values_print.specs.declared.fields.Opened.{Opened}
 use Rattle.capnp_values_print.specs.ShownReadings.{record_read, elements_read, reading_within, levels_left}
 use Rattle.capnp_values_print.specs.Printed.{Text, printed, items_printed, fields_printed, null_printed}
 use Rattle.capnp_values_print.specs.Defaults.{enters}
-use Rattle.capnp_values_print.specs.Members.{field_read, field_shown}
+use Rattle.capnp_values_print.specs.Members.{field_read}
 
 -- The fields of a struct, each behind its mark and its name.
 abbrev pub fields_text : ℕ → Style → StructSchema → StructView → Text
@@ -39,10 +39,6 @@ elements_text left style s ty l =
 -- The field is no member, or its union's active one.
 abbrev pub IsActive : StructSchema → StructView → Field → Type 0
 IsActive s v f = (e : Entry) → entry_of_field f ≡ Some e → is_active e.member (discriminant_shown s v) ≡ true
-
--- The field is printed.
-abbrev pub IsPrinted : StructSchema → StructView → Field → Type 0
-IsPrinted s v f = (e : Entry) → entry_of_field f ≡ Some e → field_shown (schema_around s) v (discriminant_shown s v) e ≡ true
 
 -- The field lies behind a null pointer and has a default whose root isn't null.
 abbrev pub enters_there : StructView → Schema → FieldKind → Bool

@@ -6,16 +6,14 @@ ghost use Rattle.capnp_values.specs.Shown.{shown};
 ghost use Rattle.capnp_values.specs.Sources.{struct_seen};
 ghost use Rattle.capnp_values_print.specs.Texts.{style_of};
 ghost use Rattle.capnp_model.specs.Printing.{on_one_line};
-ghost use Rattle.capnp_values_print.specs.Answers.{style_named, model_text, Appends, Prints};
+ghost use Rattle.capnp_values_print.specs.Answers.{style_named, model_text, Appends, Joins, Prints};
 ghost use Rattle.capnp_values_print.specs.Parts.{member_text};
 
-use crate::fields::open_member;
 use crate::members::is_active;
 use crate::single::Indent;
-use crate::values::push_value;
+use crate::values::{push_member, push_value};
 use capnp_units::errors::{Error, Result};
 use capnp_units::kinds::ErrorKind;
-use capnp_values::laws::nulls_are_read;
 use capnp_values::{dynamic_struct, dynamic_value};
 use capnp_values_queries::fields::Field;
 use capnp_wire_objects::arena::ReaderArena;
@@ -35,6 +33,19 @@ fn form(alternate: bool) -> Indent
     } else {
         Indent::OnOneLine(0)
     }
+}
+
+/// Puts a text behind what stands there. Where nothing does, it is taken as it is and not copied.
+fn append(out: &mut Vec<u8>, text: Vec<u8>) -> Result<()>
+    ensures { Joins out.old.items text.items result out.new.items }
+{
+    if out.is_empty() {
+        *out = text;
+        return Ok(());
+    }
+    let mut behind = text;
+    out.append(&mut behind)?;
+    Ok(())
 }
 
 /// Appends the text of a value: on one line, or in the alternate form, which gives each item a
@@ -67,8 +78,7 @@ pub fn print<A: ReaderArena>(
     let indent = form(alternate);
     let mut text = Vec::new(*out.allocator());
     push_value(value, indent, DEFAULTS, &mut text)?;
-    out.append(&mut text)?;
-    Ok(())
+    append(out, text)
 }
 
 /// Appends the text of one field of a struct, as a `get` of the field shows it. A group or a value
@@ -90,16 +100,13 @@ pub fn print_field<A: ReaderArena>(
         (struct_seen A.segments r.source) e) out.old.items result out.new.items }
     ensures stays { OnErr result (out.new.items ≡ out.old.items) }
 {
-    nulls_are_read();
     if !is_active(reader, field)? {
         return Err(Error::from(ErrorKind::InactiveMember));
     }
     let indent = form(alternate);
-    let opened = open_member(&reader, &field, DEFAULTS)?;
     let mut text = Vec::new(*out.allocator());
-    push_value(opened.value, indent, opened.left, &mut text)?;
-    out.append(&mut text)?;
-    Ok(())
+    push_member(reader, field, indent, DEFAULTS, &mut text)?;
+    append(out, text)
 }
 
 /// A value that `{}` and `{:?}` print as `print` does, and `{:#}` and `{:#?}` in the alternate

@@ -10,7 +10,7 @@ ghost use Rattle.capnp_values.specs.Sources.{struct_seen, list_seen};
 ghost use Rattle.capnp_values.specs.Shown.{a_struct, a_list, shown};
 ghost use Rattle.capnp_values_print.specs.Texts.{style_of};
 ghost use Rattle.capnp_values_print.specs.Printed.{shown_text};
-ghost use Rattle.capnp_values_print.specs.Parts.{fields_text, member_text, elements_text, IsPrinted};
+ghost use Rattle.capnp_values_print.specs.Parts.{fields_text, member_text, elements_text, IsActive};
 ghost use Rattle.capnp_values_print.specs.Answers.{Appends};
 
 use crate::fields::{open_element, open_member};
@@ -99,10 +99,10 @@ fn push_fields<A: ReaderArena>(
     Ok(())
 }
 
-/// Appends the text of a field's value. A null pointer is its default, which is entered, else the
-/// empty value.
+/// Appends the text of the value of a field that is no union member, or the active one; n defaults
+/// may be entered. A null pointer is its default, which is entered, else the empty value.
 #[cycle(text)]
-fn push_member<A: ReaderArena>(
+pub(crate) fn push_member<A: ReaderArena>(
     reader: dynamic_struct::Reader<'_, A>,
     field: Field<'_>,
     indent: Indent,
@@ -110,7 +110,7 @@ fn push_member<A: ReaderArena>(
     out: &mut Vec<u8>,
 ) -> Result<()>
     requires parent { field.parent ≡ reader.schema }
-    requires printed { IsPrinted reader.schema (struct_seen A.segments reader.source) field }
+    requires active { IsActive reader.schema (struct_seen A.segments reader.source) field }
     ensures { let r = reader.entry in
         (e : Entry) → entry_of_field field.entry ≡ Some e
         → Appends (member_text left (style_of indent) r.schema (struct_seen A.segments r.source)

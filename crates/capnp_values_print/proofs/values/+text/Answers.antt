@@ -13,7 +13,7 @@ use Rattle.capnp_values.specs.Sources.{struct_seen, list_seen}
 use Rattle.capnp_values.specs.Shown.{a_struct, a_list, shown, discriminant_shown, element_shown}
 use Rattle.capnp_values_print.specs.Answers.{IsTextRefused, Appends}
 use Rattle.capnp_values_print.specs.Members.{field_shown}
-use Rattle.capnp_values_print.specs.Parts.{fields_text, member_text, elements_text, IsPrinted}
+use Rattle.capnp_values_print.specs.Parts.{fields_text, member_text, elements_text, IsActive}
 use Rattle.capnp_values_print.specs.Printed.{Text, item_mark, shown_text}
 use Rattle.capnp_values_print.specs.Singles.{single_text}
 use Rattle.capnp_values_print.specs.Slots.{AppendsSlot}
@@ -153,7 +153,7 @@ push_fields-push_member-requires g t c =
     let v = struct_seen g.A.ReaderArena.segments c.args.reader.source in
     let f = c.get-field.result in
     let parent : f.parent ≡ s = c.get-field.ensures.parent ∙ c.requires in
-    let shows : IsPrinted s v f = λ e h. sym (c.in_ok-is_printed.ensures e h) ∙ c.if-not-branch.false in
+    let active : IsActive s v f = λ e h. active_shown (schema_around s) _ _ e (sym (c.in_ok-is_printed.ensures e h) ∙ c.if-not-branch.false) in
     search rules
 
 pub push_fields-returns-in_err-push_member : goal.push_fields-returns-in_err-push_member
@@ -205,7 +205,7 @@ push_member-returns-in_err-push_slot g t c =
     let style = style_of c.args.indent in
     let err = c.in_err-push_slot.field-0.0 in
     λ e h. refused (member_text c.args.left style s v e) c.args.out.now.items c.push_slot.new.out.items c.from_residual.result err c.from_residual.ensures.1
-    (slot_refused s v c.args.field (field_of c.get_proto.result.now) c.requires.parent c.get_proto.ensures e h (active_shown (schema_around s) _ _ e (c.requires.printed e h)) c.args.left style err c.in_err-push_slot.ensures)
+    (slot_refused s v c.args.field (field_of c.get_proto.result.now) c.requires.parent c.get_proto.ensures e h (c.requires.active e h) c.args.left style err c.in_err-push_slot.ensures)
 
 pub push_member-returns-then-branch : goal.push_member-returns-then-branch
 push_member-returns-then-branch g t c =
@@ -213,15 +213,14 @@ push_member-returns-then-branch g t c =
     let v = struct_seen g.A.ReaderArena.segments c.args.reader.source in
     let k = kind_of_field c.get_proto.result.now.body in
     let a = subst (λ (b : Bool). AppendsSlot v k c.args.out.now.items (Ok b) c.push_slot.new.out.items) c.if-branch.true c.in_ok-push_slot.ensures in
-    λ e h. single_member s v c.args.field (field_of c.get_proto.result.now) c.requires.parent c.get_proto.ensures e h (active_shown (schema_around s) _ _ e (c.requires.printed e h)) c.args.left (style_of c.args.indent) c.args.out.now.items c.push_slot.new.out.items a
+    λ e h. single_member s v c.args.field (field_of c.get_proto.result.now) c.requires.parent c.get_proto.ensures e h (c.requires.active e h) c.args.left (style_of c.args.indent) c.args.out.now.items c.push_slot.new.out.items a
 
 pub push_member-open_member-requires-clause-parent : goal.push_member-open_member-requires-clause-parent
 push_member-open_member-requires-clause-parent g t c = c.requires.parent
 
 pub push_member-open_member-requires-clause-active : goal.push_member-open_member-requires-clause-active
 push_member-open_member-requires-clause-active g t c =
-    let s = c.args.reader.schema in
-    λ e h. active_shown (schema_around s) _ _ e (c.requires.printed e h)
+    c.requires.active
 
 pub push_member-returns-in_err-opened : goal.push_member-returns-in_err-opened
 push_member-returns-in_err-opened g t c =
@@ -239,7 +238,7 @@ push_member-returns g t c =
     let same : c.push_slot.new.out.items ≡ c.args.out.now.items = subst (λ (b : Bool). AppendsSlot v k c.args.out.now.items (Ok b) c.push_slot.new.out.items) c.if-branch.false c.in_ok-push_slot.ensures in
     let pushed = subst (λ (old : List ℕ). Appends (shown_text o.left style (shown g.A.ReaderArena.segments o.value)) old c.push_value.result c.push_value.new.out.items) same c.push_value.ensures in
     λ e h. subst (λ (z : Text). Appends z c.args.out.now.items c.push_value.result c.push_value.new.out.items)
-    (opened_text c.nulls_are_read.ensures s v c.args.field c.requires.parent c.args.left (shown g.A.ReaderArena.segments o.value) o.left c.in_ok-opened.ensures (λ e h. active_shown (schema_around s) _ _ e (c.requires.printed e h)) e h style) pushed
+    (opened_text c.nulls_are_read.ensures s v c.args.field c.requires.parent c.args.left (shown g.A.ReaderArena.segments o.value) o.left c.in_ok-opened.ensures c.requires.active e h style) pushed
 
 -- ---- lists
 
