@@ -10,3 +10,4 @@ mod Copies
 mod PlainEdited
 mod PlainWhole
 mod Told
+mod SizeSums

@@ -1,5 +1,5 @@
 -- What calls make of a value that is owned alone, and how its segments go out.
-use Rattle.std.proofs.Common.{◌≡◌, ℕ, zero, suc, pos, ◌+◌, ◌<◌, ◌≤◌, ◌^◌, true, false, Some, List, [], ◌∷◌, ◌++◌, length, map, refl, ap, sym, ◌∙◌, subst, inl, inr, append-nil, arith}
+use Rattle.std.proofs.Common.{◌≡◌, ℕ, zero, suc, pos, ◌+◌, ◌<◌, ◌≤◌, ◌^◌, true, false, Some, List, [], ◌∷◌, ◌++◌, length, refl, ap, sym, ◌∙◌, subst, inl, inr, append-nil, arith}
 use Rattle.std.specs.Prelude.{nat_le, slice_get, ◌⊎◌}
 use Rattle.std.proofs.lemmas.Bool.Decides.{nat_tests}
 use Rattle.std.proofs.lemmas.Option.{slice_get_within}
@@ -11,25 +11,20 @@ use Rattle.capnp_model.specs.Encoding.{canonical_words}
 use Rattle.capnp_model.specs.Coverage.{span, times_held}
 use Rattle.capnp_model.specs.Traversal.{tree_at}
 use Rattle.capnp_model.specs.Calls.{Call}
-use Rattle.capnp_model.specs.Answers.{Answer, Reply as ModelReply, written, answer_struct, edits, widened_root}
+use Rattle.capnp_model.specs.Answers.{Reply as ModelReply, answer_struct, edits, widened_root}
 use Rattle.capnp_model.specs.Printing.{as_it_is}
 use Rattle.capnp_values_queries.specs.Structs.{schema_around, shape_of_struct, id_of}
 use Rattle.capnp_values_queries.specs.declared.structs.StructSchema.{StructSchema}
-use Rattle.capnp_calls.specs.LongLists.{LongInTurn}
 use Rattle.capnp_model_writes.specs.Footprints.{footprint, Owns}
 use Rattle.capnp_model_writes.specs.Changes.{Replaces, ZeroBeside}
-use Rattle.capnp_model_writes.proofs.lemmas.Spans.{held, held_is, held_in}
+use Rattle.capnp_model_writes.proofs.lemmas.Spans.{held_is, held_in}
 use Rattle.capnp_calls_run.specs.Runs.{RunsRoot, EndsLongRoot}
-use Rattle.capnp_calls_run.specs.declared.fault.RunFault.{RunFault}
-use Rattle.capnp_calls_run.specs.declared.fault.RunFault.TheVariants as faults
-use Rattle.capnp_relay_loop.specs.declared.answer.Want.{Want}
-use Rattle.capnp_relay_loop.specs.declared.answer.Want.TheVariants as wants
-use Rattle.capnp_relay_answers.specs.Answers.{want_of}
-use Rattle.capnp_relay_loop.specs.MessageAnswers.{answer_view}
+use Rattle.capnp_relay_answers.specs.declared.bounds.Bounds.{Bounds}
+use Rattle.capnp_relay_answers.specs.Sizes.{MayPassWords}
 use Rattle.capnp_relay_loop.specs.declared.answer.MessageAnswer.{MessageAnswer}
 use Rattle.capnp_relay_loop.specs.declared.answer.MessageAnswer.TheVariants as answers
 use Rattle.capnp_relay_loop.specs.declared.answer.Reason.TheVariants as reasons
-use Rattle.capnp_relay_answers.specs.Plain.{AnswersPlainStruct, ArePlainSegments, AreTooMany, AtRoot, AtWords, IsLongPlain, MeansAlone, NothingBeside, PutsOut, WritesPlain, with_segments, written_segments}
+use Rattle.capnp_relay_answers.specs.Plain.{AnswersPlainStruct, AreTooMany, AtRoot, AtWords, IsLongPlain, MeansAlone, NothingBeside, PutsOut, WritesPlain, with_segments, written_segments}
 use Rattle.capnp_relay_answers.proofs.Edited.{answers_written, answers_deep}
 use Rattle.capnp_relay_answers.proofs.Whole.{OwnsWords, owned_alone}
 
@@ -96,12 +91,14 @@ module _ (laws : PlainLaws) (s u : Segments) (schema : StructSchema) (calls : Li
       }
 
   -- more segments than go out
-  pub plain_many : 511 < length u → (v : Tree) → tree_at levels u root ≡ Some v → AtRoot schema levels s (IsLongPlain schema calls levels)
-  plain_many many v kept n t most low owns zeros = inr (u, many, means_alone n t most low owns zeros v kept)
+  pub plain_many : (bounds : Bounds) → levels ≡ bounds.nesting → 511 < length u → (v : Tree) → tree_at levels u root ≡ Some v → AtRoot schema levels s (IsLongPlain schema calls bounds)
+  plain_many bounds same many v kept n t most low owns zeros =
+      inr (subst (λ n. AreTooMany n (edits (schema_around schema) (id_of schema) calls (opened t))) same (u, many, means_alone n t most low owns zeros v kept))
 
--- a list that is too long
-pub plain_long : (s : Segments) (schema : StructSchema) (calls : List Call) (levels : ℕ) → EndsLongRoot s schema calls → AtRoot schema levels s (IsLongPlain schema calls levels)
-plain_long s schema calls levels long n t most low owns zeros = inl (long n t most owns)
+-- a list that is too long, or words that may pass those of a message
+pub plain_long : (s : Segments) (schema : StructSchema) (calls : List Call) (bounds : Bounds) → EndsLongRoot s schema calls ⊎ MayPassWords schema calls bounds → AtRoot schema bounds.nesting s (IsLongPlain schema calls bounds)
+plain_long s schema calls bounds (inl long) n t most low owns zeros = inl (inl (long n t most owns))
+plain_long s schema calls bounds (inr passes) n t most low owns zeros = inl (inr passes)
 
 -- ---- from a value's canonical words
 
@@ -130,13 +127,3 @@ module _ (schema : StructSchema) (Holds : Tree → Type 0) where
   pub at_plain_words : OwnsWords → TakesWords → (levels : ℕ) (s : Segments) (words : List ℕ) → s ≡ words ∷ [] → length words < 2 ^ 29 → AtRoot schema levels s Holds → AtWords schema levels words Holds
   at_plain_words owned takes levels s words is few all t fits deep same =
       all (2 ^ 29 + levels) t (omega arith) deep (owned_alone owned levels s words t is few fits deep same) (words_alone takes levels s words t is few fits deep same)
-
--- ---- what is wanted
-
-want_size : (f : RunFault) → want_of f ≡ wants.Size → f ≡ faults.Size
-want_size faults.Size e = refl
-want_size (faults.Refused e) h = absurd (cc h)
-
--- a run that is told as too large was too large
-pub size_wanted : (f : RunFault) (want : Want) → want ≡ want_of f → want ≡ wants.Size → f ≡ faults.Size
-size_wanted f want is told = want_size f (sym is ∙ told)

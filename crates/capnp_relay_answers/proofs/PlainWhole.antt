@@ -1,11 +1,9 @@
 -- What is answered to a message in the plain form, from what is answered at its opened root.
-use Rattle.std.proofs.Common.{◌≡◌, ℕ, pos, true, Some, List, [], refl, ap, sym, ◌∙◌, subst, inl, inr}
-use Rattle.std.specs.Prelude.{◌⊎◌}
+use Rattle.std.proofs.Common.{◌≡◌, ℕ, pos, true, List, [], ap, sym, ◌∙◌, subst, inl, inr}
 use Rattle.capnp_model.specs.Segments.{Segments}
-use Rattle.capnp_model.specs.Trees.{Tree}
 use Rattle.capnp_model.specs.Trimming.{trim}
 use Rattle.capnp_model.specs.Calls.{Call}
-use Rattle.capnp_model.specs.Answers.{answer, answer_struct, edits, opened_root, widened_root, value_within}
+use Rattle.capnp_model.specs.Answers.{answer_struct, edits, opened_root, widened_root}
 use Rattle.capnp_model.specs.Printing.{as_it_is}
 use Rattle.capnp_values_queries.specs.Structs.{schema_around, shape_of_struct, id_of}
 use Rattle.capnp_values_queries.specs.declared.structs.StructSchema.{StructSchema}
@@ -16,8 +14,7 @@ use Rattle.capnp_relay_loop.specs.declared.answer.MessageAnswer.{MessageAnswer}
 use Rattle.capnp_relay_loop.specs.declared.answer.MessageAnswer.TheVariants as answers
 use Rattle.capnp_relay_loop.specs.declared.answer.Reason.{Reason}
 use Rattle.capnp_relay_loop.specs.declared.answer.Reason.TheVariants as reasons
-use Rattle.capnp_relay_answers.specs.Answers.{IsAnswered, LongFrom, MakesTooLarge}
-use Rattle.capnp_relay_answers.specs.Bounds.{limits_view}
+use Rattle.capnp_relay_answers.specs.Answers.{IsAnswered, LongFrom}
 use Rattle.capnp_relay_answers.specs.declared.bounds.Bounds.{Bounds}
 use Rattle.capnp_relay_answers.specs.Plain.{AnswersPlainStruct, AreTooMany, AtWords, IsLongPlain, IsPlainAnswered, IsTooLargePlain, WritesPlain, with_segments, written_segments}
 use Rattle.capnp_relay_answers.specs.Reading.{ReadsValue, can_be_opened}
@@ -46,12 +43,13 @@ module _ (schema : StructSchema) (calls : List Call) (bounds : Bounds) (s : Segm
         stands = made.stands;
       }
 
-  pub too_large_plain : (old : List (List ℕ)) (count : ℕ) → (r : ReadsValue bounds s old count) → can_be_opened (trim r.value) ≡ true → AtWords schema bounds.nesting (filled count old) (IsLongPlain schema calls bounds.nesting)
+  pub too_large_plain : (old : List (List ℕ)) (count : ℕ) → (r : ReadsValue bounds s old count) → can_be_opened (trim r.value) ≡ true → AtWords schema bounds.nesting (filled count old) (IsLongPlain schema calls bounds)
       → IsTooLargePlain schema calls bounds s
   too_large_plain old count r opens all = by (all (trim r.value) r.fits r.deep r.words)
     where
-      by : IsLongPlain schema calls bounds.nesting (widened_root (shape_of_struct schema) (trim r.value)) → IsTooLargePlain schema calls bounds s
-      by (inl long) =
-          inl (subst (LongFrom schema calls) (sym r.within) (long_opened schema calls r.value opens (subst (LongInTurn schema calls) (sym (opened_is schema calls r.value)) long)))
+      by : IsLongPlain schema calls bounds (widened_root (shape_of_struct schema) (trim r.value)) → IsTooLargePlain schema calls bounds s
+      by (inl (inl long)) =
+          inl (inl (subst (LongFrom schema calls) (sym r.within) (long_opened schema calls r.value opens (subst (LongInTurn schema calls) (sym (opened_is schema calls r.value)) long))))
+      by (inl (inr passes)) = inl (inr passes)
       by (inr many) =
           inr (r.value, r.within, subst (λ x. AreTooMany bounds.nesting (edits (schema_around schema) (id_of schema) calls x)) (sym (opened_is schema calls r.value)) many)

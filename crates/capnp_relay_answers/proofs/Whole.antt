@@ -1,6 +1,6 @@
 -- What is answered to a message, from what is answered at its opened root.
-use Rattle.std.proofs.Common.{◌≡◌, ℕ, zero, suc, pos, ◌+◌, ◌<◌, ◌≤◌, ◌^◌, true, false, Option, Some, None, List, [], ◌∷◌, ◌++◌, length, refl, ap, sym, ◌∙◌, subst, append-nil, arith}
-use Rattle.std.specs.Prelude.{slice_get, take}
+use Rattle.std.proofs.Common.{◌≡◌, ℕ, zero, suc, pos, ◌+◌, ◌<◌, ◌≤◌, ◌^◌, true, false, Option, Some, None, List, [], ◌∷◌, ◌++◌, length, refl, ap, sym, ◌∙◌, subst, inl, inr, append-nil, arith}
+use Rattle.std.specs.Prelude.{slice_get, take, ◌⊎◌}
 use Rattle.std.specs.Int.{from_le_bytes, w64}
 use Rattle.capnp_model.specs.Segments.{Segments, root}
 use Rattle.capnp_model.specs.Trees.{Tree, null, capability, structure, plain_list, pointer_list, struct_list, depth}
@@ -16,12 +16,15 @@ use Rattle.capnp_model.specs.Printing.{as_it_is}
 use Rattle.capnp_wire_canonical.specs.Writes.{filled, words_view}
 use Rattle.capnp_model_writes.specs.Footprints.{Owns}
 use Rattle.capnp_calls_run.specs.Runs.{EndsLongRoot}
+use Rattle.capnp_calls_run.specs.declared.fault.RunFault.{RunFault}
+use Rattle.capnp_calls_run.specs.declared.fault.RunFault.TheVariants as faults
 use Rattle.capnp_model.proofs.lemmas.Lists.{length-take-short}
 use Rattle.capnp_relay_answers.specs.Bounds.{limits_view}
 use Rattle.capnp_relay_answers.specs.declared.bounds.Bounds.{Bounds}
 use Rattle.capnp_relay_loop.specs.MessageAnswers.{answer_view}
 use Rattle.capnp_relay_answers.specs.Answers.{AnswersRoot, AnswersStruct, AnswersWords, IsAnswered, MeansTree, LongFrom, LongFromWords, MakesTooLarge}
 use Rattle.capnp_relay_answers.specs.Reading.{ReadsValue, can_be_opened}
+use Rattle.capnp_relay_answers.specs.Sizes.{MayPassWords}
 use Rattle.capnp_relay_loop.specs.declared.answer.MessageAnswer.{MessageAnswer}
 use Rattle.capnp_relay_loop.specs.declared.answer.MessageAnswer.TheVariants as answers
 use Rattle.capnp_relay_loop.specs.declared.answer.Reason.TheVariants as reasons
@@ -130,7 +133,16 @@ module _ (schema : StructSchema) (calls : List Call) where
         → AnswersWords schema calls bounds.nesting (filled count old) into a → IsAnswered schema calls bounds s into a
     at_value old into count a r opens all = at_struct old into count a r opens (all (trim r.value) r.fits r.deep r.words)
 
-    pub too_large : (old : List (List ℕ)) (count : ℕ) → (r : ReadsValue bounds s old count) → can_be_opened (trim r.value) ≡ true → LongFromWords schema calls bounds.nesting (filled count old) → MakesTooLarge schema calls bounds s
-    too_large old count r opens long =
+    pub too_large : (old : List (List ℕ)) (count : ℕ) → (r : ReadsValue bounds s old count) → can_be_opened (trim r.value) ≡ true → LongFromWords schema calls bounds.nesting (filled count old) ⊎ MayPassWords schema calls bounds
+        → MakesTooLarge schema calls bounds s
+    too_large old count r opens (inl long) =
         let made = long (trim r.value) r.fits r.deep r.words in
-        subst (LongFrom schema calls) (sym r.within) (long_opened r.value opens (subst (LongInTurn schema calls) (sym (opened_is r.value)) made))
+        inl (subst (LongFrom schema calls) (sym r.within) (long_opened r.value opens (subst (LongInTurn schema calls) (sym (opened_is r.value)) made)))
+    too_large old count r opens (inr passes) = inr passes
+
+-- ---- what is wanted
+
+-- a run that is told as too large puts a long list, or its words may pass those of a message
+pub too_long : {Long Passes : Type 0} (f : RunFault) → (f ≡ faults.Size → Long) → (f ≡ faults.Size) ⊎ Passes → Long ⊎ Passes
+too_long f long (inl same) = inl (long same)
+too_long f long (inr passes) = inr passes

@@ -1,5 +1,5 @@
 -- What is answered to a message, in a buffer of words.
-use Rattle.std.specs.Prelude.{◌≡◌, ℕ, suc, pos, ◌^◌, ◌<◌, ◌≤◌, List, [], ◌∷◌, Option, Some, None, Result, Ok, Err, length, map, replicate, true, ⊤}
+use Rattle.std.specs.Prelude.{◌≡◌, ℕ, suc, pos, ◌^◌, ◌<◌, ◌≤◌, List, Option, Some, None, Result, Ok, Err, length, true, ⊤, ◌⊎◌}
 use Rattle.capnp_model.specs.Segments.{Segments, root}
 use Rattle.capnp_model.specs.Trees.{Tree, null, structure, depth}
 use Rattle.capnp_model.specs.Fits.{Fits}
@@ -7,30 +7,20 @@ use Rattle.capnp_model.specs.Encoding.{canonical_words}
 use Rattle.capnp_model.specs.Trimming.{trim}
 use Rattle.capnp_model.specs.Traversal.{tree_at}
 use Rattle.capnp_model.specs.Calls.{Call}
-use Rattle.capnp_model.specs.Answers.{Answer, reply_done, written, refused_value, refused_root, refused_depth, edits, opened_root, value_within, answer_struct, IsAnswer, widened_root}
+use Rattle.capnp_model.specs.Answers.{Answer, written, edits, opened_root, value_within, answer_struct, IsAnswer, widened_root}
 use Rattle.capnp_values_queries.specs.Structs.{schema_around, shape_of_struct, id_of}
 use Rattle.capnp_values_queries.specs.declared.structs.StructSchema.{StructSchema}
-use Rattle.capnp_calls.specs.Replies.{reply_view}
 use Rattle.capnp_calls.specs.LongLists.{LongInTurn}
 use Rattle.capnp_model.specs.Printing.{as_it_is}
-use Rattle.capnp_wire_canonical.specs.Writes.{filled}
 use Rattle.capnp_model_writes.specs.Footprints.{Owns}
-use Rattle.capnp_calls_run.specs.declared.fault.RunFault.{RunFault}
-use Rattle.capnp_calls_run.specs.declared.fault.RunFault.TheVariants as faults
 use Rattle.capnp_relay_loop.specs.MessageAnswers.{answer_view}
 use Rattle.capnp_relay_answers.specs.Bounds.{limits_view}
 use Rattle.capnp_relay_answers.specs.declared.bounds.Bounds.{Bounds}
 use Rattle.capnp_relay_answers.specs.Reading.{ReadsValue, can_be_opened}
+use Rattle.capnp_relay_answers.specs.Sizes.{MayPassWords}
 use Rattle.capnp_relay_loop.specs.declared.answer.Reason.{Reason}
-use Rattle.capnp_relay_loop.specs.declared.answer.Want.{Want}
-use Rattle.capnp_relay_loop.specs.declared.answer.Want.TheVariants as wants
 use Rattle.capnp_relay_loop.specs.declared.answer.MessageAnswer.{MessageAnswer}
 use Rattle.capnp_relay_loop.specs.declared.answer.MessageAnswer.TheVariants as answers
-
--- What is wanted where calls in turn end early.
-abbrev pub want_of : RunFault → Want
-want_of faults.Size = wants.Size
-want_of (faults.Refused e) = wants.Memory
 
 -- What is written is one segment at the front of a buffer, and has fewer words than 2^29.
 abbrev pub StandsAlone : List (List ℕ) → MessageAnswer → Type 0
@@ -85,9 +75,10 @@ LongFrom schema calls (Some null) = LongInTurn schema calls (opened_root (schema
 LongFrom schema calls (Some (structure words section kids)) = LongInTurn schema calls (opened_root (schema_around schema) (id_of schema) (structure words section kids))
 LongFrom schema calls (Some _) = ⊥
 
--- A call makes a message too large to be answered.
+-- A message can't be answered for its size: a call puts a list that is too long, or the message and
+-- its edits may take more words than a message has.
 abbrev pub MakesTooLarge : StructSchema → List Call → Bounds → Segments → Type 0
-MakesTooLarge schema calls bounds s = LongFrom schema calls (value_within (limits_view bounds) s)
+MakesTooLarge schema calls bounds s = LongFrom schema calls (value_within (limits_view bounds) s) ⊎ MayPassWords schema calls bounds
 
 -- A call puts such a list, where the calls start from the value with these canonical words.
 abbrev pub LongFromWords : StructSchema → List Call → ℕ → List ℕ → Type 0

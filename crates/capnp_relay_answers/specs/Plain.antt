@@ -1,5 +1,5 @@
 -- What is answered to a message in the plain form: the segments that were built, as they stand.
-use Rattle.std.specs.Prelude.{◌≡◌, ℕ, suc, pos, ◌*◌, ◌%◌, ◌^◌, ◌<◌, ◌≤◌, ◌⊎◌, List, [], ◌∷◌, Option, Some, length, All, ⊤}
+use Rattle.std.specs.Prelude.{◌≡◌, ℕ, suc, pos, ◌*◌, ◌%◌, ◌^◌, ◌<◌, ◌≤◌, ◌⊎◌, List, [], Option, Some, length, All, ⊤}
 use Rattle.capnp_model.specs.Segments.{Segments, root}
 use Rattle.capnp_model.specs.Trees.{Tree, depth}
 use Rattle.capnp_model.specs.Fits.{Fits}
@@ -17,6 +17,7 @@ use Rattle.capnp_model_writes.specs.Changes.{ZeroBeside}
 use Rattle.capnp_relay_loop.specs.MessageAnswers.{answer_view, StandsInBuffer}
 use Rattle.capnp_relay_loop.specs.declared.answer.MessageAnswer.{MessageAnswer}
 use Rattle.capnp_relay_answers.specs.Answers.{MakesTooLarge}
+use Rattle.capnp_relay_answers.specs.Sizes.{MayPassWords}
 use Rattle.capnp_relay_answers.specs.Bounds.{limits_view}
 use Rattle.capnp_relay_answers.specs.declared.bounds.Bounds.{Bounds}
 
@@ -87,9 +88,10 @@ pub record AnswersPlainStruct (schema : StructSchema) (calls : List Call) (nesti
   pub plain : WritesPlain nesting (edits (schema_around schema) (id_of schema) calls t) (answer_view into a)
   pub stands : StandsInBuffer into a
 
--- A call that starts from a struct puts a list that is too long, or what the calls make of it is built in more segments than go out.
-abbrev pub IsLongPlain : StructSchema → List Call → ℕ → Tree → Type 0
-IsLongPlain schema calls nesting t = LongInTurn schema calls t ⊎ AreTooMany nesting (edits (schema_around schema) (id_of schema) calls t)
+-- A call that starts from a struct puts a list that is too long, or so many words may be taken that
+-- they pass those of a message. Or what the calls make is built in more segments than go out.
+abbrev pub IsLongPlain : StructSchema → List Call → Bounds → Tree → Type 0
+IsLongPlain schema calls bounds t = (LongInTurn schema calls t ⊎ MayPassWords schema calls bounds) ⊎ AreTooMany bounds.nesting (edits (schema_around schema) (id_of schema) calls t)
 
 -- So it is with whatever value is owned alone at a message's root, a struct or null, as its schema opens it.
 abbrev pub AtRoot : StructSchema → ℕ → Segments → (Tree → Type 0) → Type 0

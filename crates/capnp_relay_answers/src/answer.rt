@@ -124,11 +124,12 @@ fn answer_over<L: Allocator, M: ReaderArena>(
         alloc,
         &mut builder,
         count,
-        bounds.nesting,
+        bounds,
         calls.schema,
         &calls.calls,
         words,
     );
+    // A message isn't dropped: this gives its memory back.
     let _allocator = builder.into_allocator();
     answered
 }
@@ -187,10 +188,13 @@ fn answer_unknown<M: ReaderArena>(
 /// message's own, it grows to a word more than the bounds allow. What is in it before doesn't
 /// matter.
 ///
-/// `Size`: a call that is done puts a text or data of 2^29 bytes or more with its last zero, or a
-/// list of structs of 2^29 words or more. `Memory`:
-/// - a growth was refused, by the system or since the words of the edited message would pass
-///   2^29 - 1;
+/// `Size`:
+/// - a call that is done puts a text or data of 2^29 bytes or more with its last zero, or a list of
+///   structs of 2^29 words or more;
+/// - the words of the edited message, those that calls abandon among them, would pass 2^29 - 1.
+///
+/// `Memory`:
+/// - a growth was refused;
 /// - the bounds allow more than 1,024 levels, and the value, or what the calls make of it, was
 ///   found to have more before any other fault was met;
 /// - a `get` would print more than 1,024 structs, groups and lists in one another.

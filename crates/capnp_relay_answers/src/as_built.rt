@@ -139,7 +139,7 @@ fn written_as_built<M: ReaderArena>(
 fn answer_plain_root<A: BuilderArena>(
     alloc: Global,
     arena: &mut A,
-    levels: u32,
+    bounds: Bounds,
     schema: StructSchema<'_>,
     calls: &[Resolved<'_>],
     words: &mut Vec<Word>,
@@ -148,10 +148,11 @@ fn answer_plain_root<A: BuilderArena>(
     requires there { is_some (words_at (words_in (A.segments arena.old)) root 1) ≡ true }
     requires root { IsRoot schema }
     requires resolved { AreResolved schema calls.now }
-    ensures all { IfOk result (λ a. AtRoot schema.entry levels (words_in (A.segments arena.old))
+    ensures all { let levels = bounds.nesting in
+        IfOk result (λ a. AtRoot schema.entry levels (words_in (A.segments arena.old))
         (λ t. AnswersPlainStruct schema.entry (calls_of calls.now) levels words.new.items t a)) }
-    ensures size { result ≡ Err Want.Size → AtRoot schema.entry levels
-        (words_in (A.segments arena.old)) (IsLongPlain schema.entry (calls_of calls.now) levels) }
+    ensures size { result ≡ Err Want.Size → AtRoot schema.entry bounds.nesting
+        (words_in (A.segments arena.old)) (IsLongPlain schema.entry (calls_of calls.now) bounds) }
     ensures books { A.books arena.new ≡ A.books arena.old }
 {
     changes_of_values();
@@ -160,9 +161,9 @@ fn answer_plain_root<A: BuilderArena>(
     values_that_are_read();
     let replies = match run_root(alloc, arena, schema, calls) {
         Ok(replies) => replies,
-        Err(fault) => return Err(want_after(fault)),
+        Err(fault) => return Err(want_after(fault, schema, calls, bounds)),
     };
-    let keeps = keeps_levels(arena, levels)?;
+    let keeps = keeps_levels(arena, bounds.nesting)?;
     if !keeps {
         return Ok(MessageAnswer::Refused(Reason::Depth));
     }
@@ -176,7 +177,7 @@ fn answer_plain_built<A: Allocator>(
     alloc: Global,
     builder: &mut Builder<A>,
     count: usize,
-    levels: u32,
+    bounds: Bounds,
     schema: StructSchema<'_>,
     calls: &[Resolved<'_>],
     words: &mut Vec<Word>,
@@ -185,10 +186,11 @@ fn answer_plain_built<A: Allocator>(
     requires count { (0 < count) × (count < 2 ^ 29) × (count ≤ length words.old.items) }
     requires root { IsRoot schema }
     requires resolved { AreResolved schema calls.now }
-    ensures all { IfOk result (λ a. AtWords schema.entry levels (filled count words.old.items)
+    ensures all { let levels = bounds.nesting in
+        IfOk result (λ a. AtWords schema.entry levels (filled count words.old.items)
         (λ t. AnswersPlainStruct schema.entry (calls_of calls.now) levels words.new.items t a)) }
-    ensures size { result ≡ Err Want.Size → AtWords schema.entry levels
-        (filled count words.old.items) (IsLongPlain schema.entry (calls_of calls.now) levels) }
+    ensures size { result ≡ Err Want.Size → AtWords schema.entry bounds.nesting
+        (filled count words.old.items) (IsLongPlain schema.entry (calls_of calls.now) bounds) }
     ensures place { A.place builder.new.memory.arena.allocator
         ≡ A.place builder.old.memory.arena.allocator }
     ensures loans { loans_held builder.new.memory.arena
@@ -200,7 +202,7 @@ fn answer_plain_built<A: Allocator>(
     answer_plain_root(
         alloc,
         &mut builder.memory.arena,
-        levels,
+        bounds,
         schema,
         calls,
         words,
@@ -235,7 +237,7 @@ fn answer_plain_over<L: Allocator, M: ReaderArena>(
         alloc,
         &mut builder,
         count,
-        bounds.nesting,
+        bounds,
         calls.schema,
         &calls.calls,
         words,

@@ -1,5 +1,6 @@
 //! The answer of calls to a value that is built.
-ghost use Rattle.std.specs.Prelude.{◌≡◌, ◌≤◌, ◌<◌, ◌^◌, true, length, Err, IfOk, ◌++◌, []};
+ghost use Rattle.std.specs.Prelude.{◌≡◌, ◌⊎◌, ◌≤◌, ◌<◌, ◌^◌, true, length, Err, IfOk, ◌++◌, []};
+ghost use Rattle.capnp_calls_run.specs.declared.fault.RunFault.{RunFault};
 ghost use Rattle.std.specs.Option.{is_some};
 ghost use Rattle.std.specs.List.{flat_map};
 ghost use Rattle.capnp_model.specs.Segments.{root, words_at};
@@ -10,11 +11,14 @@ ghost use Rattle.capnp_copy_arenas.specs.Deep.{IsDeep};
 ghost use Rattle.capnp_message.specs.Built.{loans_held};
 ghost use Rattle.capnp_calls_run.specs.Runs.{EndsLongRoot};
 ghost use Rattle.capnp_relay_loop.specs.declared.answer.Want.{Want};
-ghost use Rattle.capnp_relay_answers.specs.Answers.{AnswersRoot, AnswersWords, LongFromWords, want_of};
+ghost use Rattle.capnp_relay_answers.specs.Answers.{AnswersRoot, AnswersWords, LongFromWords};
+ghost use Rattle.capnp_relay_answers.specs.Sizes.{MayPassWords};
 ghost use Rattle.capnp_wire_canonical.specs.Writes.{filled};
 
 use crate::answer::{MessageAnswer, Reason, Want};
+use crate::bounds::Bounds;
 use crate::reading::{STACK_LEVELS, make_room};
+use crate::sizes::may_pass_words;
 use capnp_calls::resolved::Resolved;
 use capnp_calls_run::fault::RunFault;
 use capnp_calls_run::root::run_root;
@@ -37,18 +41,33 @@ use capnp_wire_objects::arena::ReaderArena;
 use capnp_wire_objects::place::ROOT;
 use std::alloc::Global;
 
-/// What is wanted where calls in turn end early.
-pub(crate) fn want_after(fault: RunFault) -> Want
-    ensures { result ≡ want_of fault }
+/// What is wanted where calls in turn end early. `Size`: a call puts a list that is too long, or
+/// the message's words pass 2^29 - 1, and so many may be taken. `Memory`: memory was refused.
+pub(crate) fn want_after(
+    fault: RunFault,
+    schema: StructSchema<'_>,
+    calls: &[Resolved<'_>],
+    bounds: Bounds,
+) -> Want
+    ensures { result ≡ Want.Size → (fault ≡ RunFault.Size)
+        ⊎ MayPassWords schema.entry (calls_of calls.now) bounds }
 {
     match fault {
         RunFault::Size => Want::Size,
-        RunFault::Refused(_) => Want::Memory,
+        RunFault::Refused(e) => {
+            if e.kind == ErrorKind::SizeOverflow && may_pass_words(schema, calls, bounds) {
+                return Want::Size;
+            }
+            Want::Memory
+        }
     }
 }
 
 /// Answers calls in turn at the root of a message, a struct or null that takes no word twice. The
 /// canonical words of what it becomes are written into a buffer.
+///
+/// `Size`: a call puts a list that is too long, or the words of the message and its edits pass
+/// 2^29 - 1.
 ///
 /// `Memory`: a growth was refused, or what it becomes has more than `STACK_LEVELS` levels, where
 /// more are allowed. Or a `get` would print more than 1,024 structs, groups and lists in one
@@ -57,7 +76,7 @@ pub(crate) fn want_after(fault: RunFault) -> Want
 fn answer_root<A: BuilderArena>(
     alloc: Global,
     arena: &mut A,
-    levels: u32,
+    bounds: Bounds,
     schema: StructSchema<'_>,
     calls: &[Resolved<'_>],
     words: &mut Vec<Word>,
@@ -66,10 +85,10 @@ fn answer_root<A: BuilderArena>(
     requires there { is_some (words_at (words_in (A.segments arena.old)) root 1) ≡ true }
     requires root { IsRoot schema }
     requires resolved { AreResolved schema calls.now }
-    ensures all { IfOk result (AnswersRoot schema.entry (calls_of calls.now) levels
+    ensures all { IfOk result (AnswersRoot schema.entry (calls_of calls.now) bounds.nesting
         (words_in (A.segments arena.old)) words.new.items) }
     ensures size { result ≡ Err Want.Size → EndsLongRoot (words_in (A.segments arena.old))
-        schema.entry (calls_of calls.now) }
+        schema.entry (calls_of calls.now) ⊎ MayPassWords schema.entry (calls_of calls.now) bounds }
     ensures books { A.books arena.new ≡ A.books arena.old }
 {
     changes_of_values();
@@ -80,15 +99,15 @@ fn answer_root<A: BuilderArena>(
     words_mean_their_value();
     let replies = match run_root(alloc, arena, schema, calls) {
         Ok(replies) => replies,
-        Err(fault) => return Err(want_after(fault)),
+        Err(fault) => return Err(want_after(fault, schema, calls, bounds)),
     };
     make_room(words, arena.size_in_words())?;
     let mut unlimited = ReadLimiter::new(None);
-    let most = levels.min(STACK_LEVELS);
+    let most = bounds.nesting.min(STACK_LEVELS);
     match write_canonical(arena, &mut unlimited, ROOT, most, words.as_mut_slice()) {
         Ok(count) => Ok(MessageAnswer::Written { count, replies }),
         Err(e) => match e.kind {
-            ErrorKind::NestingLimitExceeded if most == levels => {
+            ErrorKind::NestingLimitExceeded if most == bounds.nesting => {
                 Ok(MessageAnswer::Refused(Reason::Depth))
             }
             _ => Err(Want::Memory),
@@ -103,7 +122,7 @@ pub(crate) fn answer_built<A: Allocator>(
     alloc: Global,
     builder: &mut Builder<A>,
     count: usize,
-    levels: u32,
+    bounds: Bounds,
     schema: StructSchema<'_>,
     calls: &[Resolved<'_>],
     words: &mut Vec<Word>,
@@ -112,10 +131,11 @@ pub(crate) fn answer_built<A: Allocator>(
     requires count { (0 < count) × (count < 2 ^ 29) × (count ≤ length words.old.items) }
     requires root { IsRoot schema }
     requires resolved { AreResolved schema calls.now }
-    ensures all { IfOk result (AnswersWords schema.entry (calls_of calls.now) levels
+    ensures all { IfOk result (AnswersWords schema.entry (calls_of calls.now) bounds.nesting
         (filled count words.old.items) words.new.items) }
     ensures size { result ≡ Err Want.Size → LongFromWords schema.entry (calls_of calls.now)
-        levels (filled count words.old.items) }
+        bounds.nesting (filled count words.old.items)
+        ⊎ MayPassWords schema.entry (calls_of calls.now) bounds }
     ensures place { A.place builder.new.memory.arena.allocator
         ≡ A.place builder.old.memory.arena.allocator }
     ensures loans { loans_held builder.new.memory.arena
@@ -127,7 +147,7 @@ pub(crate) fn answer_built<A: Allocator>(
     answer_root(
         alloc,
         &mut builder.memory.arena,
-        levels,
+        bounds,
         schema,
         calls,
         words,

@@ -12,3 +12,4 @@ mod near;
 mod reading;
 pub mod root_calls;
 mod several;
+mod sizes;

@@ -40,13 +40,14 @@ pub enum MessageAnswer {
 /// Why no answer was made.
 #[derive(Clone, Copy, Debug, PartialEq, Eq)]
 pub enum Want {
-    /// - A growth was refused: by the system, or since the words of one message, those that calls
-    /// abandon among them, would pass 2^29 - 1.
+    /// - A growth was refused.
     /// - Or a value has more than 1,024 levels, where more are allowed.
     /// - Or a `get` would print more than 1,024 structs, groups and lists in one another.
     Memory,
     /// A call puts a text or data of 2^29 bytes or more with its last zero, or a list of structs of
-    /// 2^29 words or more. Or a message that goes out as it is built has more than 511 segments.
+    /// 2^29 words or more. Or the words of one message in memory, those that calls abandon among
+    /// them, would pass 2^29 - 1. Or a message that goes out as it is built has more than 511
+    /// segments.
     Size,
 }
 

@@ -25,14 +25,16 @@ pub enum Fault {
     /// The log refused a line.
     #[error("log")]
     Log,
-    /// - A growth was refused: by the system, or since the words of one message in memory, those
-    /// that calls abandon among them, would pass 2^29 - 1.
+    /// - A growth was refused.
     /// - Or a value has more than 1,024 levels, where more are allowed.
     /// - Or a `get` would print more than 1,024 structs, groups and lists in one another.
     #[error("memory")]
     Memory,
-    /// A call puts a text, data or list that is too long for a message. Or a message in the plain
-    /// form has more than 511 segments, or its number would pass its bound.
+    /// - A call puts a text, data or list that is too long for a message.
+    /// - Or the words of one message in memory, those that calls abandon among them, would pass
+    /// 2^29 - 1.
+    /// - Or a message in the plain form has more than 511 segments, or its number would pass its
+    /// bound.
     #[error("size")]
     Size,
 }

@@ -51,11 +51,12 @@ use std::alloc::Global;
 /// The run ends before the end of input, and what was written before stands:
 /// - `Framing`: what is left of the source begins with no message;
 /// - `Source`, `Out`, `Log`: the device failed, or a slice was too short;
-/// - `Memory`: a growth was refused, by the system or since the words of one message in memory,
-///   those that calls abandon among them, would pass 2^29 - 1;
+/// - `Memory`: a growth was refused;
 /// - `Memory` too: a value has more than 1,024 levels, where more are allowed;
 /// - `Size`: a call puts a text or data of 2^29 bytes or more with its last zero, or a list of
 ///   structs of 2^29 words or more;
+/// - `Size` too: the words of one message in memory, those that calls abandon among them, would
+///   pass 2^29 - 1;
 /// - `Size` too: a message in the plain form has more than 511 segments, or it is message number
 ///   2^64.
 pub fn relay<R: BufRead, W: Write, L: Write>(

@@ -13,8 +13,8 @@ returns-clause-all g c =
     let counted = length_filled c.args.count c.args.words.now.items in
     let few = c.requires.count.1 in
     let laws = c.canonical_words_in_place.ensures in
-    IfOk-weaker c.answer_plain_root.result _ _ (λ a h. at_plain_words c.args.schema (λ t. AnswersPlainStruct c.args.schema (calls_of c.args.calls.now) c.args.levels c.answer_plain_root.new.words.items t a)
-    laws.owned laws.takes c.args.levels _ (filled c.args.count c.args.words.now.items) (c.in_ok-set_words.ensures.words ∙ front) (omega (arith, counted, few)) h) c.answer_plain_root.ensures.all
+    IfOk-weaker c.answer_plain_root.result _ _ (λ a h. at_plain_words c.args.schema (λ t. AnswersPlainStruct c.args.schema (calls_of c.args.calls.now) c.args.bounds.nesting c.answer_plain_root.new.words.items t a)
+    laws.owned laws.takes c.args.bounds.nesting _ (filled c.args.count c.args.words.now.items) (c.in_ok-set_words.ensures.words ∙ front) (omega (arith, counted, few)) h) c.answer_plain_root.ensures.all
 
 pub returns-clause-size : goal.returns-clause-size
 returns-clause-size g c err =
@@ -22,5 +22,5 @@ returns-clause-size g c err =
     let counted = length_filled c.args.count c.args.words.now.items in
     let few = c.requires.count.1 in
     let laws = c.canonical_words_in_place.ensures in
-    at_plain_words c.args.schema (IsLongPlain c.args.schema (calls_of c.args.calls.now) c.args.levels)
-    laws.owned laws.takes c.args.levels _ (filled c.args.count c.args.words.now.items) (c.in_ok-set_words.ensures.words ∙ front) (omega (arith, counted, few)) (c.answer_plain_root.ensures.size err)
+    at_plain_words c.args.schema (IsLongPlain c.args.schema (calls_of c.args.calls.now) c.args.bounds)
+    laws.owned laws.takes c.args.bounds.nesting _ (filled c.args.count c.args.words.now.items) (c.in_ok-set_words.ensures.words ∙ front) (omega (arith, counted, few)) (c.answer_plain_root.ensures.size err)

@@ -1,9 +1,8 @@
-use Rattle.std.proofs.Common.{arith, ◌≡◌, ◌+◌, ◌*◌, ◌/◌, ◌++◌, [], ◌∷◌, List, ℕ, length, take, refl, sym, ap, ◌∙◌, subst}
-use Rattle.std.proofs.lemmas.List.{length-map, length-append}
-use Rattle.std.proofs.lemmas.Option.{slice_get_within}
+use Rattle.std.proofs.Common.{arith, ◌≡◌, ◌+◌, ◌*◌, ◌/◌, [], ◌∷◌, length, take, refl, sym, ap, subst}
+use Rattle.std.proofs.lemmas.List.{length-append}
 use Rattle.capnp_relay_loop.specs.MessageAnswers.{each_segment_bytes}
 use Rattle.capnp_relay_answers.specs.Plain.{CopiesSegments}
-use Rattle.capnp_relay_answers.proofs.Copies.{copies_none, copies_more, copies_all, counted, segment_gone}
+use Rattle.capnp_relay_answers.proofs.Copies.{copies_more, copies_all, counted, segment_gone}
 use Rattle.capnp_relay_answers.proofs.as_built.copy_segments.Goals as goal
 
 pub loop-bytes-preserved : goal.loop-bytes-preserved

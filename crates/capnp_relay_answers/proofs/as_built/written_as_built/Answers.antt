@@ -1,4 +1,4 @@
-use Rattle.std.proofs.Common.{arith, ◌≡◌, ◌<◌, ◌^◌, [], ◌∷◌, List, ℕ, length, map, sym, ap, ◌∙◌, subst}
+use Rattle.std.proofs.Common.{arith, ◌<◌, ◌^◌, [], ◌∷◌, List, ℕ, length, map, sym, ap, ◌∙◌, subst}
 use Rattle.std.specs.Prelude.{All}
 use Rattle.capnp_model.specs.Answers.{written}
 use Rattle.capnp_units.specs.Segments.{words_in}

@@ -1,4 +1,4 @@
-use Rattle.std.proofs.Common.{ℕ, List, [], ◌∷◌, take, ap, ◌∙◌, arith}
+use Rattle.std.proofs.Common.{ℕ, inl, inr, List, [], ◌∷◌, take, ap, ◌∙◌, arith}
 use Rattle.std.proofs.lemmas.Result.{IfOk-weaker}
 use Rattle.capnp_calls.specs.Resolved.{calls_of}
 use Rattle.capnp_wire_canonical.specs.Writes.{filled, words_view}
@@ -10,11 +10,14 @@ returns-clause-all g c =
     let front = ap (λ (ws : List (List ℕ)). words_view (take c.args.count ws) ∷ []) c.deref.ensures.value ∙ ap (λ (ws : List ℕ). ws ∷ []) (view_front c.args.count c.args.words.now.items) in
     let counted = length_filled c.args.count c.args.words.now.items in
     let few = c.requires.count.1 in
-    IfOk-weaker c.answer_root.result _ _ (λ a h. at_words c.args.schema (calls_of c.args.calls.now) c.canonical_words_in_place.ensures.owned c.args.levels _ (filled c.args.count c.args.words.now.items) c.answer_root.new.words.items a (c.in_ok-set_words.ensures.words ∙ front) (omega (arith, counted, few)) h) c.answer_root.ensures.all
+    IfOk-weaker c.answer_root.result _ _ (λ a h. at_words c.args.schema (calls_of c.args.calls.now) c.canonical_words_in_place.ensures.owned c.args.bounds.nesting _ (filled c.args.count c.args.words.now.items) c.answer_root.new.words.items a (c.in_ok-set_words.ensures.words ∙ front) (omega (arith, counted, few)) h) c.answer_root.ensures.all
 
 pub returns-clause-size : goal.returns-clause-size
 returns-clause-size g c err =
     let front = ap (λ (ws : List (List ℕ)). words_view (take c.args.count ws) ∷ []) c.deref.ensures.value ∙ ap (λ (ws : List ℕ). ws ∷ []) (view_front c.args.count c.args.words.now.items) in
     let counted = length_filled c.args.count c.args.words.now.items in
     let few = c.requires.count.1 in
-    long_words c.args.schema (calls_of c.args.calls.now) c.canonical_words_in_place.ensures.owned c.args.levels _ (filled c.args.count c.args.words.now.items) (c.in_ok-set_words.ensures.words ∙ front) (omega (arith, counted, few)) (c.answer_root.ensures.size err)
+    elim (c.answer_root.ensures.size err) [
+      | inl long ↦ inl (long_words c.args.schema (calls_of c.args.calls.now) c.canonical_words_in_place.ensures.owned c.args.bounds.nesting _ (filled c.args.count c.args.words.now.items) (c.in_ok-set_words.ensures.words ∙ front) (omega (arith, counted, few)) long)
+      | inr passes ↦ inr passes
+    ]

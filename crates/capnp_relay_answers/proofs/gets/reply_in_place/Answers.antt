@@ -1,6 +1,5 @@
 use Rattle.std.proofs.Common.{◌≡◌, List, ℕ, [], ◌∷◌, map, take, ap, sym, ◌∙◌, arith}
 use Rattle.std.specs.List.{flat_map}
-use Rattle.capnp_model.specs.Segments.{Segments}
 use Rattle.capnp_units.specs.Segments.{words_in}
 use Rattle.capnp_calls.specs.Replies.{reply_view}
 use Rattle.capnp_calls.specs.Resolved.{calls_of}
