@@ -16,7 +16,7 @@ import time
 
 from world_devices import SENT, failing, leaving
 from world_growths import build, growths
-from world_inputs import cuts, large, limits, many, nested, printed, trickle
+from world_inputs import abandoned, cuts, large, limits, many, nested, printed, trickle
 from world_runs import Failure, stored_runs
 
 # Every so manieth run is cut, and has its growths refused, one of many messages more often. A pipe holds fewer bytes.
@@ -41,7 +41,7 @@ def inputs(program, runs, _folder):
 
 def sizes(program, _runs, _folder):
     """What is large, and what is many."""
-    return [functools.partial(part, program, None) for part in (large, many, limits, nested, printed)]
+    return [functools.partial(part, program, None) for part in (large, many, limits, nested, printed, abandoned)]
 
 
 def refusals(program, runs, folder):

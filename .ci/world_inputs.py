@@ -331,3 +331,20 @@ def printed(program, _run):
             if got != wanted:
                 raise Failure(f"{len(given)} bytes, {form}, {calls}: {str(got)[-300:]}, and not {str(wanted)[-300:]}")
     return {"values printed by a get on a stack of 1 MiB": 2 * len(runs), "in one another at most": PRINTED}
+
+
+# A list of so many numbers of 64 bits takes a quarter of the words that a message may have in memory, with the word that they lack.
+QUARTER = 2**27
+LIST = [{"id": 1, "name": "P", "data": 1, "pointers": 1, "fields": [{"name": "l", "type": {"list": "UInt64"}, "offset": 0}]}]
+
+
+def abandoned(program, _run):
+    """Lists that calls make and abandon: three quarters of a message's words, which are answered, and four, which are too many."""
+    given, clear = frame([(0, 1 << 16 | 1), (7, 0), (0, 0)]), {"path": ["l"], "verb": "clear"}
+    made, out = {"path": ["l"], "verb": "initn", "size": QUARTER}, frame([(0, 1), (7, 0)])
+    runs = {3: Ran(0, out, b"message 1 written" + b"; done" * 4 + b"\n"), 4: Ran(1, b"", b"fault: size\n")}
+    for count, wanted in runs.items():
+        got = on_little_stack(program, "framed", {"calls": [made] * count + [clear]}, given, LIST)
+        if got != wanted:
+            raise Failure(f"{count} lists of {QUARTER} numbers: {str(got)[-300:]}, and not {str(wanted)[-300:]}")
+    return {"runs that abandon lists": len(runs), "words abandoned": 3 * QUARTER}

@@ -24,7 +24,7 @@ use Rattle.capnp_relay_answers.specs.declared.bounds.Bounds.{Bounds}
 use Rattle.capnp_relay_loop.specs.MessageAnswers.{answer_view}
 use Rattle.capnp_relay_answers.specs.Answers.{AnswersRoot, AnswersStruct, AnswersWords, IsAnswered, MeansTree, LongFrom, LongFromWords, MakesTooLarge}
 use Rattle.capnp_relay_answers.specs.Reading.{ReadsValue, can_be_opened}
-use Rattle.capnp_relay_answers.specs.Sizes.{MayPassWords}
+use Rattle.capnp_relay_answers.specs.Sizes.{EndsBySize, MayPassWords}
 use Rattle.capnp_relay_loop.specs.declared.answer.MessageAnswer.{MessageAnswer}
 use Rattle.capnp_relay_loop.specs.declared.answer.MessageAnswer.TheVariants as answers
 use Rattle.capnp_relay_loop.specs.declared.answer.Reason.TheVariants as reasons
@@ -143,6 +143,6 @@ module _ (schema : StructSchema) (calls : List Call) where
 -- ---- what is wanted
 
 -- a run that is told as too large puts a long list, or its words may pass those of a message
-pub too_long : {Long Passes : Type 0} (f : RunFault) → (f ≡ faults.Size → Long) → (f ≡ faults.Size) ⊎ Passes → Long ⊎ Passes
-too_long f long (inl same) = inl (long same)
-too_long f long (inr passes) = inr passes
+pub too_long : {Long : Type 0} (schema : StructSchema) (calls : List Call) (bounds : Bounds) (f : RunFault) → (f ≡ faults.Size → Long) → EndsBySize f schema calls bounds → Long ⊎ MayPassWords schema calls bounds
+too_long schema calls bounds faults.Size long ends = inl (long refl)
+too_long schema calls bounds (faults.Refused e) long ends = inr ends.1

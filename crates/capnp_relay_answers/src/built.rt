@@ -1,6 +1,5 @@
 //! The answer of calls to a value that is built.
-ghost use Rattle.std.specs.Prelude.{◌≡◌, ◌⊎◌, ◌≤◌, ◌<◌, ◌^◌, true, length, Err, IfOk, ◌++◌, []};
-ghost use Rattle.capnp_calls_run.specs.declared.fault.RunFault.{RunFault};
+ghost use Rattle.std.specs.Prelude.{◌≡◌, ◌⊎◌, ◌↔◌, ◌≤◌, ◌<◌, ◌^◌, true, length, Err, IfOk, ◌++◌, []};
 ghost use Rattle.std.specs.Option.{is_some};
 ghost use Rattle.std.specs.List.{flat_map};
 ghost use Rattle.capnp_model.specs.Segments.{root, words_at};
@@ -12,7 +11,7 @@ ghost use Rattle.capnp_message.specs.Built.{loans_held};
 ghost use Rattle.capnp_calls_run.specs.Runs.{EndsLongRoot};
 ghost use Rattle.capnp_relay_loop.specs.declared.answer.Want.{Want};
 ghost use Rattle.capnp_relay_answers.specs.Answers.{AnswersRoot, AnswersWords, LongFromWords};
-ghost use Rattle.capnp_relay_answers.specs.Sizes.{MayPassWords};
+ghost use Rattle.capnp_relay_answers.specs.Sizes.{EndsBySize, MayPassWords};
 ghost use Rattle.capnp_wire_canonical.specs.Writes.{filled};
 
 use crate::answer::{MessageAnswer, Reason, Want};
@@ -49,8 +48,8 @@ pub(crate) fn want_after(
     calls: &[Resolved<'_>],
     bounds: Bounds,
 ) -> Want
-    ensures { result ≡ Want.Size → (fault ≡ RunFault.Size)
-        ⊎ MayPassWords schema.entry (calls_of calls.now) bounds }
+    ensures { (result ≡ Want.Size)
+        ↔ EndsBySize fault schema.entry (calls_of calls.now) bounds }
 {
     match fault {
         RunFault::Size => Want::Size,

@@ -1,9 +1,9 @@
 //! How many words of memory a message and its edits may take.
-ghost use Rattle.std.specs.Prelude.{◌≡◌, ◌≤◌, ◌<◌, ◌^◌, true, map, sum_by};
+ghost use Rattle.std.specs.Prelude.{◌≡◌, ◌↔◌, ◌≤◌, ◌<◌, ◌^◌, true, map, sum_by};
 ghost use Rattle.capnp_records.specs.NodeViews.{node_kind, node_of};
 ghost use Rattle.capnp_calls.specs.CallViews.{slot_value_view, action_view};
 ghost use Rattle.capnp_calls.specs.Resolved.{call_of, calls_of};
-ghost use Rattle.capnp_relay_answers.specs.Sizes.{words_of_kind, widest_struct, most_set, most_put, most_by, MayPassWords};
+ghost use Rattle.capnp_relay_answers.specs.Sizes.{words_of_kind, widest_struct, most_set, most_put, most_by, IsTold, MayPassWords};
 
 use crate::bounds::Bounds;
 use capnp_calls::resolved::Resolved;
@@ -48,9 +48,9 @@ fn widest_struct(nodes: &[NodeRecord]) -> u64
     most
 }
 
-/// At most so many words, or elements, of a value are told, 2^29 of more.
+/// At most so many words, or elements, are in a value; 2^29 where they are more.
 fn words_set(value: &SlotValue) -> u64
-    ensures most { result ≤ most_set (slot_value_view value.now) }
+    ensures told { IsTold (most_set (slot_value_view value.now)) result }
     ensures few { result ≤ 2 ^ 29 }
 {
     match value {
@@ -63,7 +63,7 @@ fn words_set(value: &SlotValue) -> u64
 
 /// The words, or elements, that an action puts.
 fn words_put(action: &Action) -> u64
-    ensures most { result ≤ most_put (action_view action.now) }
+    ensures told { IsTold (most_put (action_view action.now)) result }
     ensures few { result < 2 ^ 32 }
 {
     match action {
@@ -75,16 +75,16 @@ fn words_put(action: &Action) -> u64
 
 /// The words, or elements, that a call puts at the end of its path and on it.
 fn words_by(call: &Resolved<'_>) -> u64
-    ensures most { result ≤ most_by (call_of call.now) }
+    ensures told { IsTold (most_by (call_of call.now)) result }
     ensures few { result < 2 ^ 33 }
 {
     let steps = (call.path().len() as u64).min(WORDS >> STEP_BITS);
     words_put(call.action()) + (steps << STEP_BITS)
 }
 
-/// Those of each call, 2^29 of more.
+/// Those of all calls; 2^29 where they are more.
 fn words_by_all(calls: &[Resolved<'_>]) -> u64
-    ensures most { result ≤ sum_by most_by (calls_of calls.now) }
+    ensures told { IsTold (sum_by most_by (calls_of calls.now)) result }
     ensures few { result ≤ 2 ^ 29 }
 {
     let mut sum: u64 = 0;
@@ -101,7 +101,7 @@ pub(crate) fn may_pass_words(
     calls: &[Resolved<'_>],
     bounds: Bounds,
 ) -> bool
-    ensures { result ≡ true → MayPassWords schema.entry (calls_of calls.now) bounds }
+    ensures { (result ≡ true) ↔ MayPassWords schema.entry (calls_of calls.now) bounds }
 {
     let width = 4 + widest_struct(schema.set().nodes());
     let words = u64::from(bounds.words) + words_by_all(calls);

@@ -13,7 +13,7 @@ pub returns-in-Err-clause-size : goal.returns-in-Err-clause-size
 returns-in-Err-clause-size g c err =
     let told : c.want_after.result ≡ wants.Size = cc in
     plain_long (words_in (g.A.ReaderArena.segments c.args.arena.now)) c.args.schema (calls_of c.args.calls.now) c.args.bounds
-    (too_long c.in-Err.fault (λ same. c.in-Err.ensures.size (ap Err same)) (c.want_after.ensures told))
+    (too_long c.args.schema (calls_of c.args.calls.now) c.args.bounds c.in-Err.fault (λ same. c.in-Err.ensures.size (ap Err same)) (c.want_after.ensures.0 told))
 
 pub returns-then-not-keeps-clause-all : goal.returns-then-not-keeps-clause-all
 returns-then-not-keeps-clause-all g c =

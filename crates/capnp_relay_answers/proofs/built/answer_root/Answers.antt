@@ -18,7 +18,7 @@ use Rattle.capnp_relay_answers.proofs.built.answer_root.Goals as goal
 pub returns-in-Err-clause-size : goal.returns-in-Err-clause-size
 returns-in-Err-clause-size g c err =
     let told : c.want_after.result ≡ wants.Size = cc in
-    too_long c.in-Err.fault (λ same. c.in-Err.ensures.size (ap Err same)) (c.want_after.ensures told)
+    too_long c.args.schema (calls_of c.args.calls.now) c.args.bounds c.in-Err.fault (λ same. c.in-Err.ensures.size (ap Err same)) (c.want_after.ensures.0 told)
 
 pub returns-in-NestingLimitExceeded-clause-all : goal.returns-in-NestingLimitExceeded-clause-all
 returns-in-NestingLimitExceeded-clause-all g c =
