@@ -101,6 +101,8 @@ fn push_fields<A: ReaderArena>(
 
 /// Appends the text of the value of a field that is no union member, or the active one; n defaults
 /// may be entered. A null pointer is its default, which is entered, else the empty value.
+// Inlined, since a frame of its own would be taken of the stack by each struct in another.
+#[inline(always)]
 #[cycle(text)]
 pub(crate) fn push_member<A: ReaderArena>(
     reader: dynamic_struct::Reader<'_, A>,
