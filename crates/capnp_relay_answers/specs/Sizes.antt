@@ -41,8 +41,8 @@ abbrev pub words_at_most : StructSchema → List Call → Bounds → ℕ
 words_at_most schema calls bounds = (4 + widest_struct (nodes_around schema)) * (bounds.words + sum_by most_by calls)
 
 -- A sum is told, or, where it is 2^29 or more, that it is.
-abbrev pub IsTold : ℕ → ℕ → Type 0
-IsTold most told = (told ≡ most) ⊎ ((2 ^ 29 ≤ told) × (2 ^ 29 ≤ most))
+abbrev pub IsSumTold : ℕ → ℕ → Type 0
+IsSumTold most told = (told ≡ most) ⊎ ((2 ^ 29 ≤ told) × (2 ^ 29 ≤ most))
 
 -- So many words may be taken that they pass what a message may have in memory.
 abbrev pub MayPassWords : StructSchema → List Call → Bounds → Type 0

@@ -3,7 +3,7 @@ ghost use Rattle.std.specs.Prelude.{◌≡◌, ◌↔◌, ◌≤◌, ◌<◌, �
 ghost use Rattle.capnp_records.specs.NodeViews.{node_kind, node_of};
 ghost use Rattle.capnp_calls.specs.CallViews.{slot_value_view, action_view};
 ghost use Rattle.capnp_calls.specs.Resolved.{call_of, calls_of};
-ghost use Rattle.capnp_relay_answers.specs.Sizes.{words_of_kind, widest_struct, most_set, most_put, most_by, IsTold, MayPassWords};
+ghost use Rattle.capnp_relay_answers.specs.Sizes.{words_of_kind, widest_struct, most_set, most_put, most_by, IsSumTold, MayPassWords};
 
 use crate::bounds::Bounds;
 use capnp_calls::resolved::Resolved;
@@ -50,7 +50,7 @@ fn widest_struct(nodes: &[NodeRecord]) -> u64
 
 /// At most so many words, or elements, are in a value; 2^29 where they are more.
 fn words_set(value: &SlotValue) -> u64
-    ensures told { IsTold (most_set (slot_value_view value.now)) result }
+    ensures told { IsSumTold (most_set (slot_value_view value.now)) result }
     ensures few { result ≤ 2 ^ 29 }
 {
     match value {
@@ -63,7 +63,7 @@ fn words_set(value: &SlotValue) -> u64
 
 /// The words, or elements, that an action puts.
 fn words_put(action: &Action) -> u64
-    ensures told { IsTold (most_put (action_view action.now)) result }
+    ensures told { IsSumTold (most_put (action_view action.now)) result }
     ensures few { result < 2 ^ 32 }
 {
     match action {
@@ -75,7 +75,7 @@ fn words_put(action: &Action) -> u64
 
 /// The words, or elements, that a call puts at the end of its path and on it.
 fn words_by(call: &Resolved<'_>) -> u64
-    ensures told { IsTold (most_by (call_of call.now)) result }
+    ensures told { IsSumTold (most_by (call_of call.now)) result }
     ensures few { result < 2 ^ 33 }
 {
     let steps = (call.path().len() as u64).min(WORDS >> STEP_BITS);
@@ -84,7 +84,7 @@ fn words_by(call: &Resolved<'_>) -> u64
 
 /// Those of all calls; 2^29 where they are more.
 fn words_by_all(calls: &[Resolved<'_>]) -> u64
-    ensures told { IsTold (sum_by most_by (calls_of calls.now)) result }
+    ensures told { IsSumTold (sum_by most_by (calls_of calls.now)) result }
     ensures few { result ≤ 2 ^ 29 }
 {
     let mut sum: u64 = 0;
