@@ -131,6 +131,17 @@ def packing(runs):
     table(["", "unpack", "pack"], [[it, f"{cells[it, 'unpack']:.1f}", f"{cells[it, 'pack']:.1f}"] for it in ROOTS])
 
 
+def cars(runs):
+    """Instructions for each of Cap'n Proto's car sales."""
+    made = {}
+    for count in ("50", "5000"):
+        for work in ("build", "write", "read"):
+            made[count, work] = [runs.program([BENCH, "cars", work, count, rounds], "empty") for rounds in ("6", "1")]
+    cells = {it: (more.result()[0] - one.result()[0]) / 5 / int(it[0]) for it, (more, one) in made.items()}
+    rows = [[f"{count} cars", *(f"{cells[count, work]:,.0f}" for work in ("build", "write", "read"))] for count in ("50", "5000")]
+    table(["", "build", "build and write", "read and sum"], rows)
+
+
 def streams(runs, peers):
     """Instructions for each byte of input, of the relay and of its peers, and of the relay where it writes the plain form."""
     set_a = runs.calls("set a", [SET_A])
@@ -193,6 +204,7 @@ def main(folder, *peers):
     """Prints all tables."""
     runs = Runs(folder)
     packing(runs)
+    cars(runs)
     streams(runs, [os.path.abspath(it) for it in peers])
     tool(runs)
     paths(runs)
