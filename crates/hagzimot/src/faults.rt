@@ -61,7 +61,7 @@ fn reason(fault: Fault) -> &'static str {
         Fault::Out => "the output can't be written",
         Fault::Log => "the log can't be written",
         Fault::Memory => "there is no memory for it",
-        Fault::Size => "what would be written is too large for a message",
+        Fault::Size => "what its calls make is too large for a message",
     }
 }
 
