@@ -1,19 +1,48 @@
 //! The bits of floats that texts spell.
+ghost use Rattle.std.specs.Prelude.{◌≡◌, ℕ, ◌<◌, ◌≤◌, true, false, Some, List, ◌++◌, codes, IfSome, option_and_then};
+ghost use Rattle.std.specs.Char.{is_ascii_hexdigit};
+ghost use Rattle.std.specs.List.{list_all};
+ghost use Rattle.std.specs.Float.{binary32, binary64};
+ghost use Rattle.std.specs.Float.Parse.{parse_float};
+ghost use Rattle.hagzimot_floats.specs.Bits.{is_decimal, finite_bits, number_of_hex, nan_of_hex, IsFloatWord};
 
 use crate::float_text::{INFINITY_32, INFINITY_64, NAN_32, NAN_64, SIGN_32, SIGN_64};
 use std::num::{f32_to_bits_with_nan, f64_to_bits_with_nan};
 
-/// The number that so many hex digits spell behind `nan:`.
-fn payload(text: &str, digits: usize) -> Option<u64> {
-    let hex = text.strip_prefix("nan:")?;
-    if hex.len() != digits || !hex.bytes().all(|byte| byte.is_ascii_hexdigit()) {
+/// Whether a text is hex digits.
+fn are_hex_digits(text: &str) -> bool
+    ensures { result ≡ list_all is_ascii_hexdigit text.now }
+{
+    text.bytes().all(|byte| byte.is_ascii_hexdigit())
+}
+
+/// The number that so many hex digits spell.
+fn number_of_hex(hex: &str, digits: usize) -> Option<u64>
+    requires some { 0 < digits }
+    requires few { digits ≤ 16 }
+    ensures { result ≡ number_of_hex digits hex.now }
+{
+    if hex.len() != digits || !are_hex_digits(hex) {
         return None;
     }
     u64::from_str_radix(hex, 16).ok()
 }
 
+/// The number that so many hex digits spell behind `nan:`.
+fn payload(text: &str, digits: usize) -> Option<u64>
+    requires some { 0 < digits }
+    requires few { digits ≤ 16 }
+    ensures number { (hex : List ℕ) → text.now ≡ codes "nan:" ++ hex
+        → result ≡ number_of_hex digits hex }
+    ensures word { IfSome result (λ _. IsFloatWord text.now) }
+{
+    number_of_hex(text.strip_prefix("nan:")?, digits)
+}
+
 /// Whether a text begins with a digit, behind a minus or not.
-fn is_decimal(text: &str) -> bool {
+fn is_decimal(text: &str) -> bool
+    ensures { result ≡ is_decimal text.now }
+{
     match text.as_bytes() {
         [b'-', first, ..] => first.is_ascii_digit(),
         [first, ..] => first.is_ascii_digit(),
@@ -24,7 +53,16 @@ fn is_decimal(text: &str) -> bool {
 /// The bits of the float of 32 bits that a text spells. It is the nearest to a decimal number, as
 /// `1.5` or `-2e10`, or what `Float32` writes for people. `None` where it spells none, or a number
 /// past the greatest.
-pub fn float32_bits(text: &str) -> Option<u32> {
+pub fn float32_bits(text: &str) -> Option<u32>
+    ensures infinity { text.now ≡ codes "inf" → result ≡ Some 0x7f80_0000 }
+    ensures negative { text.now ≡ codes "-inf" → result ≡ Some 0xff80_0000 }
+    ensures nan { text.now ≡ codes "nan" → result ≡ Some 0x7fc0_0000 }
+    ensures number { is_decimal text.now ≡ true
+        → result ≡ option_and_then (finite_bits binary32) (parse_float binary32 text.now) }
+    ensures payload { (hex : List ℕ) → text.now ≡ codes "nan:" ++ hex
+        → result ≡ nan_of_hex 8 0x8000_0000 0x7f80_0000 hex }
+    ensures word { is_decimal text.now ≡ false → IfSome result (λ _. IsFloatWord text.now) }
+{
     match text {
         "inf" => return Some(INFINITY_32),
         "-inf" => return Some(SIGN_32 + INFINITY_32),
@@ -48,7 +86,16 @@ pub fn float32_bits(text: &str) -> Option<u32> {
 }
 
 /// The same for the float of 64 bits that a text spells, as `Float64` writes it.
-pub fn float64_bits(text: &str) -> Option<u64> {
+pub fn float64_bits(text: &str) -> Option<u64>
+    ensures infinity { text.now ≡ codes "inf" → result ≡ Some 0x7ff0_0000_0000_0000 }
+    ensures negative { text.now ≡ codes "-inf" → result ≡ Some 0xfff0_0000_0000_0000 }
+    ensures nan { text.now ≡ codes "nan" → result ≡ Some 0x7ff8_0000_0000_0000 }
+    ensures number { is_decimal text.now ≡ true
+        → result ≡ option_and_then (finite_bits binary64) (parse_float binary64 text.now) }
+    ensures payload { (hex : List ℕ) → text.now ≡ codes "nan:" ++ hex
+        → result ≡ nan_of_hex 16 0x8000_0000_0000_0000 0x7ff0_0000_0000_0000 hex }
+    ensures word { is_decimal text.now ≡ false → IfSome result (λ _. IsFloatWord text.now) }
+{
     match text {
         "inf" => return Some(INFINITY_64),
         "-inf" => return Some(SIGN_64 + INFINITY_64),

@@ -1,4 +1,5 @@
 //! The form of calls files.
+ghost use Rattle.std.specs.Prelude.{IfNone, IsUtf8};
 
 use crate::schema_form::is_hex;
 use serde::Deserialize;
@@ -123,6 +124,8 @@ struct CallsFile {
 
 /// What is wrong with the form of a calls file, with line and column; `None` where nothing of it is
 /// seen here.
-pub fn calls_form_fault(alloc: Global, bytes: &[u8]) -> Option<Error> {
+pub fn calls_form_fault(alloc: Global, bytes: &[u8]) -> Option<Error>
+    ensures { IfNone result (IsUtf8 bytes.now) }
+{
     serde_json::from_slice::<CallsFile>(alloc, bytes).err()
 }

@@ -1,4 +1,5 @@
 //! The form of renames files.
+ghost use Rattle.std.specs.Prelude.{IfNone, IsUtf8};
 
 use serde::Deserialize;
 use serde_json::Error;
@@ -18,6 +19,8 @@ struct Renaming {
 
 /// What is wrong with the form of a renames file, with line and column; `None` where nothing of it
 /// is seen here.
-pub fn renames_form_fault(alloc: Global, bytes: &[u8]) -> Option<Error> {
+pub fn renames_form_fault(alloc: Global, bytes: &[u8]) -> Option<Error>
+    ensures { IfNone result (IsUtf8 bytes.now) }
+{
     serde_json::from_slice::<Vec<Renaming>>(alloc, bytes).err()
 }

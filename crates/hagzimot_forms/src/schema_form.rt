@@ -1,4 +1,5 @@
 //! The form of schema files.
+ghost use Rattle.std.specs.Prelude.{IfNone, IsUtf8};
 
 use crate::ids::Id;
 use serde::Deserialize;
@@ -185,6 +186,8 @@ impl TryFrom<NodeKeys> for Node {
 
 /// What is wrong with the form of a schema file, with line and column; `None` where nothing of it
 /// is seen here.
-pub fn schema_form_fault(alloc: Global, bytes: &[u8]) -> Option<Error> {
+pub fn schema_form_fault(alloc: Global, bytes: &[u8]) -> Option<Error>
+    ensures { IfNone result (IsUtf8 bytes.now) }
+{
     serde_json::from_slice::<Vec<Node>>(alloc, bytes).err()
 }

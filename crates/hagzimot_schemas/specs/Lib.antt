@@ -1,3 +1,4 @@
 pub mod SchemaForms
+pub mod JsonText
 pub mod Nodes
 pub mod Rules

@@ -1,4 +1,6 @@
 //! Parts of JSON texts.
+ghost use Rattle.std.specs.Fmt.{WritesOnOk};
+ghost use Rattle.hagzimot_schemas.specs.JsonText.{char_told};
 
 use std::fmt;
 use std::fmt::{Display, Formatter, Write};
@@ -8,7 +10,9 @@ use std::fmt::{Display, Formatter, Write};
 pub struct Quoted<'a>(pub &'a str);
 
 /// Writes a character of a text.
-pub fn put_char<W: Write>(c: char, f: &mut Formatter<W>) -> fmt::Result {
+pub fn put_char<W: Write>(c: char, f: &mut Formatter<W>) -> fmt::Result
+    ensures { WritesOnOk W.write_str_gives f.old result (char_told c) f.new }
+{
     match c {
         '"' => f.write_str("\\\""),
         '\\' => f.write_str("\\\\"),

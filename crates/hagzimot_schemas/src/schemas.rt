@@ -299,9 +299,9 @@ pub struct RootedSchema {
 }
 
 impl RootedSchema {
-    ghost use Rattle.std.specs.Prelude.{◌≡◌, Some, IfOk};
-    ghost use Rattle.capnp_records.specs.Sets.{nodes_of};
-    ghost use Rattle.capnp_values_queries.specs.Structs.{nodes_around};
+    ghost use Rattle.std.specs.Prelude.{◌≡◌, ℕ, Some, IfOk};
+    ghost use Rattle.capnp_records.specs.Sets.{nodes_of, IsStructOf};
+    ghost use Rattle.capnp_values_queries.specs.Structs.{nodes_around, id_of};
     ghost use Rattle.capnp_calls.specs.Roots.{IsRoot};
     ghost use Rattle.capnp_relay_requests.specs.Floats.{float_told};
     ghost use Rattle.hagzimot_schemas.specs.SchemaForms.{nodes_told, floats_of_file};
@@ -338,13 +338,18 @@ impl RootedSchema {
     pub fn root(&self) -> StructSchema<'_>
         ensures nodes { nodes_around result ≡ nodes_of self.now.set }
         ensures known { IsRoot result }
+        ensures id { id_of result ≡ self.now.root.id }
     {
         struct_is_node();
         StructSchema::new(&self.set, self.root)
     }
 
     /// The id of the root.
-    pub fn root_id(&self) -> u64 {
+    pub fn root_id(&self) -> u64
+        ensures id { result ≡ self.now.root.id }
+        ensures known { (number : ℕ)
+            × IsStructOf (nodes_of self.now.set) (record { number = number; id = result }) }
+    {
         self.root.id
     }
 
