@@ -2,4 +2,5 @@ mod Copied
 mod Within
 mod Missteps
 mod Walks
+mod Fronts
 mod Lasts

@@ -26,3 +26,13 @@ pub walked_whole : (nodes : List NodeRecord) (at : Landing) (left : List Step) �
 unfolding walked
 walked_whole nodes at [] none = refl
 walked_whole nodes at (s ∷ left) none = absurd (omega (arith, none))
+
+-- a path with a misstep leads nowhere
+pub misses_none : (nodes : List NodeRecord) (at : Landing) (path : List ModelStep) (e : Misstep) → Misses nodes at path e → walked nodes at path ≡ None
+unfolding walked Misses
+misses_none nodes at [] e misses = absurd misses
+misses_none nodes at (s ∷ path) e misses = by (stepped nodes at s) (λ next. misses_none nodes next path e) misses
+  where
+    by : (o : Option Landing) → ((next : Landing) → Misses nodes next path e → walked nodes next path ≡ None) → elim o as (λ x. Type 0) [ None ↦ IsMisstep nodes at s e | Some next ↦ Misses nodes next path e ] → (o >>= λ next. walked nodes next path) ≡ None
+    by None rest h = refl
+    by (Some next) rest h = rest next h

@@ -1,4 +1,6 @@
 //! Calls files that give floats as decimal numbers.
+ghost use Rattle.std.specs.Prelude.{◌≡◌, ◌≢◌, None, IfOk, IfErr, IsUtf8};
+ghost use Rattle.hagzimot_commands.specs.FloatReplies.{json_calls, IsFloatCallsTrouble};
 
 use crate::float_fields::is_float_at;
 use crate::paths::{Landing, Misstep, landing_from};
@@ -62,6 +64,10 @@ pub enum FloatCallsTrouble {
 }
 
 impl From<AllocError> for FloatCallsTrouble {
+    ghost use Rattle.hagzimot_commands.specs.declared.float_calls.FloatCallsTrouble.{FloatCallsTrouble};
+
+    ghost from_gives = { λ _ e. e ≡ FloatCallsTrouble.Memory };
+
     fn from(_e: AllocError) -> FloatCallsTrouble {
         FloatCallsTrouble::Memory
     }
@@ -147,7 +153,11 @@ impl FloatRoot<'_> {
 
     /// The text of a calls file in which each value `{"float": X}` is `{"number": N}`, with the
     /// bits of the float.
-    pub fn as_bits(self, alloc: Global, bytes: &[u8]) -> Result<Vec<u8>, FloatCallsTrouble> {
+    pub fn as_bits(self, alloc: Global, bytes: &[u8]) -> Result<Vec<u8>, FloatCallsTrouble>
+        ensures read { IfOk result (λ _. json_calls bytes.now ≢ None) }
+        ensures text { IfOk result (λ told. IsUtf8 told.items) }
+        ensures refused { IfErr result (IsFloatCallsTrouble bytes.now) }
+    {
         let mut json = match Json::from_slice(alloc, bytes) {
             Ok(json) => json,
             Err(e) if e.is_memory() => return Err(FloatCallsTrouble::Memory),

@@ -1,4 +1,8 @@
 //! Replies of calls, in which floats are told as decimal numbers.
+ghost use Rattle.std.specs.Prelude.{◌≡◌, map, option_map, string_bytes, IfOk, OnOk};
+ghost use Rattle.capnp_calls.specs.CallViews.{step_view, call_view};
+ghost use Rattle.hagzimot_commands.specs.Paths.{struct_landing, walked};
+ghost use Rattle.hagzimot_commands.specs.FloatReplies.{fields_placed, holder_placed, reply_at, in_front, Extends};
 
 use crate::float_fields::is_float_at;
 use crate::paths::{Landing, Misstep, element_there, id_there, landing_at, landing_from};
@@ -39,13 +43,12 @@ pub struct FloatReplies {
 }
 
 /// The fields of a node.
-fn holder_of(
-    alloc: Global,
-    node: &NodeRecord,
-    floats: &[FloatField],
-) -> Result<Holder, AllocError> {
+fn holder_of(alloc: Global, node: &NodeRecord, floats: &[FloatField]) -> Result<Holder, AllocError>
+    ensures { IfOk result (λ holder. holder_placed holder ≡ fields_placed node.now) }
+{
+    let told = fields_of(node);
     let mut fields = Vec::new(alloc);
-    for (index, field) in fields_of(node).iter().enumerate() {
+    for (index, field) in told.iter().enumerate() {
         let is_float = floats.iter().any(|float| float.node == node.id
             && float.index as usize == index);
         fields.push(NamedPlace {
@@ -63,13 +66,17 @@ fn holder_of(
 }
 
 /// What stands where a path leads, if it leads anywhere.
+#[tactic(auto, using(crate::proofs::Walks::misses_none))]
 fn place_of(
     alloc: Global,
     nodes: &[NodeRecord],
     floats: &[FloatField],
     root: u64,
     path: &[Step],
-) -> Result<Option<Place>, AllocError> {
+) -> Result<Option<Place>, AllocError>
+    ensures { IfOk result (λ place. option_map (λ p. p.at) place
+        ≡ walked nodes.now (struct_landing root) (map step_view path.now)) }
+{
     let at = match landing_from(alloc, nodes, root, path) {
         Ok(at) => at,
         Err(Misstep::Memory) => return Err(AllocError),
@@ -89,7 +96,12 @@ impl FloatReplies {
         floats: &[FloatField],
         root: u64,
         calls: &[Call],
-    ) -> Result<FloatReplies, AllocError> {
+    ) -> Result<FloatReplies, AllocError>
+        ensures holders { IfOk result (λ told.
+            map holder_placed told.holders.items ≡ map fields_placed nodes.now) }
+        ensures calls { IfOk result (λ told. map (option_map (λ p. p.at)) told.calls.items
+            ≡ map (λ c. reply_at nodes.now root (call_view c)) calls.now) }
+    {
         let mut holders = Vec::new(alloc);
         for node in nodes {
             holders.push(holder_of(alloc, node, floats)?)?;
@@ -109,7 +121,12 @@ impl FloatReplies {
 
     /// The line of a message, with decimal numbers for the bits of floats. An error where a growth
     /// was refused.
-    pub fn line(&self, alloc: Global, line: &str) -> Result<String, AllocError> {
+    #[tactic(auto, using(crate::proofs::Fronts::fronts))]
+    pub fn line(&self, alloc: Global, line: &str) -> Result<String, AllocError>
+        ensures front { IfOk result (λ told. Extends (in_front line.now) (string_bytes told)) }
+        ensures whole { in_front line.now ≡ line.now
+            → IfOk result (λ told. string_bytes told ≡ line.now) }
+    {
         let Some((front, replies)) = line.split_once(';') else {
             return String::from_str(alloc, line);
         };
@@ -206,7 +223,10 @@ fn float_word(alloc: Global, place: Place, word: &str) -> Result<Option<String>,
 
 impl Teller<'_> {
     /// Writes the word that ends here, before a character: a float, a field's name or another.
-    fn end_word(&mut self, before: char) -> Result<(), AllocError> {
+    #[tactic(auto, using(crate::proofs::Fronts::fronts))]
+    fn end_word(&mut self, before: char) -> Result<(), AllocError>
+        ensures { OnOk result (Extends (string_bytes self.old.line) (string_bytes self.new.line)) }
+    {
         if self.word.is_empty() {
             return Ok(());
         }
@@ -230,7 +250,9 @@ impl Teller<'_> {
     }
 
     /// Takes a character that is in no text and between no angle brackets.
-    fn take_plain(&mut self, c: char) -> Result<(), AllocError> {
+    fn take_plain(&mut self, c: char) -> Result<(), AllocError>
+        ensures { OnOk result (self.new.line ≡ self.old.line) }
+    {
         match c {
             '(' => {
                 let holder = self.told.holder(self.place);
@@ -263,7 +285,10 @@ impl Teller<'_> {
     }
 
     /// Takes a character.
-    fn take(&mut self, c: char) -> Result<(), AllocError> {
+    #[tactic(auto, using(crate::proofs::Fronts::fronts))]
+    fn take(&mut self, c: char) -> Result<(), AllocError>
+        ensures { OnOk result (Extends (string_bytes self.old.line) (string_bytes self.new.line)) }
+    {
         match (self.mode, c) {
             (Mode::Plain, '(' | ')' | '[' | ']' | ',' | ';' | '"' | '<' | ' ' | '\n') => {
                 self.end_word(c)?;

@@ -2,6 +2,7 @@
 ghost use Rattle.std.specs.Prelude.{◌≡◌, true, IfErr, OnOk, map};
 ghost use Rattle.capnp_model.specs.Calls.{set_to};
 ghost use Rattle.capnp_calls.specs.CallViews.{step_view, slot_value_view, action_view, call_view};
+ghost use Rattle.hagzimot_commands.specs.Sorts.{sort_told};
 ghost use Rattle.hagzimot_commands.specs.Strict.{numbers_of, is_number_among, base_takes_number, base_takes, is_whole_message, has_sort_of, is_in_type, is_in_range_there, is_struct_there, is_many_there, is_index, ends_with_index, can_take, IsMisfitThere, CouldBeTaken, IsMisfit};
 
 use crate::paths::{Landing, Misstep, landing_from};
@@ -37,7 +38,9 @@ pub enum Misfit {
 }
 
 /// The name of a plain type, or of the sort of any other.
-pub fn sort_of(ty: TypeRecord) -> &'static str {
+pub fn sort_of(ty: TypeRecord) -> &'static str
+    ensures { result.now ≡ sort_told ty }
+{
     if ty.list_count > 0 {
         return "a list";
     }

@@ -1,10 +1,12 @@
 //! Messages of a stream as text.
-ghost use Rattle.std.specs.Prelude.{◌≡◌, Ok, IfOk, IfErr};
+ghost use Rattle.std.specs.Prelude.{◌≡◌, ℕ, ◌<◌, ◌≤◌, true, Ok, IfOk, IfErr};
+ghost use Rattle.std.specs.Io.KnownBytes.{Keeps};
 ghost use Rattle.capnp_model.specs.Messages.{frame};
 ghost use Rattle.capnp_units.specs.Segments.{words_in};
 ghost use Rattle.capnp_stream.specs.Writing.{AreWritable};
 ghost use Rattle.capnp_relay_show.specs.Answers.{shown_by};
 ghost use Rattle.hagzimot_show.specs.Shown.{IsNotShown};
+ghost use Rattle.hagzimot_show.specs.Sinks.{GrowsAtEnd};
 
 use crate::laid_out::{Manner, laid_out};
 use crate::layout::Layout;
@@ -80,7 +82,10 @@ fn line_of(alloc: Global, number: u64, fault: ShowFault) -> Result<String, Fault
 }
 
 /// Writes bytes to a sink.
-fn put<W: Write>(sink: &mut W, bytes: &[u8], fault: Fault) -> Result<(), Fault> {
+#[tactic(auto, using(crate::proofs::Sinks::sinks))]
+fn put<W: Write>(sink: &mut W, bytes: &[u8], fault: Fault) -> Result<(), Fault>
+    ensures { GrowsAtEnd (W.contents sink.old) (W.contents sink.new) }
+{
     match sink.write_all(bytes) {
         Ok(()) => Ok(()),
         Err(e) if e.kind == ErrorKind::OutOfMemory => Err(Fault::Memory),
@@ -121,6 +126,7 @@ impl Shower<'_> {
 
     /// Writes the text of a message of this number, and a line feed; or a line to the log, where it
     /// can't be shown.
+    #[tactic(auto, using(crate::proofs::Sinks::sinks))]
     fn put_text<S: ReaderSegments, W: Write, L: Write>(
         &mut self,
         segments: &S,
@@ -129,6 +135,9 @@ impl Shower<'_> {
         log: &mut L,
     ) -> Result<(), Fault>
         requires { AreWritable (S.segments segments.now) }
+        ensures out { GrowsAtEnd (W.contents out.old) (W.contents out.new) }
+        ensures log { GrowsAtEnd (L.contents log.old) (L.contents log.new) }
+        ensures chosen { self.new.chosen ≡ self.old.chosen }
     {
         match self.text_of(segments) {
             Ok(text) => {
@@ -149,6 +158,7 @@ impl Shower<'_> {
 
     /// Reads the message of a number, and writes its text where it is chosen; false where no byte
     /// is left.
+    #[tactic(auto, using(crate::proofs::Sinks::sinks))]
     fn show_next<I: MessageForm, R: BufRead, W: Write, L: Write>(
         &mut self,
         buffer: &mut MessageBuffer,
@@ -156,7 +166,17 @@ impl Shower<'_> {
         source: &mut R,
         out: &mut W,
         log: &mut L,
-    ) -> Result<bool, Fault> {
+    ) -> Result<bool, Fault>
+        ensures out { GrowsAtEnd (W.contents out.old) (W.contents out.new) }
+        ensures log { GrowsAtEnd (L.contents log.old) (L.contents log.new) }
+        ensures chosen { self.new.chosen ≡ self.old.chosen }
+        ensures count_out { self.old.chosen.is_count ≡ true
+            → Keeps (W.contents out.old) (W.contents out.new) }
+        ensures count_log { self.old.chosen.is_count ≡ true
+            → Keeps (L.contents log.old) (L.contents log.new) }
+        ensures none_fails { self.old.chosen.is_count ≡ true
+            → self.new.counts.not_shown ≡ self.old.counts.not_shown }
+    {
         let limit = Some(self.manner.limits.words as usize);
         let segments = match buffer.try_read_message::<I, R>(source, limit) {
             Ok(Some(segments)) => segments,
@@ -175,12 +195,29 @@ impl Shower<'_> {
     }
 }
 
+/// Pauses before a read; no byte is given to a sink.
+#[tactic(auto, using(crate::proofs::Sinks::pausing))]
+fn pause<R: BufRead, W: Write, L: Write, P: Pause<R, W, L>>(
+    source: &R,
+    out: &mut W,
+    log: &mut L,
+) -> Result<(), Fault>
+    ensures out { Keeps (W.contents out.old) (W.contents out.new) }
+    ensures log { Keeps (L.contents log.old) (L.contents log.new) }
+{
+    match P::pause(source, out, log) {
+        Ok(()) => Ok(()),
+        Err(fault) => Err(fault),
+    }
+}
+
 /// Writes the texts of the chosen messages of the source, with a line feed behind each, or counts
 /// these messages alone. A message that can't be shown is a line of the log, `message N not shown:
 /// WHY`. None behind the last that is chosen is read. Before each read there is a pause.
 ///
 /// `Framing`: what is left of the source begins with no message. `Source`, `Out`, `Log`: the device
 /// failed, or a sink has no room. `Memory`: a growth was refused.
+#[tactic(auto, using(crate::proofs::Sinks::sinks))]
 pub fn show_all<I: MessageForm, R: BufRead, W: Write, L: Write, P: Pause<R, W, L>>(
     alloc: Global,
     source: &mut R,
@@ -188,7 +225,14 @@ pub fn show_all<I: MessageForm, R: BufRead, W: Write, L: Write, P: Pause<R, W, L
     log: &mut L,
     manner: Manner<'_>,
     chosen: Chosen,
-) -> Result<ShownCounts, StreamFault> {
+) -> Result<ShownCounts, StreamFault>
+    ensures out { GrowsAtEnd (W.contents out.old) (W.contents out.new) }
+    ensures log { GrowsAtEnd (L.contents log.old) (L.contents log.new) }
+    ensures count_out { chosen.is_count ≡ true → Keeps (W.contents out.old) (W.contents out.new) }
+    ensures count_log { chosen.is_count ≡ true → Keeps (L.contents log.old) (L.contents log.new) }
+    ensures counts { chosen.is_count ≡ true → IfOk result (λ n. n.not_shown ≡ 0) }
+    ensures number { IfErr result (λ e. (0 < e.number) × (e.number ≤ chosen.last)) }
+{
     let mut buffer = MessageBuffer::new(alloc);
     let counts = ShownCounts {
         shown: 0,
@@ -201,7 +245,7 @@ pub fn show_all<I: MessageForm, R: BufRead, W: Write, L: Write, P: Pause<R, W, L
         counts,
     };
     for number in 1..=chosen.last {
-        if let Err(fault) = P::pause(source, out, log) {
+        if let Err(fault) = pause::<R, W, L, P>(source, out, log) {
             return Err(StreamFault { fault, number });
         }
         match shower.show_next::<I, R, W, L>(&mut buffer, number, source, out, log) {

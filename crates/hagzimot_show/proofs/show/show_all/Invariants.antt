@@ -1,0 +1,15 @@
+-- the sinks so far
+use Rattle.std.proofs.Common.{◌≡◌, true}
+use Rattle.std.specs.Io.KnownBytes.{Keeps}
+use Rattle.hagzimot_show.specs.Sinks.{GrowsAtEnd}
+use Rattle.hagzimot_show.proofs.show.show_all.Given as goal
+
+abbrev pub invariant-loop-number : goal.invariant-loop-number
+invariant-loop-number g l = record {
+  out : GrowsAtEnd (g.W.Write.contents l.fn.out) (g.W.Write.contents l.out);
+  log : GrowsAtEnd (g.L.Write.contents l.fn.log) (g.L.Write.contents l.log);
+  chosen : l.shower.chosen ≡ l.fn.chosen;
+  count_out : l.fn.chosen.is_count ≡ true → Keeps (g.W.Write.contents l.fn.out) (g.W.Write.contents l.out);
+  count_log : l.fn.chosen.is_count ≡ true → Keeps (g.L.Write.contents l.fn.log) (g.L.Write.contents l.log);
+  counts : l.fn.chosen.is_count ≡ true → l.shower.counts.not_shown ≡ 0;
+}
