@@ -74,6 +74,21 @@ def nested(levels):
     return frame(b"".join(inner) + struct.pack("<IHHQ", 0, 1, 0, 1))
 
 
+def of_fields(count):
+    """A schema whose root has so many numbers of 64 bits, and a message with each."""
+    fields = [{"name": f"f{it}", "type": "UInt64", "offset": it} for it in range(count)]
+    message = frame(struct.pack("<IHH", 0, count, 0) + struct.pack(f"<{count}Q", *range(1, count + 1)))
+    return [{"id": 1, "name": "Fields", "data": count, "pointers": 0, "fields": fields}], message
+
+
+def of_links(count):
+    """A schema of a struct that leads to another such, and a message of so many in a chain."""
+    fields = [{"name": "a", "type": "UInt32", "offset": 0}, {"name": "next", "type": {"struct": 1}, "offset": 0}]
+    links = [struct.pack("<QIHH", it + 1, 0, 1, it + 2 < count) for it in range(count - 1)]
+    message = frame(struct.pack("<IHH", 0, 1, 1) + b"".join(links) + struct.pack("<Q", count))
+    return [{"id": 1, "name": "Link", "data": 1, "pointers": 1, "fields": fields}], message
+
+
 class Runs:
     """Runs of the program in a folder of their own."""
 
@@ -137,6 +152,20 @@ def costs(runs):
     for count in (1, 10, 100, 511):
         cost = runs.beyond(with_segments(count) * 10, nesting=1000) / 10
         print(f"{count} segments: {cost / count:.0f} instructions a segment of three words")
+    for levels in (10, 100, 1000):
+        cost = runs.beyond(nested(levels) * 100, (), nesting=1000) / 100
+        print(f"{levels} levels: {cost / levels:.0f} instructions a level")
+    for count in (1, 10, 100, 1000):
+        schema, message = of_fields(count)
+        runs.write("schema.json", json.dumps(schema).encode())
+        last = {"path": [f"f{count - 1}"], "verb": "set", "value": {"number": 7}}
+        cost = runs.beyond(message * 100, [last]) / 100
+        print(f"{count} fields, the last one set: {cost:.0f} instructions a message, {cost / count:.0f} a field")
+    schema, message = of_links(64)
+    runs.write("schema.json", json.dumps(schema).encode())
+    for steps in (1, 10, 60):
+        deep = {"path": ["next"] * (steps - 1) + ["a"], "verb": "set", "value": {"number": 7}}
+        print(f"a path of {steps} steps: {runs.beyond(message * 100, [deep]) / 100:.0f} instructions a message of 64 structs")
 
 
 def memory(runs):
