@@ -22,7 +22,7 @@ use Rattle.capnp_model.proofs.lemmas.Lists.{length-take-short}
 use Rattle.capnp_relay_answers.specs.Bounds.{limits_view}
 use Rattle.capnp_relay_answers.specs.declared.bounds.Bounds.{Bounds}
 use Rattle.capnp_relay_loop.specs.MessageAnswers.{answer_view}
-use Rattle.capnp_relay_answers.specs.Answers.{AnswersRoot, AnswersStruct, AnswersWords, IsAnswered, MeansTree, LongFrom, LongFromWords, MakesTooLarge}
+use Rattle.capnp_relay_answers.specs.Answers.{AnswersRoot, AnswersStruct, AnswersWords, IsAnswered, MeansTree, LongFrom, LongFromWords, IsTooLargeFrom, MakesTooLarge}
 use Rattle.capnp_relay_answers.specs.Reading.{ReadsValue, can_be_opened}
 use Rattle.capnp_relay_answers.specs.Sizes.{EndsBySize, MayPassWords}
 use Rattle.capnp_relay_loop.specs.declared.answer.MessageAnswer.{MessageAnswer}
@@ -133,8 +133,7 @@ module _ (schema : StructSchema) (calls : List Call) where
         → AnswersWords schema calls bounds.nesting (filled count old) into a → IsAnswered schema calls bounds s into a
     at_value old into count a r opens all = at_struct old into count a r opens (all (trim r.value) r.fits r.deep r.words)
 
-    pub too_large : (old : List (List ℕ)) (count : ℕ) → (r : ReadsValue bounds s old count) → can_be_opened (trim r.value) ≡ true → LongFromWords schema calls bounds.nesting (filled count old) ⊎ MayPassWords schema calls bounds
-        → MakesTooLarge schema calls bounds s
+    pub too_large : (old : List (List ℕ)) (count : ℕ) → (r : ReadsValue bounds s old count) → can_be_opened (trim r.value) ≡ true → IsTooLargeFrom schema calls bounds (filled count old) → MakesTooLarge schema calls bounds s
     too_large old count r opens (inl long) =
         let made = long (trim r.value) r.fits r.deep r.words in
         inl (subst (LongFrom schema calls) (sym r.within) (long_opened r.value opens (subst (LongInTurn schema calls) (sym (opened_is r.value)) made)))

@@ -84,3 +84,7 @@ MakesTooLarge schema calls bounds s = LongFrom schema calls (value_within (limit
 abbrev pub LongFromWords : StructSchema → List Call → ℕ → List ℕ → Type 0
 LongFromWords schema calls nesting words =
     (t : Tree) → Fits t → depth t ≤ nesting → words ≡ canonical_words t → LongInTurn schema calls (widened_root (shape_of_struct schema) t)
+
+-- Calls that start from the value with these canonical words can't be answered for their size.
+abbrev pub IsTooLargeFrom : StructSchema → List Call → Bounds → List ℕ → Type 0
+IsTooLargeFrom schema calls bounds words = LongFromWords schema calls bounds.nesting words ⊎ MayPassWords schema calls bounds

@@ -103,6 +103,14 @@ abbrev pub AtWords : StructSchema → ℕ → List ℕ → (Tree → Type 0) →
 AtWords schema nesting words Holds =
     (t : Tree) → Fits t → depth t ≤ nesting → words ≡ canonical_words t → Holds (widened_root (shape_of_struct schema) t)
 
+-- This is the plain answer of calls that start from whatever value is owned alone at a message's root.
+abbrev pub AnswersPlainRoot : StructSchema → List Call → ℕ → Segments → List (List ℕ) → MessageAnswer → Type 0
+AnswersPlainRoot schema calls nesting s into a = AtRoot schema nesting s (λ t. AnswersPlainStruct schema calls nesting into t a)
+
+-- This is the plain answer of calls that start from the value with these canonical words.
+abbrev pub AnswersPlainWords : StructSchema → List Call → ℕ → List ℕ → List (List ℕ) → MessageAnswer → Type 0
+AnswersPlainWords schema calls nesting words into a = AtWords schema nesting words (λ t. AnswersPlainStruct schema calls nesting into t a)
+
 -- Whole words, fewer than 2^29, as bytes.
 abbrev pub IsSmallSegment : List ℕ → Type 0
 IsSmallSegment bytes = (length bytes % 8 ≡ 0) × (length bytes < 8 * 2 ^ 29)

@@ -15,7 +15,7 @@ ghost use Rattle.capnp_message.specs.Built.{loans_held};
 ghost use Rattle.capnp_calls.specs.Replies.{reply_view};
 ghost use Rattle.capnp_relay_loop.specs.MessageAnswers.{each_segment_bytes};
 ghost use Rattle.capnp_relay_loop.specs.declared.answer.Want.{Want};
-ghost use Rattle.capnp_relay_answers.specs.Plain.{AtRoot, AtWords, AnswersPlainStruct, CopiesSegments, IsLongPlain, IsPlainAnswered, IsTooLargePlain, PutsOut};
+ghost use Rattle.capnp_relay_answers.specs.Plain.{AtRoot, AtWords, AnswersPlainRoot, AnswersPlainWords, CopiesSegments, IsLongPlain, IsPlainAnswered, IsTooLargePlain, PutsOut};
 ghost use Rattle.capnp_relay_answers.specs.RootCalls.{root_schema, root_calls};
 
 use crate::answer::{MessageAnswer, Reason, Want, read_root};
@@ -148,9 +148,8 @@ fn answer_plain_root<A: BuilderArena>(
     requires there { is_some (words_at (words_in (A.segments arena.old)) root 1) ≡ true }
     requires root { IsRoot schema }
     requires resolved { AreResolved schema calls.now }
-    ensures all { let levels = bounds.nesting in
-        IfOk result (λ a. AtRoot schema.entry levels (words_in (A.segments arena.old))
-        (λ t. AnswersPlainStruct schema.entry (calls_of calls.now) levels words.new.items t a)) }
+    ensures all { IfOk result (AnswersPlainRoot schema.entry (calls_of calls.now) bounds.nesting
+        (words_in (A.segments arena.old)) words.new.items) }
     ensures size { result ≡ Err Want.Size → AtRoot schema.entry bounds.nesting
         (words_in (A.segments arena.old)) (IsLongPlain schema.entry (calls_of calls.now) bounds) }
     ensures books { A.books arena.new ≡ A.books arena.old }
@@ -186,9 +185,8 @@ fn answer_plain_built<A: Allocator>(
     requires count { (0 < count) × (count < 2 ^ 29) × (count ≤ length words.old.items) }
     requires root { IsRoot schema }
     requires resolved { AreResolved schema calls.now }
-    ensures all { let levels = bounds.nesting in
-        IfOk result (λ a. AtWords schema.entry levels (filled count words.old.items)
-        (λ t. AnswersPlainStruct schema.entry (calls_of calls.now) levels words.new.items t a)) }
+    ensures all { IfOk result (AnswersPlainWords schema.entry (calls_of calls.now) bounds.nesting
+        (filled count words.old.items) words.new.items) }
     ensures size { result ≡ Err Want.Size → AtWords schema.entry bounds.nesting
         (filled count words.old.items) (IsLongPlain schema.entry (calls_of calls.now) bounds) }
     ensures place { A.place builder.new.memory.arena.allocator

@@ -10,7 +10,7 @@ ghost use Rattle.capnp_copy_arenas.specs.Deep.{IsDeep};
 ghost use Rattle.capnp_message.specs.Built.{loans_held};
 ghost use Rattle.capnp_calls_run.specs.Runs.{EndsLongRoot};
 ghost use Rattle.capnp_relay_loop.specs.declared.answer.Want.{Want};
-ghost use Rattle.capnp_relay_answers.specs.Answers.{AnswersRoot, AnswersWords, LongFromWords};
+ghost use Rattle.capnp_relay_answers.specs.Answers.{AnswersRoot, AnswersWords, IsTooLargeFrom};
 ghost use Rattle.capnp_relay_answers.specs.Sizes.{EndsBySize, MayPassWords};
 ghost use Rattle.capnp_wire_canonical.specs.Writes.{filled};
 
@@ -132,9 +132,8 @@ pub(crate) fn answer_built<A: Allocator>(
     requires resolved { AreResolved schema calls.now }
     ensures all { IfOk result (AnswersWords schema.entry (calls_of calls.now) bounds.nesting
         (filled count words.old.items) words.new.items) }
-    ensures size { result ≡ Err Want.Size → LongFromWords schema.entry (calls_of calls.now)
-        bounds.nesting (filled count words.old.items)
-        ⊎ MayPassWords schema.entry (calls_of calls.now) bounds }
+    ensures size { result ≡ Err Want.Size → IsTooLargeFrom schema.entry (calls_of calls.now)
+        bounds (filled count words.old.items) }
     ensures place { A.place builder.new.memory.arena.allocator
         ≡ A.place builder.old.memory.arena.allocator }
     ensures loans { loans_held builder.new.memory.arena
