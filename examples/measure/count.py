@@ -12,8 +12,12 @@ import re
 import subprocess
 import sys
 
-CRATES = os.path.join(os.path.dirname(os.path.abspath(__file__)), "../../crates")
-RELAY, TOOL, BENCH = (os.path.join(CRATES, it, "out", it) for it in ("capnp_relay_cli", "hagzimot", "bench"))
+HERE = os.path.dirname(os.path.abspath(__file__))
+sys.path.insert(0, os.path.dirname(HERE))
+from relay_program import frames, relay_program  # noqa: E402
+
+CRATES = os.path.join(HERE, "../../crates")
+RELAY, TOOL, BENCH = relay_program(), *(os.path.join(CRATES, it, "out", it) for it in ("hagzimot", "bench"))
 ROOTS = {"small": "1", "nested": "3", "large": "8", "far": "3"}
 SET_A = {"path": ["a"], "verb": "set", "value": {"number": 7}}
 PAID = {"path": ["status", "paid"], "verb": "set", "value": {"number": 7}}
@@ -73,7 +77,7 @@ class Runs:
         self.messages = {}
         for name in ROOTS:
             with open(f"{self.folder}/{name}.framed", "rb") as file:
-                self.messages[name] = frames(file.read())
+                self.messages[name] = sum(1 for _ in frames(file.read()))
 
     def stream(self, name):
         """The path of a file of the folder."""
@@ -99,17 +103,6 @@ class Runs:
     def program(self, words, given):
         """A run of another program."""
         return self.pool.submit(counted, words, self.stream(given))
-
-
-def frames(stream):
-    """How many framed messages there are."""
-    at = count = 0
-    while at < len(stream):
-        segments = int.from_bytes(stream[at : at + 4], "little") + 1
-        lengths = [int.from_bytes(stream[at + 4 * it : at + 4 * it + 4], "little") for it in range(1, segments + 1)]
-        at += (4 + 4 * segments + 7) // 8 * 8 + 8 * sum(lengths)
-        count += 1
-    return count
 
 
 def table(head, rows):
