@@ -1,16 +1,19 @@
 -- The hops by which paths go, step by step. (Encoding, "Structs" and "Lists")
-use Rattle.std.specs.Prelude.{◌≡◌, ℕ, ◌^◌, ◌<◌, Bool, true, false, ⊤, Option, None, List, [], ◌∷◌}
-use Rattle.capnp_model.specs.Schemas.{Ty, width, struct, list, Body, void_slot, plain_slot, pointer_slot, group_slot, Schema}
+use Rattle.std.specs.Prelude.{◌≡◌, ℕ, ◌^◌, ◌<◌, Bool, true, false, ⊤, Option, None, Some, List, [], ◌∷◌, ◌⊎◌}
+use Rattle.capnp_model.specs.Schemas.{Ty, width, struct, list, Shape, Body, void_slot, plain_slot, pointer_slot, group_slot, Schema}
 use Rattle.capnp_model.specs.Printing.{fields_in}
 use Rattle.capnp_model.specs.Calls.{Step, name, index, CallValue, Verb, set_to}
 use Rattle.capnp_model.specs.InKindCalls.{PathEnd, at_slot, at_value, nowhere}
 use Rattle.capnp_model.specs.Steps.{Target, no_target, target, target_of}
-use Rattle.capnp_values_queries.specs.Structs.{schema_around, fields_of_struct}
+use Rattle.capnp_values_queries.specs.Fields.{Entry, union_in}
+use Rattle.capnp_values_queries.specs.Structs.{schema_around, shape_of_struct}
 use Rattle.capnp_values_queries.specs.declared.structs.StructSchema.{StructSchema}
+use Rattle.capnp_calls_splice.specs.declared.plain.PlainSet.{PlainSet}
 use Rattle.capnp_calls_splice.specs.declared.splice.Hop.{Hop}
 use Rattle.capnp_calls_splice.specs.declared.splice.Hop.TheVariants as hops
 use Rattle.capnp_calls_splice.specs.declared.splice.Put.{Put}
-use Rattle.capnp_calls.specs.Splices.{IsPutOf, PathLeadsTo}
+use Rattle.capnp_calls_splice.specs.declared.splice.Put.TheVariants as puts
+use Rattle.capnp_calls.specs.Splices.{IsPutOf, MarksMember, IsNumberOf, PathLeadsTo}
 use Rattle.capnp_calls.specs.declared.splices.Onward.{Onward}
 use Rattle.capnp_calls.specs.declared.splices.Onward.TheVariants as ways
 
@@ -27,9 +30,15 @@ abbrev pub FindsAlone : Schema → Step → Ty → Type 0
 FindsAlone s (name n) (struct id) = IsAlone (target_of n (fields_in (s.shape_of id)))
 FindsAlone s _ _ = ⊤
 
--- Nor does it behind the pointer where a path stands.
+-- Nor does it in a group.
+abbrev pub FindsAloneIn : Shape → Step → Type 0
+FindsAloneIn g (name n) = IsAlone (target_of n (fields_in g))
+FindsAloneIn g (index k) = ⊤
+
+-- Nor does it where a path stands: in a group, or behind a pointer.
 abbrev pub StepsAlone : Schema → Step → PathEnd → Type 0
 StepsAlone s step (at_slot (pointer_slot i ty d)) = FindsAlone s step ty
+StepsAlone s step (at_slot (group_slot g)) = FindsAloneIn g step
 StepsAlone s step (at_slot _) = ⊤
 StepsAlone s step (at_value ty) = FindsAlone s step ty
 StepsAlone s step nowhere = ⊤
@@ -52,12 +61,21 @@ EndsSmall nowhere = ⊤
 -- A step makes the hop from the pointer slot of a type: a name to a struct, an index to an element of a list of structs.
 abbrev pub HopsFrom : Hop → ℕ → Ty → Step → Type 0
 HopsFrom (hops.Pointer i) j ty step = (id : ℕ) × (n : List ℕ) × (i ≡ j) × (ty ≡ struct id) × (step ≡ name n)
+HopsFrom hops.Group j ty step = ⊥
 HopsFrom (hops.Element i k) j ty step = (id : ℕ) × (i ≡ j) × (ty ≡ list (struct id)) × (step ≡ index k)
+
+-- A hop into a group is one by a name.
+abbrev pub EntersGroup : Hop → Step → Type 0
+EntersGroup hops.Group (name n) = ⊤
+EntersGroup hops.Group (index k) = ⊥
+EntersGroup (hops.Pointer i) step = ⊥
+EntersGroup (hops.Element i k) step = ⊥
 
 -- So a path goes on by a step from where it stands.
 abbrev pub GoesOn : Onward → PathEnd → Step → Type 0
 GoesOn ways.Here (at_value ty) (name n) = ⊤
 GoesOn (ways.Behind hop) (at_slot (pointer_slot i ty d)) step = HopsFrom hop i ty step
+GoesOn (ways.Behind hop) (at_slot (group_slot g)) step = EntersGroup hop step
 GoesOn ways.Astray _ _ = ⊤
 GoesOn _ _ _ = ⊥
 
@@ -73,6 +91,38 @@ hops_made ways.Here = []
 hops_made (ways.Behind hop) = hop ∷ []
 hops_made ways.Astray = []
 
+-- ---- members of unions
+
+-- The number is the discriminant of the member that is found in a struct with this union.
+abbrev pub MarksTarget : PlainSet → Option ℕ → Target → Type 0
+MarksTarget mark union no_target = ⊥
+MarksTarget mark union (target member body) = MarksMember mark union member
+
+-- It is that of the field at a place.
+abbrev pub MarksEntry : PlainSet → Option ℕ → Option Entry → Type 0
+MarksEntry mark union None = ⊥
+MarksEntry mark union (Some e) = MarksMember mark union e.member
+
+-- It is that of what a name finds in a struct or a group.
+abbrev pub MarksNamed : PlainSet → Shape → List ℕ → Type 0
+MarksNamed mark g n = MarksTarget mark (union_in g) (target_of n (fields_in g))
+
+-- It is that of what a step finds in a value of a type.
+abbrev pub MarksInto : Schema → PlainSet → Step → Ty → Type 0
+MarksInto s mark (name n) (struct id) = MarksNamed mark (s.shape_of id) n
+MarksInto s mark (name n) _ = ⊥
+MarksInto s mark (index k) ty = ⊥
+
+-- It is that of what a step finds from where a path stands.
+abbrev pub MarksStep : Schema → PlainSet → Step → PathEnd → Type 0
+MarksStep s mark step (at_value ty) = MarksInto s mark step ty
+MarksStep s mark step (at_slot (pointer_slot i ty d)) = MarksInto s mark step ty
+MarksStep s mark (name n) (at_slot (group_slot g)) = MarksNamed mark g n
+MarksStep s mark (index k) (at_slot (group_slot g)) = ⊥
+MarksStep s mark step (at_slot (void_slot j)) = ⊥
+MarksStep s mark step (at_slot (plain_slot q at d)) = ⊥
+MarksStep s mark step nowhere = ⊥
+
 -- ---- along a path
 
 -- A verb sets the slot where a path ends by what is put.
@@ -82,4 +132,18 @@ SetsAt put _ _ = ⊥
 
 -- By the hops a path leads from a struct to its end, whatever sets the slot there.
 abbrev pub LeadsToEnd : StructSchema → List Hop → List Step → PathEnd → Type 0
-LeadsToEnd root hops path at = (v : CallValue) (put : Put) → SetsAt put at (set_to v) → PathLeadsTo (schema_around root) v put hops (fields_of_struct root) path
+LeadsToEnd root hops path at = (v : CallValue) (put : Put) → SetsAt put at (set_to v) → PathLeadsTo (schema_around root) v put hops (shape_of_struct root) path
+
+-- A verb sets the slot of a member where a path ends by a number, if it has one.
+abbrev pub SetsMemberAt : Option PlainSet → PathEnd → Verb → Type 0
+SetsMemberAt p (at_slot body) (set_to v) = IsNumberOf p body v
+SetsMemberAt p _ _ = ⊥
+
+-- A splice sets what a path ends at: a slot that is no member, where the path is straight, or a member with its discriminant.
+abbrev pub SetsEnd : Put → Bool → Option PlainSet → PathEnd → Verb → Type 0
+SetsEnd put is_straight mark at verb = ((is_straight ≡ true) × SetsAt put at verb) ⊎ ((m : PlainSet) × (p : Option PlainSet) × (mark ≡ Some m) × (put ≡ puts.Member m p) × SetsMemberAt p at verb)
+
+-- By the hops a path leads to a member of a union with this discriminant, whatever sets its slot.
+abbrev pub LeadsToMember : StructSchema → List Hop → List Step → PathEnd → PlainSet → Type 0
+LeadsToMember root hops path at mark =
+    (v : CallValue) (p : Option PlainSet) → SetsMemberAt p at (set_to v) → PathLeadsTo (schema_around root) v (puts.Member mark p) hops (shape_of_struct root) path

@@ -2,7 +2,7 @@
 use Rattle.std.specs.Prelude.{◌≡◌, ◌^◌, ◌≤◌, ◌↔◌, Bool, true, false, List, [], ◌∷◌, map, ⊤, IfSome}
 use Rattle.std.specs.Coded.{Coded-set, coded_bool, le_prop, ×_prop, →_prop, Unit-prop}
 use Rattle.capnp_model.specs.Calls.{CallValue, set_to, Call}
-use Rattle.capnp_values_queries.specs.Structs.{schema_around, fields_of_struct}
+use Rattle.capnp_values_queries.specs.Structs.{schema_around, shape_of_struct}
 use Rattle.capnp_values_queries.specs.declared.structs.StructSchema.{StructSchema}
 use Rattle.capnp_calls.specs.CallViews.{call_view}
 use Rattle.capnp_calls.specs.LongLists.{content_put, sets_message}
@@ -40,7 +40,7 @@ AreResolved root (r ∷ rs) = IsResolved root r × AreResolved root rs
 
 -- The call sets a slot to a value by what is put, and its path leads to the slot by the hops.
 abbrev pub IsSpliceOf : StructSchema → Call → Splice → Type 0
-IsSpliceOf root c p = (v : CallValue) × (c.verb ≡ set_to v) × PathLeadsTo (schema_around root) v p.put p.hops.items (fields_of_struct root) c.path
+IsSpliceOf root c p = (v : CallValue) × (c.verb ≡ set_to v) × PathLeadsTo (schema_around root) v p.put p.hops.items (shape_of_struct root) c.path
 
 -- What is kept of that, if anything, is so under the schema of the root.
 abbrev pub KnowsSplice : StructSchema → Resolved → Type 0

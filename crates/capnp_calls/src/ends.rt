@@ -5,15 +5,17 @@ ghost use Rattle.capnp_model.specs.InKindCalls.{nowhere, end_at, step_into, next
 ghost use Rattle.capnp_model.specs.Steps.{target_of};
 ghost use Rattle.capnp_records.specs.Sets.{nodes_of};
 ghost use Rattle.capnp_values_queries.specs.Handles.{entry_of_field};
-ghost use Rattle.capnp_values_queries.specs.Structs.{nodes_around, schema_around, fields_of_struct};
+ghost use Rattle.capnp_values_queries.specs.Fields.{union_in};
+ghost use Rattle.capnp_values_queries.specs.Structs.{nodes_around, schema_around, fields_of_struct, shape_of_struct};
 ghost use Rattle.capnp_values_queries.specs.Types.{ty_of, is_type_of};
 ghost use Rattle.capnp_calls.specs.CallViews.{step_view};
 ghost use Rattle.capnp_calls.specs.Ends.{end_view, IsEndOf, IsStepFound};
-ghost use Rattle.capnp_calls.specs.Hops.{IsAlone, FindsAlone, StepsAlone, EndsSmall};
+ghost use Rattle.capnp_calls.specs.Hops.{IsAlone, FindsAlone, StepsAlone, EndsSmall, MarksEntry, MarksNamed, MarksInto, MarksStep};
 ghost use Rattle.capnp_calls.specs.Ways.{Finds};
 
 use crate::Step;
 use crate::find::FoundField;
+use capnp_calls_splice::plain::PlainSet;
 use capnp_records::node::NO_DISCRIMINANT;
 use capnp_records::set::SchemaSet;
 use capnp_values_queries::fields::Field;
@@ -40,6 +42,8 @@ pub(crate) struct Next<'a> {
     pub(crate) found: Option<FoundField>,
     /// Whether it leads to an element, or to a field that is no member of a union.
     pub(crate) is_alone: bool,
+    /// The discriminant, where it leads to a member.
+    pub(crate) mark: Option<PlainSet>,
 }
 
 /// Whether a field is no member of a union.
@@ -47,6 +51,25 @@ fn is_alone(field: Field<'_>) -> bool
     ensures { result ≡ true → option_map (λ e. e.member) (entry_of_field field.entry) ≡ Some None }
 {
     field.get_proto().discriminant_value == NO_DISCRIMINANT
+}
+
+/// The discriminant of a field in its struct's or group's data, where it is a member of the union
+/// there.
+fn mark_of(field: Field<'_>) -> Option<PlainSet>
+    ensures { IfSome result (λ mark. MarksEntry mark (union_in (shape_of_struct field.entry.parent))
+        (entry_of_field field.entry)) }
+{
+    let member = field.get_proto().discriminant_value;
+    if member == NO_DISCRIMINANT {
+        return None;
+    }
+    let offset = field.parent().discriminant_offset()?;
+    Some(PlainSet {
+        word: offset / 4,
+        shift: 16 * (offset % 4),
+        width: 16,
+        bits: u64::from(member),
+    })
 }
 
 /// Where a name leads from a struct or a group.
@@ -58,6 +81,8 @@ fn field_named<'a>(schema: StructSchema<'a>, name: &str) -> Next<'a>
     ensures found { IsSomeAnd result.found (Finds (schema_around schema.entry) name.now) }
     ensures alone { result.is_alone ≡ true
         → IsAlone (target_of name.now (fields_of_struct schema.entry)) }
+    ensures mark { IfSome result.mark
+        (λ mark. MarksNamed mark (shape_of_struct schema.entry) name.now) }
 {
     let node = schema.raw().id;
     match schema.get_field_by_name(name) {
@@ -67,12 +92,14 @@ fn field_named<'a>(schema: StructSchema<'a>, name: &str) -> Next<'a>
                 end: End::Slot(field.place()),
                 found: Some(FoundField { node, place }),
                 is_alone: is_alone(field),
+                mark: mark_of(field),
             }
         }
         Err(_) => Next {
             end: End::Nowhere,
             found: Some(FoundField { node, place: None }),
             is_alone: false,
+            mark: None,
         },
     }
 }
@@ -88,6 +115,8 @@ fn step_into<'a>(set: &'a SchemaSet, step: &Step, ty: Type) -> Next<'a>
         (end_view result.end) result.found }
     ensures alone { result.is_alone ≡ true
         → FindsAlone (schema_of (nodes_of set.now)) (step_view step.now) (ty_of ty) }
+    ensures mark { IfSome result.mark (λ mark.
+        MarksInto (schema_of (nodes_of set.now)) mark (step_view step.now) (ty_of ty)) }
 {
     match (step, ty.which()) {
         (Step::Name(name), TypeVariant::Struct(raw)) => {
@@ -97,11 +126,13 @@ fn step_into<'a>(set: &'a SchemaSet, step: &Step, ty: Type) -> Next<'a>
             end: End::Value(element),
             found: None,
             is_alone: true,
+            mark: None,
         },
         _ => Next {
             end: End::Nowhere,
             found: None,
             is_alone: false,
+            mark: None,
         },
     }
 }
@@ -117,6 +148,8 @@ pub(crate) fn next_end<'a>(set: &'a SchemaSet, step: &Step, end: End<'a>) -> Nex
         (end_view result.end) result.found }
     ensures alone { result.is_alone ≡ true
         → StepsAlone (schema_of (nodes_of set.now)) (step_view step.now) (end_view end.entry) }
+    ensures mark { IfSome result.mark (λ mark.
+        MarksStep (schema_of (nodes_of set.now)) mark (step_view step.now) (end_view end.entry)) }
     ensures begun { IfSome result.found (λ _. end_view end.entry ≢ nowhere) }
 {
     match (step, end) {
@@ -126,6 +159,7 @@ pub(crate) fn next_end<'a>(set: &'a SchemaSet, step: &Step, end: End<'a>) -> Nex
             end: End::Nowhere,
             found: None,
             is_alone: false,
+            mark: None,
         },
     }
 }

@@ -1,5 +1,5 @@
 //! Calls that are resolved under the schema of a root, once for all messages.
-ghost use Rattle.std.specs.Prelude.{◌≡◌, ◌++◌, true, map, IfOk, IfErr, OnOk};
+ghost use Rattle.std.specs.Prelude.{◌≡◌, ◌++◌, true, map, IfOk, IfErr, IfSome, OnOk};
 ghost use Rattle.capnp_units.specs.declared.kinds.ErrorKind.{ErrorKind};
 ghost use Rattle.capnp_model.specs.Schemas.{struct};
 ghost use Rattle.capnp_model.specs.InKindCalls.{at_value, end_of};
@@ -7,7 +7,7 @@ ghost use Rattle.capnp_values_queries.specs.Structs.{nodes_around, schema_around
 ghost use Rattle.capnp_calls.specs.CallViews.{step_view, action_view, call_view};
 ghost use Rattle.capnp_calls.specs.Ends.{end_view, IsEndOf, found_fields};
 ghost use Rattle.capnp_calls.specs.Ways.{IsWay};
-ghost use Rattle.capnp_calls.specs.Hops.{EndsSmall, LeadsToEnd};
+ghost use Rattle.capnp_calls.specs.Hops.{EndsSmall, LeadsToEnd, LeadsToMember};
 ghost use Rattle.capnp_calls.specs.Resolved.{calls_of, AreResolved, KnowSplices};
 
 use crate::ends::{End, next_end};
@@ -15,6 +15,7 @@ use crate::find::FoundField;
 use crate::long::puts_long_at;
 use crate::splices::{next_hop, note_hop, splice_to};
 use crate::{Action, Call, Step};
+use capnp_calls_splice::plain::PlainSet;
 use capnp_calls_splice::splice::{Hop, Splice};
 use capnp_units::errors::Result;
 use capnp_values_queries::introspect::{Type, TypeVariant};
@@ -29,9 +30,11 @@ struct Walk<'a> {
     end: End<'a>,
     /// The hops that it makes, where it is straight.
     hops: Vec<Hop>,
-    /// Whether it goes by way of structs and elements of lists of structs, and finds no member of a
-    /// union.
+    /// Whether it goes by way of structs, groups and elements of lists of structs, and finds no
+    /// member of a union.
     is_straight: bool,
+    /// The discriminant, where it goes so to a member of a union.
+    mark: Option<PlainSet>,
 }
 
 /// Adds what a step finds. `OutOfMemory`: the list can't grow.
@@ -56,16 +59,21 @@ fn walk_path<'a>(alloc: Global, root: StructSchema<'a>, path: &[Step]) -> Result
     ensures small { IfOk result (λ w. EndsSmall (end_view w.end)) }
     ensures leads { IfOk result (λ w. w.is_straight ≡ true
         → LeadsToEnd root.entry w.hops.items (map step_view path.now) (end_view w.end)) }
+    ensures member { IfOk result (λ w. IfSome w.mark
+        (LeadsToMember root.entry w.hops.items (map step_view path.now) (end_view w.end))) }
     ensures kind { IfErr result (λ e. e.kind ≡ ErrorKind.OutOfMemory) }
 {
     let mut fields = Vec::new(alloc);
     let mut hops = Vec::new(alloc);
     let mut is_straight = true;
+    let mut mark = None;
     let mut end = End::Value(Type::from(TypeVariant::Struct(root.raw())));
     for step in path {
         let next = next_end(root.set(), step, end);
         note(&mut fields, next.found)?;
-        is_straight = note_hop(&mut hops, is_straight, next_hop(end, step), next.is_alone)?;
+        let goes_on = note_hop(&mut hops, is_straight, next_hop(end, step))?;
+        is_straight = goes_on && next.is_alone;
+        mark = if goes_on { next.mark } else { None };
         end = next.end;
     }
     Ok(Walk {
@@ -73,6 +81,7 @@ fn walk_path<'a>(alloc: Global, root: StructSchema<'a>, path: &[Step]) -> Result
         end,
         hops,
         is_straight,
+        mark,
     })
 }
 
@@ -102,9 +111,10 @@ impl<'a> Resolved<'a> {
             end,
             hops,
             is_straight,
+            mark,
         } = walk_path(alloc, root, call.path())?;
         let is_long = puts_long_at(root.set(), end, call.action());
-        let splice = splice_to(alloc, hops, is_straight, end, call.action())?;
+        let splice = splice_to(alloc, hops, is_straight, mark, end, call.action())?;
         Ok(Resolved {
             call,
             fields,
@@ -155,9 +165,10 @@ impl<'a> Resolved<'a> {
 
     /// What it puts into canonical words where they stand, and by which hops from the root. `None`
     /// where
-    /// - it isn't the `set` of a plain field, a text or data, to a value of its type;
-    /// - its path goes elsewhere than by structs and elements of lists of structs;
-    /// - one of these fields is a member of a union or a group.
+    /// - it isn't the `set` of a plain field, a text or data, or of a member of a union that is
+    ///   plain or void, to a value of its type;
+    /// - its path goes elsewhere than by structs, groups and elements of lists of structs;
+    /// - a field before the last is a member of a union.
     #[inline]
     pub fn splice(&self) -> Option<&Splice>
         ensures { option_copied result ≡ self.now.splice }

@@ -1,5 +1,5 @@
 //! What calls put into canonical words where they stand, and by which hops it is reached.
-ghost use Rattle.std.specs.Prelude.{◌≡◌, ◌+◌, ◌*◌, ◌^◌, ◌<◌, ◌++◌, true, IfOk, IfErr, IfSome};
+ghost use Rattle.std.specs.Prelude.{◌≡◌, ◌+◌, ◌*◌, ◌^◌, ◌<◌, ◌++◌, true, Option, IfOk, IfErr, IfSome};
 ghost use Rattle.capnp_units.specs.declared.kinds.ErrorKind.{ErrorKind};
 ghost use Rattle.capnp_model.specs.Schemas.{width};
 ghost use Rattle.capnp_model.specs.Calls.{value_content, object};
@@ -7,8 +7,10 @@ ghost use Rattle.capnp_values_queries.specs.Handles.{plain_of, body_of_place};
 ghost use Rattle.capnp_values_queries.specs.Types.{ty_of};
 ghost use Rattle.capnp_calls.specs.CallViews.{step_view, slot_value_view, action_view};
 ghost use Rattle.capnp_calls.specs.Ends.{end_view};
-ghost use Rattle.capnp_calls.specs.Hops.{HasSmallDefault, EndsSmall, HopsFrom, GoesOn, goes_straight, hops_made, SetsAt};
-ghost use Rattle.capnp_calls.specs.Splices.{IsPutOf};
+ghost use Rattle.capnp_calls.specs.Hops.{HasSmallDefault, EndsSmall, HopsFrom, GoesOn, goes_straight, hops_made, SetsEnd};
+ghost use Rattle.capnp_calls.specs.PlainFields.{SetsPlainSlot};
+ghost use Rattle.capnp_calls.specs.Splices.{IsPutOf, IsNumberOf};
+ghost use Rattle.capnp_calls_splice.specs.declared.splice.Put.TheVariants as puts;
 ghost use Rattle.capnp_calls_splice.specs.Blobs.{tree_of_blob};
 
 use crate::ends::End;
@@ -57,6 +59,7 @@ pub(crate) fn next_hop(end: End<'_>, step: &Step) -> Onward
 {
     match (step, end) {
         (Step::Name(_), End::Value(_)) => Onward::Here,
+        (Step::Name(_), End::Slot(FieldPlace::Group { .. })) => Onward::Behind(Hop::Group),
         (_, End::Slot(FieldPlace::Pointer { index, ty, .. })) => match hop_from(index, ty, step) {
             Some(hop) => Onward::Behind(hop),
             None => Onward::Astray,
@@ -65,22 +68,16 @@ pub(crate) fn next_hop(end: End<'_>, step: &Step) -> Onward
     }
 }
 
-/// Adds the hop that is made, if any, where the path went by hops so far and the step finds no
-/// member of a union. It returns whether the path still goes by hops. `OutOfMemory`: the list can't
-/// grow.
-pub(crate) fn note_hop(
-    hops: &mut Vec<Hop>,
-    was_straight: bool,
-    onward: Onward,
-    is_alone: bool,
-) -> Result<bool>
+/// Adds the hop that is made, if any, where the path was straight so far. It returns whether the
+/// step goes by hops then. `OutOfMemory`: the list can't grow.
+pub(crate) fn note_hop(hops: &mut Vec<Hop>, was_straight: bool, onward: Onward) -> Result<bool>
     ensures straight { IfOk result (λ on. on ≡ true
-        → (was_straight ≡ true) × (goes_straight onward ≡ true) × (is_alone ≡ true)) }
+        → (was_straight ≡ true) × (goes_straight onward ≡ true)) }
     ensures hops { IfOk result (λ on. on ≡ true
         → hops.new.items ≡ hops.old.items ++ hops_made onward) }
     ensures kind { IfErr result (λ e. e.kind ≡ ErrorKind.OutOfMemory) }
 {
-    if !was_straight || !is_alone {
+    if !was_straight {
         return Ok(false);
     }
     match onward {
@@ -125,6 +122,17 @@ fn blob_for(alloc: Global, ty: Type, value: &SlotValue) -> Result<Option<Blob>>
     }
 }
 
+/// The number that sets a plain slot to a value, at an offset that is counted in values of the
+/// type. `None` where the value isn't of the type.
+fn number_for(ty: PlainType, offset: u32, default_bits: u64, value: &SlotValue) -> Option<PlainSet>
+    requires { default_bits < 2 ^ width (plain_of ty) }
+    ensures { IfSome result (SetsPlainSlot (plain_of ty) (width (plain_of ty) * offset) default_bits
+        (slot_value_view value.now)) }
+{
+    let bits = bits_for(ty, value)?;
+    Some(number_in(ty, offset, bits ^ default_bits))
+}
+
 /// What sets a slot to a value. `None` where the slot is neither plain nor of a text or data, or
 /// the value isn't of its type. `OutOfMemory`: memory for it was refused.
 fn put_at(alloc: Global, place: FieldPlace<'_>, value: &SlotValue) -> Result<Option<Put>>
@@ -138,13 +146,10 @@ fn put_at(alloc: Global, place: FieldPlace<'_>, value: &SlotValue) -> Result<Opt
             ty,
             offset,
             default_bits,
-        } => {
-            let Some(bits) = bits_for(ty, value) else {
-                return Ok(None);
-            };
-            let set = number_in(ty, offset, bits ^ default_bits);
-            Ok(Some(Put::Number(set)))
-        }
+        } => match number_for(ty, offset, default_bits, value) {
+            Some(set) => Ok(Some(Put::Number(set))),
+            None => Ok(None),
+        },
         FieldPlace::Pointer { index, ty, .. } => match blob_for(alloc, ty, value)? {
             Some(blob) => Ok(Some(Put::Blob {
                 pointer: index,
@@ -156,27 +161,57 @@ fn put_at(alloc: Global, place: FieldPlace<'_>, value: &SlotValue) -> Result<Opt
     }
 }
 
-/// What an action sets where a path ends, and the hops to it, where the path goes by these. `None`
-/// where it goes in another way, or the action doesn't set the slot where it ends to a number, a
-/// text or data of its type. `OutOfMemory`: memory for it was refused.
+/// What sets a member with this discriminant to a value. `None` where its slot is a pointer or a
+/// group, or the value isn't of its type.
+fn member_at(mark: PlainSet, place: FieldPlace<'_>, value: &SlotValue) -> Option<Put>
+    requires { HasSmallDefault (body_of_place place) }
+    ensures { IfSome result (λ put. (p : Option PlainSet) × (put ≡ puts.Member mark p)
+        × IsNumberOf p (body_of_place place.entry) (slot_value_view value.now)) }
+{
+    match place {
+        FieldPlace::Void { .. } => Some(Put::Member { mark, number: None }),
+        FieldPlace::Plain {
+            ty,
+            offset,
+            default_bits,
+        } => {
+            let set = number_for(ty, offset, default_bits, value)?;
+            Some(Put::Member {
+                mark,
+                number: Some(set),
+            })
+        }
+        FieldPlace::Pointer { .. } | FieldPlace::Group { .. } => None,
+    }
+}
+
+/// What an action sets where a path ends, and the hops to it: where the path is straight, or goes
+/// to a member with this discriminant. `None` where it goes in another way, or the action doesn't
+/// set the slot where it ends to a number, a text or data of its type, or a member to a number or
+/// to nothing. `OutOfMemory`: memory for it was refused.
 pub(crate) fn splice_to(
     alloc: Global,
     hops: Vec<Hop>,
     is_straight: bool,
+    mark: Option<PlainSet>,
     end: End<'_>,
     action: &Action,
 ) -> Result<Option<Splice>>
     requires small { EndsSmall (end_view end) }
-    ensures straight { IfOk result (λ found. IfSome found (λ p. is_straight ≡ true)) }
     ensures hops { IfOk result (λ found. IfSome found (λ p. p.hops.items ≡ hops.items)) }
     ensures put { IfOk result (λ found. IfSome found
-        (λ p. SetsAt p.put (end_view end.entry) (action_view action.now))) }
+        (λ p. SetsEnd p.put is_straight mark (end_view end.entry) (action_view action.now))) }
     ensures kind { IfErr result (λ e. e.kind ≡ ErrorKind.OutOfMemory) }
 {
-    let (true, End::Slot(place), Action::Set(value)) = (is_straight, end, action) else {
+    let (End::Slot(place), Action::Set(value)) = (end, action) else {
         return Ok(None);
     };
-    match put_at(alloc, place, value)? {
+    let put = match mark {
+        Some(mark) => member_at(mark, place, value),
+        None if is_straight => put_at(alloc, place, value)?,
+        None => None,
+    };
+    match put {
         Some(put) => Ok(Some(Splice { hops, put })),
         None => Ok(None),
     }

@@ -90,6 +90,14 @@ pointer_put put way area inner f c i p count now xs mid ys a m st l own room few
     let found = leads (slot_gap f c i) (child c.kids i) (child-fits c.kids i st.each) near word in
     behind put way area inner f c i count now xs mid ys a m st l room few short more at size found.1 rec move (child c.kids i) refl found.0
 
+-- ---- in a group of the same struct
+
+pub group_put : (put : Put) (way rest : List Hop) (area : Area) (f : Frame) (c : Cell) (words : List (List ℕ)) (found : Option ℕ) → way ≡ hops.Group ∷ rest
+    → IfSome found (λ n. HasPut put rest area f c (filled n words)) → IfSome found (λ n. HasPut put way area f c (filled n words))
+group_put put way rest area f c words None is h = tt
+group_put put way rest area f c words (Some n) is h =
+    subst (λ (hs : List Hop). HasPut put hs area f c (filled n words)) (sym is) (record { cell = h.cell; puts = h.puts; stands = h.stands })
+
 -- ---- bytes in place of the list behind the pointer
 
 pub regrouped : (x l m t q : List ℕ) (p : ℕ) → x ++ p ∷ (l ++ (m ++ (t ++ q))) ≡ (x ++ p ∷ (l ++ m)) ++ (t ++ q)

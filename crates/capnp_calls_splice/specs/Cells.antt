@@ -6,6 +6,7 @@ use Rattle.capnp_model.specs.Fits.{FitEach, FitElements}
 use Rattle.capnp_model.specs.Encoding.{links, bodies, cells, element_bodies}
 use Rattle.capnp_model.specs.Edits.{Cell}
 use Rattle.capnp_wire_canonical.specs.Writes.{filled}
+use Rattle.capnp_calls_splice.specs.DataWords.{AreData}
 use Rattle.capnp_calls_splice.specs.Splices.{PutsBehind}
 use Rattle.capnp_calls_splice.specs.declared.area.Area.{Area}
 use Rattle.capnp_calls_splice.specs.declared.area.Structs.{Structs}
@@ -40,6 +41,13 @@ pub record HasPut (put : Put) (way : List Hop) (area : Area) (f : Frame) (old : 
   pub cell : Cell
   pub puts : PutsBehind put way area.data_words old cell
   pub stands : StandsIn area f cell words
+
+-- The words of a section became those of a cell into which something was put; its children are as they were.
+pub record DataPut (Puts : ℕ → Cell → Cell → Type 0) (old : Cell) (from to : List (List ℕ)) : Type 0 where
+  pub cell : Cell
+  pub puts : Puts (length from) old cell
+  pub kids : cell.kids ≡ old.kids
+  pub section : AreData to cell.section
 
 -- An area's own words are among n, which are those of a message.
 pub record IsAreaInside (area : Area) (count : ℕ) (words : List (List ℕ)) : Type 0 where

@@ -1,5 +1,5 @@
 -- What is put into the structs of a value, none of which gets wider or narrower. (Encoding, "Structs" and "Lists")
-use Rattle.std.specs.Prelude.{◌≡◌, ℕ, zero, suc, ◌*◌, ◌^◌, ◌<◌, ◌≤◌, List, [], ◌∷◌, length, ⊤}
+use Rattle.std.specs.Prelude.{◌≡◌, ℕ, zero, suc, ◌*◌, ◌^◌, ◌<◌, ◌≤◌, Option, Some, None, List, [], ◌∷◌, length, ⊤}
 use Rattle.capnp_model.specs.Trees.{Tree, structure, plain_list, struct_list, Elements, no_elements, element, child}
 use Rattle.capnp_model.specs.Fits.{Fits}
 use Rattle.capnp_model.specs.Encoding.{canonical_words}
@@ -24,9 +24,15 @@ pub record PutsNumber (p : PlainSet) (words : ℕ) (old new : Cell) : Type 0 whe
   pub last : suc p.word ≡ words → 2 ^ (64 * p.word) ≤ new.section
   pub made : new ≡ record { section = put_set p old.section; kids = old.kids }
 
+-- A number, if there is one.
+abbrev pub PutsAny : Option PlainSet → ℕ → Cell → Cell → Type 0
+PutsAny None words old new = new ≡ old
+PutsAny (Some p) words old new = PutsNumber p words old new
+
 -- What is put into a struct, or an element, of n words.
 abbrev pub PutsIntoCell : Put → ℕ → Cell → Cell → Type 0
 PutsIntoCell (puts.Number p) words old new = PutsNumber p words old new
+PutsIntoCell (puts.Member mark p) words old new = (marked : Cell) × PutsNumber mark words old marked × PutsAny p words marked new
 PutsIntoCell (puts.Blob i b) words old new = IsPlainList (child old.kids i) × (new ≡ put_child i (tree_of_blob b) old)
 
 -- A change of a struct's data and children.
@@ -49,6 +55,7 @@ InList f k _ new = ⊥
 abbrev pub PutsBehind : Put → List Hop → ℕ → Cell → Cell → Type 0
 PutsBehind put [] words old new = PutsIntoCell put words old new
 PutsBehind put (hops.Pointer i ∷ way) words old new = (t : Tree) × InStruct (PutsBehind put way) (child old.kids i) t × (new ≡ put_child i t old)
+PutsBehind put (hops.Group ∷ way) words old new = PutsBehind put way words old new
 PutsBehind put (hops.Element i k ∷ way) words old new = (t : Tree) × InList (PutsBehind put way) k (child old.kids i) t × (new ≡ put_child i t old)
 
 -- The value after what a splice puts.
@@ -71,4 +78,5 @@ pub record StandsWithin (buffer : List (List ℕ)) (count : ℕ) : Type 0 where
 -- The words that a put may add to a message.
 abbrev pub put_room : Put → ℕ
 put_room (puts.Number p) = 0
+put_room (puts.Member mark p) = 0
 put_room (puts.Blob i b) = length b.words.items

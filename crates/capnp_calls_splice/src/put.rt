@@ -15,7 +15,7 @@ use crate::blob::Blob;
 use crate::elements::{element_at, move_elements, structs_behind};
 use crate::pointers::{bytes_pointer, move_pointers, plain_list_behind, struct_behind};
 use crate::splice::{Hop, Put, Splice};
-use crate::words::put_number;
+use crate::words::{put_member, put_number};
 use capnp_units::errors::Result;
 use capnp_units::limits::MOST_WORDS;
 use capnp_units::sizes::Word;
@@ -106,6 +106,14 @@ fn put_here(words: &mut [Word], count: usize, area: Area, put: &Put) -> Option<u
             }
         }
         Put::Blob { pointer, blob } => put_blob(words, count, area, *pointer, blob),
+        Put::Member { mark, number } => {
+            let data = &mut words[area.at..area.at + area.data_words];
+            if put_member(data, *mark, *number) {
+                Some(count)
+            } else {
+                None
+            }
+        }
     }
 }
 
@@ -150,6 +158,7 @@ fn put_in_cell(
             move_pointers(&mut words[slot + 1..end], count, now);
             Some(now)
         }
+        Hop::Group => put_in_cell(words, count, area, rest, put),
         Hop::Element { pointer, index } => {
             let end = area.at + area.data_words + area.pointers;
             let slot = area.at + area.data_words + pointer as usize;
@@ -189,7 +198,7 @@ fn room_for(put: &Put) -> usize
     ensures room { result ≡ put_room put.now }
 {
     match put {
-        Put::Number(_) => 0,
+        Put::Number(_) | Put::Member { .. } => 0,
         Put::Blob { blob, .. } => blob.words.len(),
     }
 }

@@ -10,6 +10,8 @@ pub enum Hop {
     Pointer(u32),
     /// To an element of the list of structs behind a pointer.
     Element { pointer: u32, index: u32 },
+    /// To a group, whose fields lie in the same struct.
+    Group,
 }
 
 /// What is put into a struct.
@@ -19,6 +21,11 @@ pub enum Put {
     Number(PlainSet),
     /// A text or data, in place of the list of bytes, bits or numbers behind a pointer.
     Blob { pointer: u32, blob: Blob },
+    /// The discriminant of a union, and the number of the member that it tells, if it has one.
+    Member {
+        mark: PlainSet,
+        number: Option<PlainSet>,
+    },
 }
 
 /// What is put into a struct that is reached from the root by hops.

@@ -5,7 +5,11 @@ ghost use Rattle.capnp_model.specs.Trees.{Tree};
 ghost use Rattle.capnp_model.specs.Fits.{Fits};
 ghost use Rattle.capnp_model.specs.Encoding.{canonical_words};
 ghost use Rattle.capnp_wire_canonical.specs.Writes.{words_view};
+ghost use Rattle.capnp_model.specs.Edits.{Cell};
 ghost use Rattle.capnp_calls_splice.specs.DataWords.{put_set, put_sets, AreData, HasData, AreWordsAfter};
+ghost use Rattle.capnp_calls_splice.specs.Splices.{PutsAny, PutsIntoCell};
+ghost use Rattle.capnp_calls_splice.specs.Cells.{DataPut};
+ghost use Rattle.capnp_calls_splice.specs.declared.splice.Put.TheVariants as puts;
 
 use crate::plain::PlainSet;
 use capnp_copy_arenas::bits::word_with;
@@ -102,4 +106,28 @@ pub(crate) fn put_number(slice: &mut [Word], set: PlainSet) -> bool
     }
     put(slice, set);
     at + 1 < slice.len() || ends_in_some(slice)
+}
+
+/// As `put_number`, where there is a number.
+#[inline]
+fn put_any(slice: &mut [Word], set: Option<PlainSet>) -> bool
+    ensures puts { (c : Cell) → AreData slice.old c.section → result ≡ true
+        → DataPut (PutsAny set) c slice.old slice.new }
+    ensures len { length slice.new ≡ length slice.old }
+{
+    match set {
+        Some(set) => put_number(slice, set),
+        None => true,
+    }
+}
+
+/// Puts a discriminant into the words of a section, and then the number of its member, if it has
+/// one. It says whether each has a word there that isn't zero where it is the last.
+#[inline]
+pub(crate) fn put_member(slice: &mut [Word], mark: PlainSet, number: Option<PlainSet>) -> bool
+    ensures puts { (c : Cell) → AreData slice.old c.section → result ≡ true
+        → DataPut (PutsIntoCell (puts.Member mark number)) c slice.old slice.new }
+    ensures len { length slice.new ≡ length slice.old }
+{
+    put_number(slice, mark) && put_any(slice, number)
 }

@@ -4,7 +4,7 @@ use Rattle.capnp_wire_canonical.specs.Writes.{filled}
 use Rattle.capnp_calls_splice.specs.Cells.{HasPut}
 use Rattle.capnp_calls_splice.specs.declared.splice.Hop.{Hop}
 use Rattle.capnp_calls_splice.specs.declared.splice.Hop.TheVariants as hops
-use Rattle.capnp_calls_splice.proofs.Putting.{pointer_put}
+use Rattle.capnp_calls_splice.proofs.Putting.{pointer_put, group_put}
 use Rattle.capnp_calls_splice.proofs.ElementPutting.{element_put}
 use Rattle.capnp_calls_splice.proofs.put.+put_in_cell.Goals as goal
 
@@ -41,3 +41,10 @@ returns-in_ok-now-in-Element-clause-put t c = λ f cell st.
     (element_put c.args.put.now rest area c.in_ok-element-in-Element.element c.in_ok-list-in-Element.list f cell i j c.from_le_bytes-word.result c.args.count now c.args.words.now c.put_in_cell-in-Element.new.words after ys a m st (omega arith)
     c.requires.inside.own c.requires.inside.inside c.requires.inside.few within.few within.inside c.move_elements.ensures.len refl refl
     c.from_le_bytes-word.ensures c.in_ok-list-in-Element.ensures.behind c.in_ok-element-in-Element.ensures.place c.in_ok-now-in-Element.ensures.put c.move_elements.ensures.moved c.move_pointers-in-Element.ensures.moved)
+
+pub returns-in-Group-clause-put : goal.returns-in-Group-clause-put
+returns-in-Group-clause-put t c = λ f cell st.
+    let again = c.put_in_cell-in-Group in
+    let rest : List Hop = c.in-Some.rest.now in
+    let split : c.args.hops.now ≡ hops.Group ∷ rest = c.in-Some.ensures ∙ ap (λ (h : Hop). h ∷ rest) c.in-Group.is in
+    group_put c.args.put.now c.args.hops.now rest c.args.area f cell again.new.words again.result split (again.ensures.put f cell st)
