@@ -3,7 +3,7 @@ use Rattle.std.proofs.Common.{◌≡◌, ℕ, zero, suc, Bool, true, false, ◌&
 use Rattle.std.specs.Prelude.{IfSome, ⊤, is_some, not, slice_get, option_copied}
 use Rattle.capnp_model.specs.Printing.{as_it_is}
 use Rattle.capnp_model.specs.Calls.{Step, Verb, set_to, CallValue, Call}
-use Rattle.capnp_values_queries.specs.Structs.{schema_around, fields_of_struct, id_of}
+use Rattle.capnp_values_queries.specs.Structs.{schema_around, shape_of_struct, id_of}
 use Rattle.capnp_values_queries.specs.declared.structs.StructSchema.{StructSchema}
 use Rattle.capnp_calls.specs.Splices.{PathLeadsTo}
 use Rattle.capnp_calls.specs.Resolved.{call_of, calls_of, IsSpliceOf, KnowsSplice, KnowSplices}
@@ -14,7 +14,7 @@ use Rattle.capnp_calls_in_place.proofs.SplicedCalls.{call_made, call_replied}
 
 -- ---- calls
 
-set_call : (schema : StructSchema) (path : List Step) (v : CallValue) (p : Splice) → PathLeadsTo (schema_around schema) v p.put p.hops.items (fields_of_struct schema) path → IsCallSplice schema (record { path = path; verb = set_to v }) p
+set_call : (schema : StructSchema) (path : List Step) (v : CallValue) (p : Splice) → PathLeadsTo (schema_around schema) v p.put p.hops.items (shape_of_struct schema) path → IsCallSplice schema (record { path = path; verb = set_to v }) p
 set_call schema path v p leads old new fit spliced =
     let made = call_made (schema_around schema) (id_of schema) v p path leads old new fit spliced in
     record {
@@ -23,7 +23,7 @@ set_call schema path v p leads old new fit spliced =
       deep = made.deep;
     }
 
-is_call_splice : (schema : StructSchema) (c : Call) (v : CallValue) (p : Splice) → c.verb ≡ set_to v → PathLeadsTo (schema_around schema) v p.put p.hops.items (fields_of_struct schema) c.path → IsCallSplice schema c p
+is_call_splice : (schema : StructSchema) (c : Call) (v : CallValue) (p : Splice) → c.verb ≡ set_to v → PathLeadsTo (schema_around schema) v p.put p.hops.items (shape_of_struct schema) c.path → IsCallSplice schema c p
 is_call_splice schema c v p verb leads = subst (λ (does : Verb). IsCallSplice schema (record { path = c.path; verb = does }) p) (sym verb) (set_call schema c.path v p leads)
 
 -- What is found of a call's path.

@@ -44,18 +44,19 @@ module _ (schema : StructSchema) (n : List ℕ) (v : CallValue) (p : PlainSet) w
   by_body (pointer_slot i ty d) found h = absurd h
   by_body (group_slot g) found h = absurd h
 
-set_call : (schema : StructSchema) (v : CallValue) (p : PlainSet) (c : Call) → c.verb ≡ set_to v → PathLeadsTo (schema_around schema) v (puts.Number p) [] (fields_of_struct schema) c.path → IsPlain schema c p
+set_call : (schema : StructSchema) (v : CallValue) (p : PlainSet) (c : Call) → c.verb ≡ set_to v → PathLeadsTo (schema_around schema) v (puts.Number p) [] (shape_of_struct schema) c.path → IsPlain schema c p
 set_call schema v p c verb leads =
     let n = leads.0 in
-    let path = leads.2 in
+    let path = leads.3 in
+    let found : target_of n (fields_of_struct schema) ≡ target None leads.2 = leads.4 ∙ ap (λ (m : Option ℕ). target m leads.2) leads.5.0 in
     let same : record { path = name n ∷ []; verb = set_to v } ≡ c = ap (λ (way : List Step). record { path = way; verb = set_to v }) (sym path) ∙ ap (λ (does : Verb). record { path = c.path; verb = does }) (sym verb) in
-    subst (λ (call : Call). IsPlain schema call p) same (by_body schema n v p leads.1 leads.3 leads.4)
+    subst (λ (call : Call). IsPlain schema call p) same (by_body schema n v p leads.2 found leads.5.1)
 
 by_splice : (schema : StructSchema) (c : Call) (s : Splice) (p : PlainSet) → s.hops.items ≡ [] → s.put ≡ puts.Number p → IsSpliceOf schema c s → IsPlain schema c p
 by_splice schema c s p none put h =
     let v = h.0 in
-    let here = subst (λ (hs : List Hop). PathLeadsTo (schema_around schema) v s.put hs (fields_of_struct schema) c.path) none h.2 in
-    set_call schema v p c h.1 (subst (λ (x : Put). PathLeadsTo (schema_around schema) v x [] (fields_of_struct schema) c.path) put here)
+    let here = subst (λ (hs : List Hop). PathLeadsTo (schema_around schema) v s.put hs (shape_of_struct schema) c.path) none h.2 in
+    set_call schema v p c h.1 (subst (λ (x : Put). PathLeadsTo (schema_around schema) v x [] (shape_of_struct schema) c.path) put here)
 
 -- The call whose splice puts a number into the root itself.
 pub is_plain : (schema : StructSchema) (r : Resolved) (s : Splice) → r.splice ≡ Some s → (o : Option PlainSet) → IfSome o (λ p. (s.hops.items ≡ []) × (s.put ≡ puts.Number p)) → KnowsSplice schema r → IfSome o (IsPlain schema (call_of r))

@@ -6,7 +6,6 @@ use Rattle.capnp_model.specs.Fits.{Fits}
 use Rattle.capnp_model.specs.Trimming.{stripped, trim, trim_each}
 use Rattle.capnp_model.specs.Schemas.{Schema}
 use Rattle.capnp_model.specs.Readings.{Record, record_of}
-use Rattle.capnp_model.specs.Printing.{fields_in}
 use Rattle.capnp_model.specs.Calls.{Step, name, set_to, CallValue, Call}
 use Rattle.capnp_model.specs.Steps.{Outcome, refused, shown, done, step}
 use Rattle.capnp_model.specs.Edits.{Cell, write_path, if_done, edit}
@@ -30,7 +29,7 @@ edited_where (refused k) new old h = absurd h
 edited_where (shown how r) new old h = absurd h
 edited_where (done r) new old h = refl
 
-module _ (s : Schema) (id : ℕ) (v : CallValue) (p : Splice) (path : List Step) (leads : PathLeadsTo s v p.put p.hops.items (fields_in (s.shape_of id)) path) where
+module _ (s : Schema) (id : ℕ) (v : CallValue) (p : Splice) (path : List Step) (leads : PathLeadsTo s v p.put p.hops.items (s.shape_of id) path) where
   abbrev call : Call
   call = record { path = path; verb = set_to v }
 
@@ -50,8 +49,8 @@ module _ (s : Schema) (id : ℕ) (v : CallValue) (p : Splice) (path : List Step)
 
   written : (old new : Tree) → Fits (trim old) → IsSpliced p (trim old) new → Makes old (write_path s (s.shape_of id) path (set_to v) old) new
   written old new fit h =
-      let b = begins s v p.put p.hops.items (fields_in (s.shape_of id)) path leads in
-      let named : PathLeadsTo s v p.put p.hops.items (fields_in (s.shape_of id)) (name b.0 ∷ b.1) = subst (PathLeadsTo s v p.put p.hops.items (fields_in (s.shape_of id))) b.2 leads in
+      let b = begins s v p.put p.hops.items (s.shape_of id) path leads in
+      let named : PathLeadsTo s v p.put p.hops.items (s.shape_of id) (name b.0 ∷ b.1) = subst (PathLeadsTo s v p.put p.hops.items (s.shape_of id)) b.2 leads in
       subst (λ (way : List Step). Makes old (write_path s (s.shape_of id) way (set_to v) old) new) (sym b.2) (root_is s v p.put p.hops.items (s.shape_of id) b.0 b.1 named old new fit h)
 
   pub call_made : (old new : Tree) → Fits (trim old) → IsSpliced p (trim old) new → Makes old (edit s id call old) new

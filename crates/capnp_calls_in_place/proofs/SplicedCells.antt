@@ -1,5 +1,5 @@
 -- What is put into a trimmed struct or element, and the change that does the same to the whole one.
-use Rattle.std.proofs.Common.{◌≡◌, ℕ, zero, suc, ◌+◌, ◌-◌, ◌*◌, ◌/◌, ◌%◌, ◌^◌, ◌<◌, ◌≤◌, Bool, true, false, nat_lt, if◌then◌else◌, refl, ap, sym, subst, ◌∙◌, arith}
+use Rattle.std.proofs.Common.{◌≡◌, ℕ, zero, suc, ◌+◌, ◌-◌, ◌*◌, ◌/◌, ◌%◌, ◌^◌, ◌<◌, ◌≤◌, Bool, true, false, nat_lt, if◌then◌else◌, Option, Some, None, refl, ap, sym, subst, ◌∙◌, arith}
 use Rattle.std.proofs.Math.Nat.{mod-lt}
 use Rattle.std.proofs.lemmas.Nat.{pow_pos}
 use lib.Pow as pow
@@ -12,7 +12,7 @@ use Rattle.capnp_model.proofs.lemmas.Bits.{above}
 use Rattle.capnp_model.proofs.lemmas.Bounds.{joined_lt}
 use Rattle.capnp_model.proofs.lemmas.Widening.{stripped-with_child, trim_each-with_child}
 use Rattle.capnp_calls_splice.specs.DataWords.{put_set}
-use Rattle.capnp_calls_splice.specs.Splices.{PutsNumber}
+use Rattle.capnp_calls_splice.specs.Splices.{PutsNumber, PutsAny}
 use Rattle.capnp_calls_splice.specs.declared.plain.PlainSet.{PlainSet}
 use Rattle.capnp_calls_splice.proofs.lemmas.DataWords.{put_lt}
 use Rattle.capnp_calls_in_place.proofs.SplicedKids.{child_same, child_fits, count_put, bare_count_put, depths_put}
@@ -87,7 +87,11 @@ last_put p words s new inside last is k e large = by (nat_lt p.word k) refl
         let same : p.word ≡ k = omega (arith, e, inside) in
         subst (λ (j : ℕ). 2 ^ (64 * j) ≤ new) same (last (ap suc same ∙ e))
 
-pub number_is : (p : PlainSet) → IsEditOf (PutsNumber p) (λ c. record { section = put_set p c.section; kids = c.kids })
+-- The change that puts a number.
+abbrev pub with_number : PlainSet → Edit
+with_number p c = record { section = put_set p c.section; kids = c.kids }
+
+pub number_is : (p : PlainSet) → IsEditOf (PutsNumber p) (with_number p)
 number_is p words cut new old is puts =
     let made = puts.made in
     let now : ℕ = put_set p cut.section in
@@ -103,6 +107,36 @@ number_is p words cut new old is puts =
       least = ap (λ (ts : Trees). tree_count (stripped ts)) children;
       deep = refl;
     }
+
+-- ---- a number after another
+
+-- The change that puts a number, if there is one.
+abbrev pub with_any : Option PlainSet → Edit
+with_any None c = c
+with_any (Some p) c = with_number p c
+
+-- What the whole cell becomes after such a change of one that was followed.
+then_any : (p : Option PlainSet) (words : ℕ) (cut marked new old edited : Cell) → FitEach marked.kids → Follows words cut marked old edited → PutsAny p words marked new → Follows words cut new old (with_any p edited)
+then_any None words cut marked new old edited fit first puts = subst (λ (c : Cell). Follows words cut c old edited) (sym puts) first
+then_any (Some p) words cut marked new old edited fit first puts =
+    let again : IsCut words marked edited = record { section = first.section; kids = first.kids; inside = first.inside; fit = fit } in
+    let second : Follows words marked new edited (with_number p edited) = number_is p words marked new edited again puts in
+    record {
+      section = second.section;
+      kids = second.kids;
+      inside = second.inside;
+      last = λ k e large. second.last k e (first.last k e large);
+      count = second.count ∙ first.count;
+      least = second.least ∙ first.least;
+      deep = second.deep ∙ first.deep;
+    }
+
+-- The discriminant of a member, and the member's number, if it has one.
+pub member_is : (m : PlainSet) (p : Option PlainSet) → IsEditOf (λ words old new. (marked : Cell) × PutsNumber m words old marked × PutsAny p words marked new) (λ c. with_any p (with_number m c))
+member_is m p words cut new old is put =
+    let marked : Cell = put.0 in
+    let children : marked.kids ≡ cut.kids = ap (λ (c : Cell). c.kids) put.1.made in
+    then_any p words cut marked new old (with_number m old) (subst FitEach (sym children) is.fit) (number_is m words cut marked old is put.1) put.2
 
 -- ---- a child
 

@@ -1,5 +1,5 @@
 -- The record machine does the calls along paths, where what they put is put by way of hops.
-use Rattle.std.proofs.Common.{◌≡◌, ℕ, zero, suc, ◌*◌, ◌≤◌, Bool, true, ◌&&◌, nat_le, Option, None, List, [], ◌∷◌, refl, ap, sym, subst, ◌∙◌, arith}
+use Rattle.std.proofs.Common.{◌≡◌, ℕ, zero, suc, ◌*◌, ◌≤◌, Bool, true, ◌&&◌, nat_le, Option, Some, None, List, [], ◌∷◌, refl, ap, sym, subst, ◌∙◌, arith}
 use Rattle.capnp_model.specs.Sections.{needed_words}
 use Rattle.capnp_model.specs.Trees.{Tree, null, capability, structure, plain_list, pointer_list, struct_list, Trees, Elements, no_elements, element, child, tree_count, resized}
 use Rattle.capnp_model.specs.Fits.{Fits, FitElements}
@@ -8,17 +8,21 @@ use Rattle.capnp_model.specs.Schemas.{plain, struct, list, Shape, shape, Body, v
 use Rattle.capnp_model.specs.Readings.{Reading, inactive, null_pointer, fault, number, text_of, blob_of, opaque, list_of, record_as, Readings, ◌▹◌, Record, whole_words, read, read_child, struct_elements, element_as, list_reading, is_list_of, discriminant, shape_record, body_of}
 use Rattle.capnp_model.specs.Printing.{fields_in}
 use Rattle.capnp_model.specs.Calls.{Step, name, index, Verb, set_to, CallValue, Content}
-use Rattle.capnp_model.specs.Steps.{Outcome, refused, shown, done, outcome_map, target, target_of, replaced, at_target, on_name, on_index, reading_after, opened, through_value, step_path, step_field, step_element}
+use Rattle.capnp_model.specs.Steps.{Outcome, refused, shown, done, outcome_map, Target, target, target_of, entry_of, replaced, at_target, on_name, on_index, reading_after, opened, through_value, step_path, step_field, step_element}
 use Rattle.capnp_model.specs.Edits.{Cell, put_child}
 use Rattle.capnp_model.proofs.lemmas.Paths.{entry_of-fields_of, read_child-is}
 use Rattle.capnp_model.proofs.lemmas.Stripping.{stripped-stripped, stripped-resized}
+use Rattle.capnp_values_queries.specs.Fields.{union_in}
 use Rattle.capnp_calls.specs.Sizes.{IsDone}
 use Rattle.capnp_calls_splice.specs.Splices.{InStruct, InElements, InList, PutsBehind}
+use Rattle.capnp_calls_splice.specs.declared.blob.Blob.{Blob}
+use Rattle.capnp_calls_splice.specs.declared.plain.PlainSet.{PlainSet}
 use Rattle.capnp_calls_splice.specs.declared.splice.Hop.{Hop}
 use Rattle.capnp_calls_splice.specs.declared.splice.Hop.TheVariants as hops
 use Rattle.capnp_calls_splice.specs.declared.splice.Put.{Put}
 use Rattle.capnp_calls_splice.specs.declared.splice.Put.TheVariants as puts
-use Rattle.capnp_calls.specs.Splices.{IsPutOf, FindsPlainField, PathLeadsTo}
+use Rattle.capnp_calls.specs.PlainFields.{PutsInto}
+use Rattle.capnp_calls.specs.Splices.{IsPutOf, IsNumberOf, IsPutAt, FindsPlainField, Enters, PathLeadsTo}
 use Rattle.capnp_calls_in_place.proofs.SplicedKids.{child_same, child_fits}
 use Rattle.capnp_calls_in_place.proofs.SplicedCells.{IsCut}
 use Rattle.capnp_calls_in_place.proofs.SplicedPaths.{begins}
@@ -38,7 +42,7 @@ module _ (s : Schema) (v : CallValue) (put : Put) where
   record_at g section kids = shape_record g whole_words section (read_child s kids)
 
   -- It is done where it is done at the field that the name finds.
-  named_done : (g : Shape) (n : List ℕ) (rest : List Step) (body : Body) (section : ℕ) (kids : Trees) → FindsPlainField (fields_in g) n body
+  named_done : (g : Shape) (n : List ℕ) (rest : List Step) (body : Body) (section : ℕ) (kids : Trees) → FindsPlainField g n body
       → IsDone (step_field s rest verb body (body_of body whole_words section (read_child s kids))) → IsDone (step_path s (fields_in g) (name n ∷ rest) verb (record_at g section kids))
   unfolding shape_record
   named_done (shape nid w p u fs) n rest body section kids found h =
@@ -49,17 +53,40 @@ module _ (s : Schema) (v : CallValue) (put : Put) where
       ap (at_target f n fs r) found ∙ ap (λ y. outcome_map with_reading (f body y)) (entry_of-fields_of n fs None body (discriminant u whole_words section) whole_words section (read_child s kids) found) in
       subst IsDone (sym outcome) (mapped with_reading (f body (body_of body whole_words section (read_child s kids))) h)
 
-  -- At the end.
-  end_done : (put : Put) (body : Body) (r : Reading) → IsPutOf put body v → IsDone (step_field s [] verb body r)
+  -- At the end, whatever the field reads as.
+  named_end : (g : Shape) (n : List ℕ) (member : Option ℕ) (body : Body) (r : Record) → target_of n (fields_in g) ≡ target member body → ((x : Reading) → IsDone (step_field s [] verb body x)) → IsDone (step_path s (fields_in g) (name n ∷ []) verb r)
+  named_end g n member body r found h =
+      let f : Body → Reading → Outcome Reading = step_field s [] verb in
+      let fs = fields_in g in
+      subst (λ (t : Target). IsDone (at_target f n fs r t)) (sym found) (mapped (λ (x : Reading). replaced n member x fs r) (f body (entry_of n r)) (h (entry_of n r)))
+
+  -- There what is put is done.
+  number_done : (p : PlainSet) (body : Body) (r : Reading) → PutsInto body v p → IsDone (step_field s [] verb body r)
   unfolding step_field
-  end_done (puts.Number p) (void_slot j) r h = absurd h
-  end_done (puts.Number p) (plain_slot q at d) r h = subst (λ (k : Content). IsDone (reading_after s (plain q) k)) (sym h.value) tt
-  end_done (puts.Number p) (pointer_slot i ty d) r h = absurd h
-  end_done (puts.Number p) (group_slot g) r h = absurd h
-  end_done (puts.Blob j b) (void_slot k) r h = absurd h
-  end_done (puts.Blob j b) (plain_slot q at d) r h = absurd h
-  end_done (puts.Blob j b) (pointer_slot i ty d) r h = subst (λ (k : Content). IsDone (reading_after s ty k)) (sym h.1) tt
-  end_done (puts.Blob j b) (group_slot g) r h = absurd h
+  number_done p (void_slot j) r h = absurd h
+  number_done p (plain_slot q at d) r h = subst (λ (k : Content). IsDone (reading_after s (plain q) k)) (sym h.value) tt
+  number_done p (pointer_slot i ty d) r h = absurd h
+  number_done p (group_slot g) r h = absurd h
+
+  blob_done : (j : ℕ) (b : Blob) (body : Body) (r : Reading) → IsPutOf (puts.Blob j b) body v → IsDone (step_field s [] verb body r)
+  unfolding step_field
+  blob_done j b (void_slot k) r h = absurd h
+  blob_done j b (plain_slot q at d) r h = absurd h
+  blob_done j b (pointer_slot i ty d) r h = subst (λ (k : Content). IsDone (reading_after s ty k)) (sym h.1) tt
+  blob_done j b (group_slot g) r h = absurd h
+
+  any_done : (p : Option PlainSet) (body : Body) (r : Reading) → IsNumberOf p body v → IsDone (step_field s [] verb body r)
+  unfolding step_field
+  any_done None (void_slot j) r h = tt
+  any_done None (plain_slot q at d) r h = absurd h
+  any_done None (pointer_slot i ty d) r h = absurd h
+  any_done None (group_slot g) r h = absurd h
+  any_done (Some p) body r h = number_done p body r h
+
+  end_done : (put : Put) (union member : Option ℕ) (body : Body) (r : Reading) → IsPutAt put union member body v → IsDone (step_field s [] verb body r)
+  end_done (puts.Number p) union member body r h = number_done p body r h.1
+  end_done (puts.Blob j b) union member body r h = blob_done j b body r h.1
+  end_done (puts.Member m p) union member body r h = any_done p body r h.1
 
   -- What is done at a struct, whenever something is put into the trimmed one.
   abbrev DoneWhere : (ℕ → Cell → Cell → Type 0) → Shape → List Step → Type 0
@@ -155,34 +182,48 @@ module _ (s : Schema) (v : CallValue) (put : Put) where
       let same : child cut.kids i ≡ trim (child old.kids i) = child_same old.kids cut.kids i is.kids in
       h (child old.kids i) p.0 (subst Fits same (child_fits cut.kids i is.fit)) (subst (λ (u : Tree). P u p.0) same p.1)
 
-  -- The record machine does the rest of a path.
-  pub path_done : (way : List Hop) (g : Shape) (path : List Step) → PathLeadsTo s v put way (fields_in g) path → DoneWhere (PutsBehind put way) g path
+  -- A field's step into a group.
+  grouped_through : (n : List ℕ) (rest : List Step) (g : Shape) (r : Record) → IsDone (step_path s (fields_in g) (name n ∷ rest) verb r) → IsDone (step_field s (name n ∷ rest) verb (group_slot g) (record_as r))
+  unfolding step_field
+  grouped_through n rest g r h = mapped record_as (on_name (step_field s rest verb) n (fields_in g) r) h
+
+  -- The slot of a hop, where what is behind it is done.
+  enters_done : (hop : Hop) (way : List Hop) (body : Body) (front : List Step) (inner : Shape) (n : List ℕ) (rest : List Step) → Enters s hop body front inner (name n ∷ rest) → DoneWhere (PutsBehind put way) inner (name n ∷ rest)
+      → (words : ℕ) (cut new old : Cell) → IsCut words cut old → PutsBehind put (hop ∷ way) words cut new → IsDone (step_field s front verb body (body_of body whole_words old.section (read_child s old.kids)))
   unfolding body_of
+  enters_done (hops.Pointer i) way body front inner n rest h known words cut new old is p =
+      let id = h.0 in
+      let d = default_or_null h.1 in
+      let behind : DoneWhere (PutsBehind put way) (s.shape_of id) (name n ∷ rest) = subst (λ (g : Shape). DoneWhere (PutsBehind put way) g (name n ∷ rest)) h.4 known in
+      let through : Reading → Type 0 = λ r. IsDone (through_value s (name n) (step_field s rest verb) (step_element s rest verb) (struct id) (opened s (struct id) d r)) in
+      let there : through (read s (child old.kids i) (struct id)) = child_done (InStruct (PutsBehind put way)) (λ t. through (read s t (struct id))) i words cut new old (struct_done (PutsBehind put way) id d n rest behind) is p in
+      let at : IsDone (step_field s (name n ∷ rest) verb (pointer_slot i (struct id) h.1) (read_child s old.kids i (struct id))) =
+      named_through n rest i id h.1 (read_child s old.kids i (struct id)) (subst through (sym (read_child-is s old.kids i (struct id))) there) in
+      let whole : Body → List Step → Type 0 = λ b way. IsDone (step_field s way verb b (body_of b whole_words old.section (read_child s old.kids))) in
+      subst (λ (b : Body). whole b front) (sym h.2) (subst (whole (pointer_slot i (struct id) h.1)) (sym h.3) at)
+  enters_done (hops.Element i k) way body front inner n rest h known words cut new old is p =
+      let id = h.0 in
+      let d = default_or_null h.1 in
+      let behind : DoneWhere (PutsBehind put way) (s.shape_of id) (name n ∷ rest) = subst (λ (g : Shape). DoneWhere (PutsBehind put way) g (name n ∷ rest)) h.4 known in
+      let after : Reading → Type 0 = λ r. IsDone (through_value s (index k) (step_field s (name n ∷ rest) verb) (step_element s (name n ∷ rest) verb) (list (struct id)) (opened s (list (struct id)) d r)) in
+      let there : after (read s (child old.kids i) (list (struct id))) = child_done (InList (PutsBehind put way) k) (λ t. after (read s t (list (struct id)))) i words cut new old (list_done (PutsBehind put way) id d k n rest behind) is p in
+      let at : IsDone (step_field s (index k ∷ name n ∷ rest) verb (pointer_slot i (list (struct id)) h.1) (read_child s old.kids i (list (struct id)))) =
+      indexed_through k (name n ∷ rest) i id h.1 (read_child s old.kids i (list (struct id))) (subst after (sym (read_child-is s old.kids i (list (struct id)))) there) in
+      let whole : Body → List Step → Type 0 = λ b way. IsDone (step_field s way verb b (body_of b whole_words old.section (read_child s old.kids))) in
+      subst (λ (b : Body). whole b front) (sym h.2) (subst (whole (pointer_slot i (list (struct id)) h.1)) (sym h.3) at)
+  enters_done hops.Group way body front inner n rest h known words cut new old is p =
+      let whole : Body → List Step → Type 0 = λ b way. IsDone (step_field s way verb b (body_of b whole_words old.section (read_child s old.kids))) in
+      let at : whole (group_slot inner) (name n ∷ rest) = grouped_through n rest inner (record_at inner old.section old.kids) (known words cut new old is p) in
+      subst (λ (b : Body). whole b front) (sym h.0) (subst (whole (group_slot inner)) (sym h.1) at)
+
+  -- The record machine does the rest of a path.
+  pub path_done : (way : List Hop) (g : Shape) (path : List Step) → PathLeadsTo s v put way g path → DoneWhere (PutsBehind put way) g path
   path_done [] g path h words cut new old is p =
-      subst (λ (way : List Step). IsDone (step_path s (fields_in g) way verb (record_at g old.section old.kids))) (sym h.2)
-      (named_done g h.0 [] h.1 old.section old.kids h.3 (end_done put h.1 (body_of h.1 whole_words old.section (read_child s old.kids)) h.4))
-  path_done (hops.Pointer i ∷ way) g path h words cut new old is p =
-      let id = h.3 in
-      let inner = s.shape_of id in
-      let b = begins s v put way (fields_in inner) h.4 h.8 in
-      let behind : DoneWhere (PutsBehind put way) inner (name b.0 ∷ b.1) = subst (DoneWhere (PutsBehind put way) inner) b.2 (path_done way inner h.4 h.8) in
-      let through : Tree → Type 0 = λ t. IsDone (through_value s (name b.0) (step_field s b.1 verb) (step_element s b.1 verb) (struct id) (opened s (struct id) (default_or_null h.7.0) (read s t (struct id)))) in
-      let there : through (child old.kids i) = child_done (InStruct (PutsBehind put way)) through i words cut new old (struct_done (PutsBehind put way) id (default_or_null h.7.0) b.0 b.1 behind) is p in
-      let slot : Body = pointer_slot i (struct id) h.7.0 in
-      let at : IsDone (step_field s (name b.0 ∷ b.1) verb slot (body_of slot whole_words old.section (read_child s old.kids))) =
-      named_through b.0 b.1 i id h.7.0 (read_child s old.kids i (struct id)) (subst (λ (r : Reading). IsDone (through_value s (name b.0) (step_field s b.1 verb) (step_element s b.1 verb) (struct id) (opened s (struct id) (default_or_null h.7.0) r))) (sym (read_child-is s old.kids i (struct id))) there) in
-      subst (λ (way : List Step). IsDone (step_path s (fields_in g) way verb (record_at g old.section old.kids))) (sym (h.5 ∙ ap (λ (rest : List Step). name h.0 ∷ rest) (h.7.2 ∙ b.2)))
-      (named_done g h.0 (name b.0 ∷ b.1) slot old.section old.kids (h.6 ∙ ap (target None) h.7.1) at)
-  path_done (hops.Element i k ∷ way) g path h words cut new old is p =
-      let id = h.3 in
-      let inner = s.shape_of id in
-      let b = begins s v put way (fields_in inner) h.4 h.8 in
-      let rest : List Step = name b.0 ∷ b.1 in
-      let behind : DoneWhere (PutsBehind put way) inner rest = subst (DoneWhere (PutsBehind put way) inner) b.2 (path_done way inner h.4 h.8) in
-      let after : Reading → Type 0 = λ r. IsDone (through_value s (index k) (step_field s rest verb) (step_element s rest verb) (list (struct id)) (opened s (list (struct id)) (default_or_null h.7.0) r)) in
-      let there : after (read s (child old.kids i) (list (struct id))) = child_done (InList (PutsBehind put way) k) (λ t. after (read s t (list (struct id)))) i words cut new old (list_done (PutsBehind put way) id (default_or_null h.7.0) k b.0 b.1 behind) is p in
-      let slot : Body = pointer_slot i (list (struct id)) h.7.0 in
-      let at : IsDone (step_field s (index k ∷ rest) verb slot (body_of slot whole_words old.section (read_child s old.kids))) =
-      indexed_through k rest i id h.7.0 (read_child s old.kids i (list (struct id))) (subst after (sym (read_child-is s old.kids i (list (struct id)))) there) in
-      subst (λ (way : List Step). IsDone (step_path s (fields_in g) way verb (record_at g old.section old.kids))) (sym (h.5 ∙ ap (λ (rest : List Step). name h.0 ∷ rest) (h.7.2 ∙ ap (λ (rest : List Step). index k ∷ rest) b.2)))
-      (named_done g h.0 (index k ∷ rest) slot old.section old.kids (h.6 ∙ ap (target None) h.7.1) at)
+      let r : Record = record_at g old.section old.kids in
+      subst (λ (way : List Step). IsDone (step_path s (fields_in g) way verb r)) (sym h.3) (named_end g h.0 h.1 h.2 r h.4 (λ x. end_done put (union_in g) h.1 h.2 x h.5))
+  path_done (hop ∷ way) g path h words cut new old is p =
+      let b = begins s v put way h.3 h.4 h.8 in
+      let behind : DoneWhere (PutsBehind put way) h.3 (name b.0 ∷ b.1) = subst (DoneWhere (PutsBehind put way) h.3) b.2 (path_done way h.3 h.4 h.8) in
+      let into : Enters s hop h.2 h.1 h.3 (name b.0 ∷ b.1) = subst (λ (rest : List Step). Enters s hop h.2 h.1 h.3 rest) b.2 h.7 in
+      subst (λ (way : List Step). IsDone (step_path s (fields_in g) way verb (record_at g old.section old.kids))) (sym h.5)
+      (named_done g h.0 h.1 h.2 old.section old.kids h.6 (enters_done hop way h.2 h.1 h.3 b.0 b.1 into behind words cut new old is p))

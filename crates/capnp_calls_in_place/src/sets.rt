@@ -31,6 +31,7 @@ fn number_of(splice: &Splice) -> Option<PlainSet>
     match &splice.put {
         Put::Number(set) => Some(*set),
         Put::Blob { .. } => None,
+        Put::Member { .. } => None,
     }
 }
 

@@ -19,9 +19,10 @@ use capnp_units::errors::Result;
 use capnp_units::sizes::Word;
 
 /// What a call puts, and where. `None` where
-/// - it isn't the `set` of a plain field, a text or data, to a value of its type;
-/// - the way goes elsewhere than by structs and elements of lists of structs;
-/// - one of these fields is a member of a union or a group.
+/// - it isn't the `set` of a plain field, a text or data, or of a member of a union that is
+///   plain or void, to a value of its type;
+/// - its path goes elsewhere than by structs, groups and elements of lists of structs;
+/// - a field before the last is a member of a union.
 #[inline]
 pub fn call_splice<'a>(call: &'a Resolved<'_>) -> Option<&'a Splice>
     ensures found { option_copied result ≡ call.now.splice }
