@@ -7,3 +7,4 @@ mod MessageExamples
 mod PathEnds
 mod StraightPaths
 mod Walks
+mod PutsAt

@@ -13,9 +13,8 @@ ghost use Rattle.capnp_calls.specs.Resolved.{calls_of, AreResolved, KnowSplices}
 use crate::ends::{End, next_end};
 use crate::find::FoundField;
 use crate::long::puts_long_at;
-use crate::splices::{next_hop, note_hop, splice_to};
+use crate::splices::{Course, course_after, next_hop, note_hop, splice_to};
 use crate::{Action, Call, Step};
-use capnp_calls_splice::plain::PlainSet;
 use capnp_calls_splice::splice::{Hop, Splice};
 use capnp_units::errors::Result;
 use capnp_values_queries::introspect::{Type, TypeVariant};
@@ -28,13 +27,9 @@ struct Walk<'a> {
     /// What its names find, in turn.
     fields: Vec<FoundField>,
     end: End<'a>,
-    /// The hops that it makes, where it is straight.
+    /// The hops that it makes, where it goes by hops.
     hops: Vec<Hop>,
-    /// Whether it goes by way of structs, groups and elements of lists of structs, and finds no
-    /// member of a union.
-    is_straight: bool,
-    /// The discriminant, where it goes so to a member of a union.
-    mark: Option<PlainSet>,
+    course: Course,
 }
 
 /// Adds what a step finds. `OutOfMemory`: the list can't grow.
@@ -57,31 +52,31 @@ fn walk_path<'a>(alloc: Global, root: StructSchema<'a>, path: &[Step]) -> Result
         (map step_view path.now) (at_value (struct (id_of root.entry)))) }
     ensures of_set { IfOk result (λ w. IsEndOf (nodes_around root.entry) w.end) }
     ensures small { IfOk result (λ w. EndsSmall (end_view w.end)) }
-    ensures leads { IfOk result (λ w. w.is_straight ≡ true
+    ensures leads { IfOk result (λ w. w.course.is_straight ≡ true
         → LeadsToEnd root.entry w.hops.items (map step_view path.now) (end_view w.end)) }
-    ensures member { IfOk result (λ w. IfSome w.mark
+    ensures member { IfOk result (λ w. IfSome w.course.mark
         (LeadsToMember root.entry w.hops.items (map step_view path.now) (end_view w.end))) }
     ensures kind { IfErr result (λ e. e.kind ≡ ErrorKind.OutOfMemory) }
 {
     let mut fields = Vec::new(alloc);
     let mut hops = Vec::new(alloc);
-    let mut is_straight = true;
-    let mut mark = None;
+    let mut course = Course {
+        is_straight: true,
+        mark: None,
+    };
     let mut end = End::Value(Type::from(TypeVariant::Struct(root.raw())));
     for step in path {
         let next = next_end(root.set(), step, end);
         note(&mut fields, next.found)?;
-        let goes_on = note_hop(&mut hops, is_straight, next_hop(end, step))?;
-        is_straight = goes_on && next.is_alone;
-        mark = if goes_on { next.mark } else { None };
+        let goes_on = note_hop(&mut hops, course.is_straight, next_hop(end, step))?;
+        course = course_after(goes_on, next);
         end = next.end;
     }
     Ok(Walk {
         fields,
         end,
         hops,
-        is_straight,
-        mark,
+        course,
     })
 }
 
@@ -110,11 +105,10 @@ impl<'a> Resolved<'a> {
             fields,
             end,
             hops,
-            is_straight,
-            mark,
+            course,
         } = walk_path(alloc, root, call.path())?;
         let is_long = puts_long_at(root.set(), end, call.action());
-        let splice = splice_to(alloc, hops, is_straight, mark, end, call.action())?;
+        let splice = splice_to(alloc, hops, course, end, call.action())?;
         Ok(Resolved {
             call,
             fields,

@@ -1,8 +1,9 @@
 //! What calls put into canonical words where they stand, and by which hops it is reached.
-ghost use Rattle.std.specs.Prelude.{◌≡◌, ◌+◌, ◌*◌, ◌^◌, ◌<◌, ◌++◌, true, Option, IfOk, IfErr, IfSome};
+ghost use Rattle.std.specs.Prelude.{◌≡◌, ◌+◌, ◌*◌, ◌^◌, ◌<◌, ◌++◌, true, Option, Some, IfOk, IfErr, IfSome};
 ghost use Rattle.capnp_units.specs.declared.kinds.ErrorKind.{ErrorKind};
 ghost use Rattle.capnp_model.specs.Schemas.{width};
-ghost use Rattle.capnp_model.specs.Calls.{value_content, object};
+ghost use Rattle.capnp_model.specs.Calls.{value_content, object, set_to};
+ghost use Rattle.capnp_model.specs.InKindCalls.{at_slot};
 ghost use Rattle.capnp_values_queries.specs.Handles.{plain_of, body_of_place};
 ghost use Rattle.capnp_values_queries.specs.Types.{ty_of};
 ghost use Rattle.capnp_calls.specs.CallViews.{step_view, slot_value_view, action_view};
@@ -13,7 +14,7 @@ ghost use Rattle.capnp_calls.specs.Splices.{IsPutOf, IsNumberOf};
 ghost use Rattle.capnp_calls_splice.specs.declared.splice.Put.TheVariants as puts;
 ghost use Rattle.capnp_calls_splice.specs.Blobs.{tree_of_blob};
 
-use crate::ends::End;
+use crate::ends::{End, Next};
 use crate::number::bits_for;
 use crate::{Action, SlotValue, Step};
 use capnp_calls_splice::blob::Blob;
@@ -33,6 +34,32 @@ pub(crate) enum Onward {
     Behind(Hop),
     /// In another way.
     Astray,
+}
+
+/// How a path goes to where it ends.
+#[derive(Clone, Copy)]
+pub(crate) struct Course {
+    /// Whether it goes by hops, and finds no member of a union.
+    pub(crate) is_straight: bool,
+    /// The discriminant, where it goes by hops to a member of a union, and finds no other.
+    pub(crate) mark: Option<PlainSet>,
+}
+
+/// How a path goes by a step that leads there, where it went straight before and goes on by hops.
+pub(crate) fn course_after(goes_on: bool, next: Next<'_>) -> Course
+    ensures straight { result.is_straight ≡ true → (goes_on ≡ true) × (next.entry.is_alone ≡ true) }
+    ensures mark { IfSome result.mark (λ m. (goes_on ≡ true) × (next.entry.mark ≡ Some m)) }
+{
+    if !goes_on {
+        return Course {
+            is_straight: false,
+            mark: None,
+        };
+    }
+    Course {
+        is_straight: next.is_alone,
+        mark: next.mark,
+    }
 }
 
 /// The hop that a step makes from a pointer slot of a type: to a struct, or to an element of a list
@@ -185,6 +212,27 @@ fn member_at(mark: PlainSet, place: FieldPlace<'_>, value: &SlotValue) -> Option
     }
 }
 
+/// What sets the slot where a path ends to a value: where the path is straight, or goes to a member
+/// of a union. `None` and `OutOfMemory` as `put_at` and `member_at` have it.
+fn put_by(
+    alloc: Global,
+    course: Course,
+    place: FieldPlace<'_>,
+    value: &SlotValue,
+) -> Result<Option<Put>>
+    requires { HasSmallDefault (body_of_place place) }
+    ensures put { IfOk result (λ found. IfSome found
+        (λ put. SetsEnd put course.is_straight course.mark (at_slot (body_of_place place.entry))
+        (set_to (slot_value_view value.now)))) }
+    ensures kind { IfErr result (λ e. e.kind ≡ ErrorKind.OutOfMemory) }
+{
+    match course.mark {
+        Some(mark) => Ok(member_at(mark, place, value)),
+        None if course.is_straight => put_at(alloc, place, value),
+        None => Ok(None),
+    }
+}
+
 /// What an action sets where a path ends, and the hops to it: where the path is straight, or goes
 /// to a member with this discriminant. `None` where it goes in another way, or the action doesn't
 /// set the slot where it ends to a number, a text or data of its type, or a member to a number or
@@ -192,26 +240,21 @@ fn member_at(mark: PlainSet, place: FieldPlace<'_>, value: &SlotValue) -> Option
 pub(crate) fn splice_to(
     alloc: Global,
     hops: Vec<Hop>,
-    is_straight: bool,
-    mark: Option<PlainSet>,
+    course: Course,
     end: End<'_>,
     action: &Action,
 ) -> Result<Option<Splice>>
     requires small { EndsSmall (end_view end) }
     ensures hops { IfOk result (λ found. IfSome found (λ p. p.hops.items ≡ hops.items)) }
     ensures put { IfOk result (λ found. IfSome found
-        (λ p. SetsEnd p.put is_straight mark (end_view end.entry) (action_view action.now))) }
+        (λ p. SetsEnd p.put course.is_straight course.mark (end_view end.entry)
+        (action_view action.now))) }
     ensures kind { IfErr result (λ e. e.kind ≡ ErrorKind.OutOfMemory) }
 {
     let (End::Slot(place), Action::Set(value)) = (end, action) else {
         return Ok(None);
     };
-    let put = match mark {
-        Some(mark) => member_at(mark, place, value),
-        None if is_straight => put_at(alloc, place, value)?,
-        None => None,
-    };
-    match put {
+    match put_by(alloc, course, place, value)? {
         Some(put) => Ok(Some(Splice { hops, put })),
         None => Ok(None),
     }

@@ -3,7 +3,7 @@ use Rattle.std.proofs.Common.{◌≡◌, ℕ, ◌*◌, ◌^◌, ◌<◌, ◌≤�
 use Rattle.std.specs.Int.{from_le_bytes, w64}
 use Rattle.std.proofs.lemmas.List.{length-map}
 use Rattle.capnp_model.specs.Sections.{words_of}
-use Rattle.capnp_model.specs.Trees.{Trees, tree_count}
+use Rattle.capnp_model.specs.Trees.{tree_count}
 use Rattle.capnp_model.specs.Fits.{FitEach}
 use Rattle.capnp_model.specs.Edits.{Cell}
 use Rattle.capnp_model.specs.Encoding.{links, bodies}

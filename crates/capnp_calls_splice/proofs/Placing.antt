@@ -1,9 +1,9 @@
 -- A struct's pointers, and what is put behind one of them.
-use Rattle.std.proofs.Common.{◌≡◌, ℕ, zero, suc, ◌+◌, ◌-◌, ◌^◌, ◌<◌, ◌≤◌, List, [], ◌∷◌, ◌++◌, length, take, drop, refl, ap, sym, subst, ◌∙◌, append_assoc, length-append, arith}
+use Rattle.std.proofs.Common.{◌≡◌, ℕ, suc, ◌+◌, ◌-◌, ◌^◌, ◌<◌, ◌≤◌, List, [], ◌∷◌, ◌++◌, length, take, drop, refl, ap, sym, subst, ◌∙◌, append_assoc, length-append, arith}
 use Rattle.capnp_model.specs.Sections.{words_of}
-use Rattle.capnp_model.specs.Trees.{Tree, structure, Trees, none, ◌▸◌, tree_count, child}
+use Rattle.capnp_model.specs.Trees.{Tree, structure, Trees, tree_count, child}
 use Rattle.capnp_model.specs.Fits.{Fits, FitEach}
-use Rattle.capnp_model.specs.Encoding.{pointer, struct_pointer, body, links, bodies}
+use Rattle.capnp_model.specs.Encoding.{pointer, body, links, bodies}
 use Rattle.capnp_model.specs.Edits.{Cell, put_child}
 use Rattle.capnp_model.proofs.lemmas.Numbers.{length-numbers_in}
 use Rattle.capnp_wire_canonical.specs.Writes.{words_view, filled}

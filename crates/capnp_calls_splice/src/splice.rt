@@ -20,7 +20,10 @@ pub enum Put {
     /// A number, into its data.
     Number(PlainSet),
     /// A text or data, in place of the list of bytes, bits or numbers behind a pointer.
-    Blob { pointer: u32, blob: Blob },
+    Blob {
+        pointer: u32,
+        blob: Blob,
+    },
     /// The discriminant of a union, and the number of the member that it tells, if it has one.
     Member {
         mark: PlainSet,

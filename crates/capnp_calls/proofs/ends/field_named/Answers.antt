@@ -1,14 +1,15 @@
 use Rattle.std.proofs.Common.{◌≡◌, Some, ap, sym, subst}
+use Rattle.std.specs.Prelude.{IfSome}
 use Rattle.capnp_model.specs.InKindCalls.{at_slot, end_at}
 use Rattle.capnp_model.specs.Steps.{target_of}
 use Rattle.capnp_values_queries.specs.Fields.{place_of_name}
 use Rattle.capnp_values_queries.specs.Handles.{body_of_place}
-use Rattle.capnp_values_queries.specs.Structs.{fields_of_struct}
+use Rattle.capnp_values_queries.specs.Structs.{fields_of_struct, shape_of_struct}
 use Rattle.capnp_values_queries.specs.declared.structs.StructSchema.{StructSchema}
 use Rattle.capnp_calls.proofs.lemmas.NamedFields.{not_found}
 use Rattle.capnp_calls.proofs.PathEnds.{end_named}
-use Rattle.capnp_calls.proofs.FoundSlots.{small_default, alone_named}
-use Rattle.capnp_calls.specs.Hops.{IsAlone}
+use Rattle.capnp_calls.proofs.FoundSlots.{small_default, alone_named, marked_if}
+use Rattle.capnp_calls.specs.Hops.{IsAlone, MarksNamed}
 use Rattle.capnp_calls.proofs.ends.field_named.Goals as goal
 
 pub returns-in-Ok-clause-end : goal.returns-in-Ok-clause-end
@@ -33,3 +34,11 @@ returns-in-Ok-clause-alone c alone =
     let found = c.in-Ok.ensures.found in
     let Alone : StructSchema → Type 0 = λ g. Some f.index ≡ place_of_name n (fields_of_struct g) → IsAlone (target_of n (fields_of_struct g)) in
     subst Alone found.parent (λ place. alone_named n (fields_of_struct f.parent) f.index place (c.is_alone.ensures alone)) found.index
+
+pub returns-in-Ok-clause-mark : goal.returns-in-Ok-clause-mark
+returns-in-Ok-clause-mark c =
+    let f = c.in-Ok.field in
+    let n = c.args.name.now in
+    let found = c.in-Ok.ensures.found in
+    let Marks : StructSchema → Type 0 = λ g. Some f.index ≡ place_of_name n (fields_of_struct g) → IfSome c.mark_of.result (λ mark. MarksNamed mark (shape_of_struct g) n) in
+    subst Marks found.parent (λ place. marked_if n (shape_of_struct f.parent) f.index c.mark_of.result place c.mark_of.ensures) found.index

@@ -1,5 +1,5 @@
 -- The number, or none.
-use Rattle.std.proofs.Common.{◌≡◌, length, Option, None, Some, refl, sym, subst}
+use Rattle.std.proofs.Common.{Option, refl, sym, subst}
 use Rattle.capnp_calls_splice.specs.DataWords.{put_set}
 use Rattle.capnp_calls_splice.specs.Cells.{DataPut}
 use Rattle.capnp_calls_splice.specs.Splices.{PutsAny}

@@ -1,5 +1,5 @@
 -- The discriminant, and then the number.
-use Rattle.std.proofs.Common.{◌≡◌, ℕ, refl, subst, ◌∙◌}
+use Rattle.std.proofs.Common.{ℕ, refl, subst}
 use Rattle.capnp_model.specs.Edits.{Cell}
 use Rattle.capnp_calls_splice.specs.DataWords.{put_set}
 use Rattle.capnp_calls_splice.specs.Cells.{DataPut}
