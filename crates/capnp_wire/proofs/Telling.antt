@@ -15,8 +15,9 @@ use Rattle.capnp_units.specs.Limits.{limit_of}
 use Rattle.capnp_wire_objects.specs.Objects.{AreThere}
 use Rattle.capnp_units.specs.declared.kinds.ErrorKind.{ErrorKind}
 use Rattle.capnp_units.specs.declared.kinds.ErrorKind.TheVariants.{NestingLimitExceeded}
+use Rattle.capnp_wire_canonical.specs.Reaches.{reach}
 use Rattle.capnp_wire_canonical.specs.Standing.{IsSmall}
-use Rattle.capnp_wire_canonical.specs.Checks.{Tells, TellsValue, TellsStruct}
+use Rattle.capnp_wire_canonical.specs.Checks.{head_state, Tells, TellsValue, TellsStruct}
 use Rattle.capnp_wire_canonical.proofs.lemmas.Checking.{began_none}
 use Rattle.capnp_units.specs.Segments.{words_in}
 use Rattle.capnp_wire.specs.declared.backing.Backing.{Backing}
@@ -28,18 +29,18 @@ pub told_freely : (paid : Bool) (told : ReadLimiter → ReadLimiter → Type 0) 
 told_freely paid told l start end free endless x = subst (λ (b : Bool). ToldOn b told l l) free (record { start = start; end = end; endless = endless; tells = x; unpaid = refl })
 
 -- where the levels and the place are
-pub pointer_told : (p : PointerView) (n : ℕ) (q head : Place) (old : ReadLimiter) (r : Result Bool Error) (head' : Place) (new : ReadLimiter) → p.levels ≡ Some n → p.place ≡ Some q → ToldOn p.basis.paid (λ l m. TellsValue n p.basis.segments q head l r head' m) old new → PointerTells p head old r head' new
+pub pointer_told : (p : PointerView) (n : ℕ) (q head : Place) (old : ReadLimiter) (r : Result Bool Error) (head' : Place) (new : ReadLimiter) → p.levels ≡ Some n → p.place ≡ Some q → ToldOn p.basis.paid (λ l m. TellsValue (reach n p.basis.segments) q (head_state head l) r (head_state head' m)) old new → PointerTells p head old r head' new
 pointer_told p n q head old r head' new levels at x =
     let s = p.basis.segments in
-    let here = subst (λ (o : Option Place). MatchOption o ((r ≡ Ok false) × (head' ≡ head) × (new ≡ old)) (λ q. ToldOn p.basis.paid (λ l m. TellsValue n s q head l r head' m) old new)) (sym at) x in
-    subst (λ (o : Option ℕ). MatchOption o (NoLevels r old new × (head' ≡ head)) (λ n. MatchOption p.place ((r ≡ Ok false) × (head' ≡ head) × (new ≡ old)) (λ q. ToldOn p.basis.paid (λ l m. TellsValue n s q head l r head' m) old new))) (sym levels) here
+    let here = subst (λ (o : Option Place). MatchOption o ((r ≡ Ok false) × (head' ≡ head) × (new ≡ old)) (λ q. ToldOn p.basis.paid (λ l m. TellsValue (reach n s) q (head_state head l) r (head_state head' m)) old new)) (sym at) x in
+    subst (λ (o : Option ℕ). MatchOption o (NoLevels r old new × (head' ≡ head)) (λ n. MatchOption p.place ((r ≡ Ok false) × (head' ≡ head) × (new ≡ old)) (λ q. ToldOn p.basis.paid (λ l m. TellsValue (reach n s) q (head_state head l) r (head_state head' m)) old new))) (sym levels) here
 
 -- where the levels are
 levels_told : (p : PointerView) (o : Option ℕ) (head : Place) (old : ReadLimiter) (r : Result Bool Error) (head' : Place) (new : ReadLimiter) → p.levels ≡ o
-    → MatchOption o (NoLevels r old new × (head' ≡ head)) (λ n. MatchOption p.place ((r ≡ Ok false) × (head' ≡ head) × (new ≡ old)) (λ q. ToldOn p.basis.paid (λ l m. TellsValue n p.basis.segments q head l r head' m) old new))
+    → MatchOption o (NoLevels r old new × (head' ≡ head)) (λ n. MatchOption p.place ((r ≡ Ok false) × (head' ≡ head) × (new ≡ old)) (λ q. ToldOn p.basis.paid (λ l m. TellsValue (reach n p.basis.segments) q (head_state head l) r (head_state head' m)) old new))
     → PointerTells p head old r head' new
 levels_told p o head old r head' new levels x =
-    subst (λ (o : Option ℕ). MatchOption o (NoLevels r old new × (head' ≡ head)) (λ n. MatchOption p.place ((r ≡ Ok false) × (head' ≡ head) × (new ≡ old)) (λ q. ToldOn p.basis.paid (λ l m. TellsValue n p.basis.segments q head l r head' m) old new))) (sym levels) x
+    subst (λ (o : Option ℕ). MatchOption o (NoLevels r old new × (head' ≡ head)) (λ n. MatchOption p.place ((r ≡ Ok false) × (head' ≡ head) × (new ≡ old)) (λ q. ToldOn p.basis.paid (λ l m. TellsValue (reach n p.basis.segments) q (head_state head l) r (head_state head' m)) old new))) (sym levels) x
 
 -- where no level is left
 pub pointer_untold : (p : PointerView) (head : Place) (l : ReadLimiter) (e : Error) → p.levels ≡ None → e.kind ≡ NestingLimitExceeded → PointerTells p head l (Err e) head l
@@ -49,7 +50,7 @@ pointer_untold p head l e none deep = levels_told p None head l (Err e) head l n
 pub pointer_nowhere : (p : PointerView) (n : ℕ) (head : Place) (l : ReadLimiter) → p.levels ≡ Some n → p.place ≡ None → PointerTells p head l (Ok false) head l
 pointer_nowhere p n head l levels none = levels_told p (Some n) head l (Ok false) head l levels (by p.place none)
   where
-    by : (o : Option Place) → o ≡ None → MatchOption o ((◌≡◌ {A = Result Bool Error} (Ok false) (Ok false)) × (head ≡ head) × (l ≡ l)) (λ q. ToldOn p.basis.paid (λ l m. TellsValue n p.basis.segments q head l (Ok false) head m) l l)
+    by : (o : Option Place) → o ≡ None → MatchOption o ((◌≡◌ {A = Result Bool Error} (Ok false) (Ok false)) × (head ≡ head) × (l ≡ l)) (λ q. ToldOn p.basis.paid (λ l m. TellsValue (reach n p.basis.segments) q (head_state head l) (Ok false) (head_state head m)) l l)
     by None e = (refl, refl, refl)
     by (Some q) e = absurd cc
 
@@ -115,14 +116,14 @@ places_apart p q e same =
     absurd (grind (arith, nat_tests))
 
 -- a struct whose own words lie there
-pub lies_told : (n : ℕ) (v : StructView) (p head : Place) (d : ℕ) (r : Result Bool Error) (head' : Place) (l m : ReadLimiter) → LiesAt v p → d ≡ section_words v → TellsStruct n v.basis.segments p d v.pointers head l r head' m → StructTellsIn n v p head r head' l m
+pub lies_told : (n : ℕ) (v : StructView) (p head : Place) (d : ℕ) (r : Result Bool Error) (head' : Place) (l m : ReadLimiter) → LiesAt v p → d ≡ section_words v → TellsStruct (reach n v.basis.segments) p (record { data_words = d; pointers = v.pointers }) (head_state head l) r (head_state head' m) → StructTellsIn n v p head r head' l m
 lies_told n v p head d r head' l m own words x =
     let s = v.basis.segments in
     let k = v.pointers in
-    subst (λ (q : Place). Tells (each (tree_at n s) q k) (λ more. each (tree_at (more + n) s) q k) have_capability (StandsAs v p head) (IsSmall s q) (from_each (visits n s) q k) head l r head' m) (sym own.pointers) (by r (subst (λ (j : ℕ). TellsStruct n s p j k head l r head' m) words x))
+    subst (λ (q : Place). Tells (record { there = each (tree_at n s) q k; deeper = λ more. each (tree_at (more + n) s) q k; bad = have_capability; stands = StandsAs v p head; premise = IsSmall s q; path = from_each (visits n s) q k }) (head_state head l) r (head_state head' m)) (sym own.pointers) (by r (subst (λ (j : ℕ). TellsStruct (reach n s) p (record { data_words = j; pointers = k }) (head_state head l) r (head_state head' m)) words x))
   where
-    by : (r : Result Bool Error) → TellsStruct n v.basis.segments p (section_words v) v.pointers head l r head' m
-        → Tells (each (tree_at n v.basis.segments) (after p (section_words v)) v.pointers) (λ more. each (tree_at (more + n) v.basis.segments) (after p (section_words v)) v.pointers) have_capability (StandsAs v p head) (IsSmall v.basis.segments (after p (section_words v))) (from_each (visits n v.basis.segments) (after p (section_words v)) v.pointers) head l r head' m
+    by : (r : Result Bool Error) → TellsStruct (reach n v.basis.segments) p (record { data_words = section_words v; pointers = v.pointers }) (head_state head l) r (head_state head' m)
+        → Tells (record { there = each (tree_at n v.basis.segments) (after p (section_words v)) v.pointers; deeper = λ more. each (tree_at (more + n) v.basis.segments) (after p (section_words v)) v.pointers; bad = have_capability; stands = StandsAs v p head; premise = IsSmall v.basis.segments (after p (section_words v)); path = from_each (visits n v.basis.segments) (after p (section_words v)) v.pointers }) (head_state head l) r (head_state head' m)
     by (Ok true) x =
         let y = x.1 in
         (x.0, record { what = y.what; there_is = y.there_is; clean = y.clean; stand = record { own = own; struct = y.stand }; near = y.near; walked = y.walked })

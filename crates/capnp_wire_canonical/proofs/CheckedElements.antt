@@ -17,8 +17,9 @@ use Rattle.capnp_wire_objects.specs.Inside.{words_there}
 use Rattle.capnp_wire_objects.specs.Walks.{Stopped}
 use Rattle.capnp_wire_objects.proofs.lemmas.Rows.{row_end, elements_start, element_next, elements_met_next}
 use Rattle.capnp_model.proofs.lemmas.Counts.{each_count, each_element_count}
+use Rattle.capnp_wire_canonical.specs.Reaches.{reach}
 use Rattle.capnp_wire_canonical.specs.Standing.{Hold, StandEach, StandElements, IsSmall, HasHead}
-use Rattle.capnp_wire_canonical.specs.Checks.{Agrees, Differs}
+use Rattle.capnp_wire_canonical.specs.Checks.{Agrees, Differs, row_test, elements_test}
 use Rattle.capnp_wire_canonical.proofs.lemmas.Checking.{SoFar, Parts, begun, next, differs, stopped, ended}
 use Rattle.capnp_wire_canonical.proofs.CheckedRows.{each_more, head_next, row_begun, row_ended}
 use Rattle.capnp_wire_canonical.proofs.Holding.{hold_none, hold_end, hold_own}
@@ -133,7 +134,7 @@ module _ (n : ℕ) (s : Segments) (p : Place) (count d k head : ℕ) (l : ReadLi
     kept : (more : ℕ) (ts : Trees) → each (tree_at n s) (after (after p (i * (d + k))) d) k ≡ Some ts → each (tree_at (more + n) s) (after (after p (i * (d + k))) d) k ≡ Some ts
     kept more ts is = each_more n (more + n) s (after (after p (i * (d + k))) d) k ts (omega arith) is
 
-    pub elements_next : (e' : ℕ) (j m : ReadLimiter) → Agrees (each (tree_at n s) (after (after p (i * (d + k))) d) k) have_capability (λ ts. StandEach s (after (after p (i * (d + k))) d) e (trim_each ts)) (from_each (visits n s) (after (after p (i * (d + k))) d) k) j e' m
+    pub elements_next : (e' : ℕ) (j m : ReadLimiter) → Agrees (row_test (reach n s) (after (after p (i * (d + k))) d) k e) j e' m
         → ElementsSoFar n s p count d k head l i e j → ElementsSoFar n s p count d k head l (i + 1) e' m
     elements_next e' j m x f =
         let g = tree_at n s in
@@ -145,12 +146,12 @@ module _ (n : ℕ) (s : Segments) (p : Place) (count d k head : ℕ) (l : ReadLi
         record {
           so_far = next (each_element g p (words_there s p (count * w)) d k count) (elements_from n s p count d k i) (elements_from n s p count d k (i + 1)) (λ more. each_element (t more) p (words_there s p (count * w)) d k count) (λ more. elements_from (more + n) s p count d k i) (λ more. elements_from (more + n) s p count d k (i + 1)) elements_have_capability (λ es. StandElements s p d k head (trim_elements es)) (ElementsFrom s p d k i e) (ElementsFrom s p d k (i + 1))
               (each g here k) (λ more. each (t more) here k) have_capability (λ ts. StandEach s here e (trim_each ts)) (from_elements v p d k count) (from_elements v (after p (i * w)) d k (count - i)) (from_elements v (after p ((i + 1) * w)) d k (count - (i + 1))) (from_each v here k) l j m (elements_met_next p d k i count h v) elements_split
-              e' kept ends_alike (λ us es end is are clean cleans a b. elements_join e' us es end is are clean cleans a b) x f.so_far;
+              (IsSmall s p) e' kept ends_alike (λ us es end is are clean cleans a b. elements_join e' us es end is are clean cleans a b) x f.so_far;
           there = head_next s p (count * w) e e' (bodies (trim_each x.what)) f.there (hold_end s (place p.segment e) (bodies (trim_each x.what)) stand.targets) stand.ends x.near;
         }
 
-    pub elements_differ : (j m : ReadLimiter) → Differs (λ more. each (tree_at (more + n) s) (after (after p (i * (d + k))) d) k) have_capability (λ ts. StandEach s (after (after p (i * (d + k))) d) e (trim_each ts)) (IsSmall s p) (from_each (visits n s) (after (after p (i * (d + k))) d) k) j m
-        → ElementsSoFar n s p count d k head l i e j → Differs (λ more. each_element (tree_at (more + n) s) p (words_there s p (count * (d + k))) d k count) elements_have_capability (λ es. StandElements s p d k head (trim_elements es)) (IsSmall s p) (from_elements (visits n s) p d k count) l m
+    pub elements_differ : (j m : ReadLimiter) → Differs (row_test (reach n s) (after (after p (i * (d + k))) d) k e) j m
+        → ElementsSoFar n s p count d k head l i e j → Differs (elements_test (reach n s) p count d k head) l m
     elements_differ j m x f =
         let g = tree_at n s in
         let t : ℕ → Place → Option Tree = λ more. tree_at (more + n) s in
@@ -173,7 +174,7 @@ module _ (n : ℕ) (s : Segments) (p : Place) (count d k head : ℕ) (l : ReadLi
         x y f.so_far
 
   pub elements_ended : (i e : ℕ) (m : ReadLimiter) → i ≡ count → AreThere s p (count * (d + k)) → ElementsSoFar n s p count d k head l i e m
-      → Agrees (each_element (tree_at n s) p (words_there s p (count * (d + k))) d k count) elements_have_capability (λ es. StandElements s p d k head (trim_elements es)) (from_elements (visits n s) p d k count) l e m
+      → Agrees (elements_test (reach n s) p count d k head) l e m
   unfolding has_capability trim
   elements_ended i e m same inside f =
       let g = tree_at n s in
@@ -184,14 +185,14 @@ module _ (n : ℕ) (s : Segments) (p : Place) (count d k head : ℕ) (l : ReadLi
       let at_end = f.there.there in
       let near = at_end.1 in
       let nothing : e ≡ e + 0 = omega arith in
-      let reach : i * w + 0 ≤ count * w = (let same_width : i * w ≡ count * w = ap (λ (j : ℕ). j * w) same in omega arith) in
-      ended (each_element g p (words_there s p (count * w)) d k count) (elements_from n s p count d k i) (λ more. each_element (t more) p (words_there s p (count * w)) d k count) (λ more. elements_from (more + n) s p count d k i) elements_have_capability (λ es. StandElements s p d k head (trim_elements es)) (ElementsFrom s p d k i e) (from_elements v p d k count) (from_elements v (after p (i * w)) d k (count - i)) l m no_elements e
-      (row_end count i (each_element g (after p (i * w)) (drop (i * w) (words_there s p (count * w))) d k) past) refl (record { row = hold_none s (after p (i * w)) (part_there s p (count * w) inside.0 (i * w) 0 reach); targets = hold_none s (place p.segment e) at_end.0; ends = nothing }) (omega arith)
+      let no_further : i * w + 0 ≤ count * w = (let same_width : i * w ≡ count * w = ap (λ (j : ℕ). j * w) same in omega arith) in
+      ended (each_element g p (words_there s p (count * w)) d k count) (elements_from n s p count d k i) (λ more. each_element (t more) p (words_there s p (count * w)) d k count) (λ more. elements_from (more + n) s p count d k i) elements_have_capability (λ es. StandElements s p d k head (trim_elements es)) (ElementsFrom s p d k i e) (from_elements v p d k count) (from_elements v (after p (i * w)) d k (count - i)) l m (IsSmall s p) no_elements e
+      (row_end count i (each_element g (after p (i * w)) (drop (i * w) (words_there s p (count * w))) d k) past) refl (record { row = hold_none s (after p (i * w)) (part_there s p (count * w) inside.0 (i * w) 0 no_further); targets = hold_none s (place p.segment e) at_end.0; ends = nothing }) (omega arith)
       (row_end count i (from_elements v (after p (i * w)) d k) past) f.so_far
 
 -- elements without pointers stand as they are
 module _ (n : ℕ) (s : Segments) (p : Place) (count d head : ℕ) (l : ReadLimiter) (inside : AreThere s p (count * (d + 0))) (there : HasHead s p (count * (d + 0)) head) where
-  plain_first : (i : ℕ) → i < count → Agrees (each (tree_at n s) (after (after p (i * (d + 0))) d) 0) have_capability (λ ts. StandEach s (after (after p (i * (d + 0))) d) head (trim_each ts)) (from_each (visits n s) (after (after p (i * (d + 0))) d) 0) l head l
+  plain_first : (i : ℕ) → i < count → Agrees (row_test (reach n s) (after (after p (i * (d + 0))) d) 0 head) l head l
   plain_first i h =
       let w = d + 0 in
       let all = count * w in
@@ -209,5 +210,5 @@ module _ (n : ℕ) (s : Segments) (p : Place) (count d head : ℕ) (l : ReadLimi
       let one : i + 1 ≡ suc i = omega arith in
       subst (λ (j : ℕ). ElementsSoFar n s p count d 0 head l j head l) one (elements_next n s p count d 0 head l i head (omega arith) inside there head l l (plain_first i (omega arith)) (plain_so_far i (omega arith)))
 
-  pub plain_elements : Agrees (each_element (tree_at n s) p (words_there s p (count * (d + 0))) d 0 count) elements_have_capability (λ es. StandElements s p d 0 head (trim_elements es)) (from_elements (visits n s) p d 0 count) l head l
+  pub plain_elements : Agrees (elements_test (reach n s) p count d 0 head) l head l
   plain_elements = elements_ended n s p count d 0 head l count head l refl inside (plain_so_far count (omega arith))

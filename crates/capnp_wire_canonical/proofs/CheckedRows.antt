@@ -17,8 +17,9 @@ use Rattle.capnp_wire_objects.specs.Objects.{AreThere}
 use Rattle.capnp_wire_objects.specs.Walks.{Stopped}
 use Rattle.capnp_wire_objects.proofs.lemmas.Rows.{row_start, row_end, met_next, each_next}
 use Rattle.capnp_model.proofs.lemmas.Counts.{each_count}
+use Rattle.capnp_wire_canonical.specs.Reaches.{reach}
 use Rattle.capnp_wire_canonical.specs.Standing.{Stands, StandEach, IsSmall, HasHead}
-use Rattle.capnp_wire_canonical.specs.Checks.{Agrees, Differs}
+use Rattle.capnp_wire_canonical.specs.Checks.{Agrees, Differs, value_test, row_test}
 use Rattle.capnp_wire_canonical.proofs.lemmas.Checking.{SoFar, Parts, begun, next, differs, stopped, ended}
 use Rattle.capnp_wire_canonical.proofs.Holding.{hold_none, hold_end}
 use Rattle.capnp_wire_canonical.proofs.Parts.{part_there}
@@ -114,7 +115,7 @@ module _ (n : ℕ) (s : Segments) (p : Place) (count head : ℕ) (l : ReadLimite
     kept : (more : ℕ) (t : Tree) → tree_at n s (after p i) ≡ Some t → tree_at (more + n) s (after p i) ≡ Some t
     kept more t is = tree_at_more n (more + n) s (after p i) t (omega arith) is
 
-    pub row_next : (e' : ℕ) (k m : ReadLimiter) → Agrees (tree_at n s (after p i)) has_capability (λ t. Stands s (after p i) e (trim t)) (visits n s (after p i)) k e' m → RowSoFar n s p count head l i e k → RowSoFar n s p count head l (i + 1) e' m
+    pub row_next : (e' : ℕ) (k m : ReadLimiter) → Agrees (value_test (reach n s) (after p i) e) k e' m → RowSoFar n s p count head l i e k → RowSoFar n s p count head l (i + 1) e' m
     row_next e' k m x f =
         let g = tree_at n s in
         let t : ℕ → Place → Option Tree = λ more. tree_at (more + n) s in
@@ -123,12 +124,12 @@ module _ (n : ℕ) (s : Segments) (p : Place) (count head : ℕ) (l : ReadLimite
         record {
           so_far = next (each g p count) (each g (after p i) (count - i)) (each g (after p (i + 1)) (count - (i + 1))) (λ more. each (t more) p count) (λ more. each (t more) (after p i) (count - i)) (λ more. each (t more) (after p (i + 1)) (count - (i + 1))) have_capability (λ ts. StandEach s p head (trim_each ts)) (RowFrom s p i e) (RowFrom s p (i + 1))
               (g (after p i)) (λ more. t more (after p i)) has_capability (λ u. Stands s (after p i) e (trim u)) (from_each v p count) (from_each v (after p i) (count - i)) (from_each v (after p (i + 1)) (count - (i + 1))) (v (after p i)) l k m (met_next p i count h v) row_split
-              e' kept ends_alike (λ u us end is are clean cleans a b. row_join e' u us end is are clean cleans a b) x f.so_far;
+              (IsSmall s p) e' kept ends_alike (λ u us end is are clean cleans a b. row_join e' u us end is are clean cleans a b) x f.so_far;
           there = head_next s p count e e' (body (trim x.what)) f.there (hold_end s (place p.segment e) (body (trim x.what)) stand.targets) stand.ends x.near;
         }
 
-    pub row_differs : (k m : ReadLimiter) → Differs (λ more. tree_at (more + n) s (after p i)) has_capability (λ t. Stands s (after p i) e (trim t)) (IsSmall s p) (visits n s (after p i)) k m → RowSoFar n s p count head l i e k
-        → Differs (λ more. each (tree_at (more + n) s) p count) have_capability (λ ts. StandEach s p head (trim_each ts)) (IsSmall s p) (from_each (visits n s) p count) l m
+    pub row_differs : (k m : ReadLimiter) → Differs (value_test (reach n s) (after p i) e) k m → RowSoFar n s p count head l i e k
+        → Differs (row_test (reach n s) p count head) l m
     row_differs k m x f =
         let g = tree_at n s in
         let t : ℕ → Place → Option Tree = λ more. tree_at (more + n) s in
@@ -144,7 +145,7 @@ module _ (n : ℕ) (s : Segments) (p : Place) (count head : ℕ) (l : ReadLimite
         stopped (each g p count) (each g (after p i) (count - i)) (each g (after p (i + 1)) (count - (i + 1))) (λ more. each (t more) p count) (λ more. each (t more) (after p i) (count - i)) (λ more. each (t more) (after p (i + 1)) (count - (i + 1))) have_capability (λ ts. StandEach s p head (trim_each ts)) (RowFrom s p i e) (RowFrom s p (i + 1))
         (g (after p i)) (λ more. t more (after p i)) has_capability (λ u. Stands s (after p i) e (trim u)) (from_each v p count) (from_each v (after p i) (count - i)) (from_each v (after p (i + 1)) (count - (i + 1))) (v (after p i)) l k m (met_next p i count h v) row_split x w f.so_far
 
-  pub row_ended : (i e : ℕ) (m : ReadLimiter) → i ≡ count → AreThere s p count → RowSoFar n s p count head l i e m → Agrees (each (tree_at n s) p count) have_capability (λ ts. StandEach s p head (trim_each ts)) (from_each (visits n s) p count) l e m
+  pub row_ended : (i e : ℕ) (m : ReadLimiter) → i ≡ count → AreThere s p count → RowSoFar n s p count head l i e m → Agrees (row_test (reach n s) p count head) l e m
   unfolding has_capability trim
   row_ended i e m same inside f =
       let g = tree_at n s in
@@ -154,5 +155,5 @@ module _ (n : ℕ) (s : Segments) (p : Place) (count head : ℕ) (l : ReadLimite
       let at_end = f.there.there in
       let near = at_end.1 in
       let nothing : e ≡ e + 0 = omega arith in
-      ended (each g p count) (each g (after p i) (count - i)) (λ more. each (t more) p count) (λ more. each (t more) (after p i) (count - i)) have_capability (λ ts. StandEach s p head (trim_each ts)) (RowFrom s p i e) (from_each v p count) (from_each v (after p i) (count - i)) l m none e
+      ended (each g p count) (each g (after p i) (count - i)) (λ more. each (t more) p count) (λ more. each (t more) (after p i) (count - i)) have_capability (λ ts. StandEach s p head (trim_each ts)) (RowFrom s p i e) (from_each v p count) (from_each v (after p i) (count - i)) l m (IsSmall s p) none e
       (row_end count i (each g (after p i)) past) refl (record { row = hold_none s (after p i) (part_there s p count inside.0 i 0 (omega arith)); targets = hold_none s (place p.segment e) at_end.0; ends = nothing }) (omega arith) (row_end count i (from_each v (after p i)) past) f.so_far

@@ -12,7 +12,11 @@ use Rattle.capnp_units.proofs.lemmas.Spending.{spends_both}
 use Rattle.capnp_wire_objects.specs.Walks.{Walked, Stopped}
 use Rattle.capnp_wire_objects.proofs.lemmas.Walks.{walked_none, walked_both, stopped_later}
 use Rattle.capnp_wire_canonical.specs.Writes.{filled}
-use Rattle.capnp_wire_canonical.specs.Copies.{Behind, room_of, HasNoRoomFor, Filled, Halted, Unwritten, Written, WritesCopy}
+use Rattle.capnp_wire_canonical.specs.Copies.{CopyState, copy_state, Copying, Behind, room_of, HasNoRoomFor, Filled, Halted, Unwritten, Written, WritesCopy}
+
+-- A copy that may write over the words in use.
+abbrev pub over_used : {X : Type 0} → Option X → (X → Bool) → (X → List ℕ → List ℕ) → List Visit → ℕ → Copying X
+over_used there bad put path used = record { there = there; bad = bad; put = put; path = path; used = used; most = used }
 
 -- ---- what stays
 
@@ -37,28 +41,28 @@ spends_of path cost l m w e = subst (λ (n : ℕ). Spends l m n) (some_is _ _ (s
 
 -- ---- refusals
 
-halted_later : (a b path more : List Visit) (cost u most most' : ℕ) (old mid new : List (List ℕ)) (l k m : ReadLimiter) (e : Error) → path ≡ a ++ (b ++ more) → visits_cost a ≡ Some cost → Walked a l k
-    → Behind u old mid → u ≤ most + cost → most' ≤ most + cost → Halted b most' mid k e new m → Halted path most old l e new m
-halted_later a b path more cost u most most' old mid new l k m e is paid w x h j y =
-    let room : room_of mid ≡ room_of old = ap (λ (n : ℕ). min n (2 ^ 29 - 1)) x.0 in
+halted_later : (a b path more : List Visit) (cost u most most' : ℕ) (old mid new : CopyState) (e : Error) → path ≡ a ++ (b ++ more) → visits_cost a ≡ Some cost → Walked a old.limiter mid.limiter
+    → Behind u old.words mid.words → u ≤ most + cost → most' ≤ most + cost → Halted b most' mid e new → Halted path most old e new
+halted_later a b path more cost u most most' old mid new e is paid w x h j y =
+    let room : room_of mid.words ≡ room_of old.words = ap (λ (n : ℕ). min n (2 ^ 29 - 1)) x.0 in
     record {
       paid = cost + y.paid;
-      spends = spends_both l k m cost y.paid (spends_of a cost l k w paid) y.spends;
-      behind = behind_both u (most' + y.paid) (most + (cost + y.paid)) old mid new (omega arith) (omega arith) x y.behind;
+      spends = spends_both old.limiter mid.limiter new.limiter cost y.paid (spends_of a cost old.limiter mid.limiter w paid) y.spends;
+      behind = behind_both u (most' + y.paid) (most + (cost + y.paid)) old.words mid.words new.words (omega arith) (omega arith) x y.behind;
       why = elim y.why [
-        | inl z ↦ inl (stopped_later a b path more l k m e is w z)
+        | inl z ↦ inl (stopped_later a b path more old.limiter mid.limiter new.limiter e is w z)
         | inr z ↦ inr (by room z)
       ];
     }
   where
-    by : room_of mid ≡ room_of old → Filled b (room_of mid) most' k e m → Filled path (room_of old) most l e m
+    by : room_of mid.words ≡ room_of old.words → Filled b (room_of mid.words) most' mid.limiter e new.limiter → Filled path (room_of old.words) most old.limiter e new.limiter
     by room z = record {
       before = a ++ z.before;
       rest = z.rest ++ more;
       path_is = is ∙ ap (λ (vs : List Visit). a ++ (vs ++ more)) z.path_is ∙ ap (λ (vs : List Visit). a ++ vs) (append_assoc z.before z.rest more) ∙ sym (append_assoc a z.before (z.rest ++ more));
       cost = cost + z.cost;
       cost_is = cost_together a z.before cost z.cost paid z.cost_is;
-      walked = walked_both a z.before l k m w z.walked;
+      walked = walked_both a z.before old.limiter mid.limiter new.limiter w z.walked;
       why = z.why;
       full = let f = z.full in omega arith;
     }
@@ -72,41 +76,41 @@ no_room_later there put there' put' used used' old mid room back none = λ y is.
     let less = part.2 in
     omega arith
 
-pub unwritten_later : {X Y : Type 0} (there : Option X) (put : X → List ℕ → List ℕ) (there' : Option Y) (put' : Y → List ℕ → List ℕ) (a b path more : List Visit) (cost u most most' used used' : ℕ) (old mid new : List (List ℕ)) (l k m : ReadLimiter) (e : Error)
-    → path ≡ a ++ (b ++ more) → visits_cost a ≡ Some cost → Walked a l k → Behind u old mid → u ≤ most + cost → most' ≤ most + cost
-    → ((y : Y) → there' ≡ Some y → (x : X) × (there ≡ Some x) × (length (put x (filled used' mid)) ≤ length (put' y (filled used old))))
-    → Unwritten there put b most' used' mid k e new m → Unwritten there' put' path most used old l e new m
-unwritten_later there put there' put' a b path more cost u most most' used used' old mid new l k m e is paid w x h j back y =
-    let room : room_of mid ≡ room_of old = ap (λ (n : ℕ). min n (2 ^ 29 - 1)) x.0 in
+pub unwritten_later : {X Y : Type 0} (part : Copying X) (whole : Copying Y) (a more : List Visit) (cost u : ℕ) (old mid new : CopyState) (e : Error)
+    → whole.path ≡ a ++ (part.path ++ more) → visits_cost a ≡ Some cost → Walked a old.limiter mid.limiter → Behind u old.words mid.words → u ≤ whole.most + cost → part.most ≤ whole.most + cost
+    → ((y : Y) → whole.there ≡ Some y → (x : X) × (part.there ≡ Some x) × (length (part.put x (filled part.used mid.words)) ≤ length (whole.put y (filled whole.used old.words))))
+    → Unwritten part mid e new → Unwritten whole old e new
+unwritten_later part whole a more cost u old mid new e is paid w x h j back y =
+    let room : room_of mid.words ≡ room_of old.words = ap (λ (n : ℕ). min n (2 ^ 29 - 1)) x.0 in
     record {
-      halted = halted_later a b path more cost u most most' old mid new l k m e is paid w x h j y.halted;
-      full = λ kind. no_room_later there put there' put' used used' old mid room back (y.full kind);
+      halted = halted_later a part.path whole.path more cost u whole.most part.most old mid new e is paid w x h j y.halted;
+      full = λ kind. no_room_later part.there part.put whole.there whole.put whole.used part.used old.words mid.words room back (y.full kind);
     }
 
 -- at the first visit
-pub unwritten_at : {X : Type 0} (there : Option X) (put : X → List ℕ → List ℕ) (path : List Visit) (most used : ℕ) (old : List (List ℕ)) (l m : ReadLimiter) (e : Error) → Stopped path l e m → (e.kind ≡ BufferNotLargeEnough → ⊥) → Unwritten there put path most used old l e old m
-unwritten_at there put path most used old l m e x other = record { halted = record { paid = x.paid; spends = x.spends; behind = behind_none (most + x.paid) old; why = inl x }; full = λ kind. absurd (other kind) }
+pub unwritten_at : {X : Type 0} (copy : Copying X) (old : CopyState) (e : Error) (m : ReadLimiter) → Stopped copy.path old.limiter e m → (e.kind ≡ BufferNotLargeEnough → ⊥) → Unwritten copy old e (copy_state old.words m)
+unwritten_at copy old e m x other = record { halted = record { paid = x.paid; spends = x.spends; behind = behind_none (copy.most + x.paid) old.words; why = inl x }; full = λ kind. absurd (other kind) }
 
 -- no room for the first words
-pub unwritten_first : {X : Type 0} (there : Option X) (put : X → List ℕ → List ℕ) (path : List Visit) (most used : ℕ) (old : List (List ℕ)) (l : ReadLimiter) (e : Error) → e.kind ≡ BufferNotLargeEnough → room_of old < most → HasNoRoomFor there put used old → Unwritten there put path most used old l e old l
-unwritten_first there put path most used old l e why full none =
-    let zero_too : room_of old < most + 0 = omega arith in
+pub unwritten_first : {X : Type 0} (copy : Copying X) (old : CopyState) (e : Error) → e.kind ≡ BufferNotLargeEnough → room_of old.words < copy.most → HasNoRoomFor copy.there copy.put copy.used old.words → Unwritten copy old e old
+unwritten_first copy old e why full none =
+    let zero_too : room_of old.words < copy.most + 0 = omega arith in
+    let l = old.limiter in
     record {
       halted = record {
         paid = 0;
         spends = spends_of [] 0 l l (walked_none l) refl;
-        behind = behind_none (most + 0) old;
-        why = inr (record { before = []; rest = path; path_is = refl; cost = 0; cost_is = refl; walked = walked_none l; why = why; full = zero_too });
+        behind = behind_none (copy.most + 0) old.words;
+        why = inr (record { before = []; rest = copy.path; path_is = refl; cost = 0; cost_is = refl; walked = walked_none l; why = why; full = zero_too });
       };
       full = λ kind. none;
     }
 
-pub halts_is : {X : Type 0} (there : Option X) (bad : X → Bool) (put : X → List ℕ → List ℕ) (path : List Visit) (most used : ℕ) (old new : List (List ℕ)) (l m : ReadLimiter) (r : Result ℕ Error) (x e : Error) → r ≡ Err x → x ≡ e → Unwritten there put path most used old l e new m → WritesCopy there bad put path most used old l r new m
-halts_is there bad put path most used old new l m r x e a b w = subst (λ (y : Result ℕ Error). WritesCopy there bad put path most used old l y new m) (sym (a ∙ ap (λ (y : Error). Err y) b)) w
+pub halts_is : {X : Type 0} (copy : Copying X) (old new : CopyState) (r : Result ℕ Error) (x e : Error) → r ≡ Err x → x ≡ e → Unwritten copy old e new → WritesCopy copy old r new
+halts_is copy old new r x e a b w = subst (λ (y : Result ℕ Error). WritesCopy copy old y new) (sym (a ∙ ap (λ (y : Error). Err y) b)) w
 
-pub no_room : {X : Type 0} (there : Option X) (bad : X → Bool) (put : X → List ℕ → List ℕ) (path : List Visit) (most used : ℕ) (old : List (List ℕ)) (l : ReadLimiter) (r : Result ℕ Error) (e : Error) → r ≡ Err e → e.kind ≡ BufferNotLargeEnough → room_of old < most → HasNoRoomFor there put used old → WritesCopy there bad put path most used old l r old l
-no_room there bad put path most used old l r e is why full none =
-    halts_is there bad put path most used old old l l r e e is refl (unwritten_first there put path most used old l e why full none)
+pub no_room : {X : Type 0} (copy : Copying X) (old : CopyState) (r : Result ℕ Error) (e : Error) → r ≡ Err e → e.kind ≡ BufferNotLargeEnough → room_of old.words < copy.most → HasNoRoomFor copy.there copy.put copy.used old.words → WritesCopy copy old r old
+no_room copy old r e is why full none = halts_is copy old old r e e is refl (unwritten_first copy old e why full none)
 
 -- ---- several in a row
 
@@ -146,7 +150,7 @@ pub next : {X Y : Type 0} (there rest rest' : Option X) (bad : X → Bool) (put 
     → left ≡ own ++ left'
     → ((x : Y) (y : X) → item ≡ Some x → rest' ≡ Some y → (z : X) × (rest ≡ Some z) × (bad' x ≡ false → bad y ≡ false → bad z ≡ false) × (put'' y (one x (filled used mid)) ≡ put' z (filled used mid)))
     → ((z : X) → rest ≡ Some z → (x : Y) × (y : X) × (item ≡ Some x) × (rest' ≡ Some y))
-    → Written item bad' one own used used mid k end new m → SoFar there rest bad put put' path left first old l used mid k → SoFar there rest' bad put put'' path left' first old l end new m
+    → Written (over_used item bad' one own used) (copy_state mid k) end (copy_state new m) → SoFar there rest bad put put' path left first old l used mid k → SoFar there rest' bad put put'' path left' first old l end new m
 next there rest rest' bad put put' put'' item bad' one path left left' own first old mid new l k m used end split join parts w f =
     let more = w.more in
     let before = f.more in
@@ -174,7 +178,7 @@ next there rest rest' bad put put' put'' item bad' one path left left' own first
     }
 
 pub ended : {X : Type 0} (there rest : Option X) (bad : X → Bool) (put put' : X → List ℕ → List ℕ) (path left : List Visit) (first : ℕ) (old now : List (List ℕ)) (l m : ReadLimiter) (used : ℕ) (x : X) → rest ≡ Some x → bad x ≡ false → put' x (filled used now) ≡ filled used now → left ≡ []
-    → SoFar there rest bad put put' path left first old l used now m → Written there bad put path first first old l used now m
+    → SoFar there rest bad put put' path left first old l used now m → Written (over_used there bad put path first) (copy_state old l) used (copy_state now m)
 ended there rest bad put put' path left first old now l m used x is clean same none f =
     let r = f.read x is in
     let all : path ≡ f.done = f.path_is ∙ ap (λ (vs : List Visit). f.done ++ vs) none ∙ append-nil f.done in
@@ -198,9 +202,9 @@ pub stopped : {X Y : Type 0} (there rest rest' : Option X) (bad : X → Bool) (p
     → ((x : Y) (y : X) → item ≡ Some x → rest' ≡ Some y → (z : X) × (rest ≡ Some z) × (bad' x ≡ false → bad y ≡ false → bad z ≡ false) × (put'' y (one x (filled used now)) ≡ put' z (filled used now)))
     → ((z : X) → rest ≡ Some z → (x : Y) × (y : X) × (item ≡ Some x) × (rest' ≡ Some y))
     → ((x : Y) (y : X) → item ≡ Some x → rest' ≡ Some y → length (one x (filled used now)) ≤ length (put'' y (one x (filled used now))))
-    → Unwritten item one own used used now k e new m → SoFar there rest bad put put' path left first old l used now k → Unwritten there put path first first old l e new m
+    → Unwritten (over_used item bad' one own used) (copy_state now k) e (copy_state new m) → SoFar there rest bad put put' path left first old l used now k → Unwritten (over_used there bad put path first) (copy_state old l) e (copy_state new m)
 stopped {X = X} {Y = Y} there rest rest' bad put put' put'' item bad' one path left own more first old now new l k m used e split join parts longer h f =
-    unwritten_later item one there put f.done own path more f.cost used first used first used old now new l k m e (f.path_is ∙ ap (λ (vs : List Visit). f.done ++ vs) split) f.cost_is f.walked f.behind f.few f.few
+    unwritten_later (over_used item bad' one own used) (over_used there bad put path first) f.done more f.cost used (copy_state old l) (copy_state now k) (copy_state new m) e (f.path_is ∙ ap (λ (vs : List Visit). f.done ++ vs) split) f.cost_is f.walked f.behind f.few f.few
     (λ y is.
     let z = f.back y is in
     let q = parts z.0 z.1 in
@@ -214,7 +218,7 @@ stopped {X = X} {Y = Y} there rest rest' bad put put' put'' item bad' one path l
 -- ---- an object that is paid for, and what is behind it
 
 pub paid_then : {X : Type 0} (there : Option X) (bad : X → Bool) (put : X → List ℕ → List ℕ) (a b : List Visit) (cost most used : ℕ) (old new : List (List ℕ)) (l k m : ReadLimiter) (r : Result ℕ Error) → visits_cost a ≡ Some cost → Walked a l k → used ≤ most
-    → WritesCopy there bad put b (most + cost) used old k r new m → WritesCopy there bad put (a ++ b) most used old l r new m
+    → WritesCopy (record { there = there; bad = bad; put = put; path = b; used = used; most = most + cost }) (copy_state old k) r (copy_state new m) → WritesCopy (record { there = there; bad = bad; put = put; path = a ++ b; used = used; most = most }) (copy_state old l) r (copy_state new m)
 paid_then there bad put a b cost most used old new l k m (Ok end) paid w h x =
     let few = x.few in
     record {
@@ -232,15 +236,15 @@ paid_then there bad put a b cost most used old new l k m (Ok end) paid w h x =
       few = omega arith;
     }
 paid_then there bad put a b cost most used old new l k m (Err e) paid w h x =
-    unwritten_later there put there put a b (a ++ b) [] cost most most (most + cost) used used old old new l k m e (ap (λ (vs : List Visit). a ++ vs) (sym (append-nil b))) paid w (behind_none most old) (omega arith) (omega arith) (λ y is. (y, is, omega arith)) x
+    unwritten_later (record { there = there; bad = bad; put = put; path = b; used = used; most = most + cost }) (record { there = there; bad = bad; put = put; path = a ++ b; used = used; most = most }) a [] cost most (copy_state old l) (copy_state old k) (copy_state new m) e (ap (λ (vs : List Visit). a ++ vs) (sym (append-nil b))) paid w (behind_none most old) (omega arith) (omega arith) (λ y is. (y, is, omega arith)) x
 
 -- ---- something made of what was read, over words that were put first
 
-pub made_of : {X Y : Type 0} (there : Option X) (bad : X → Bool) (put : X → List ℕ → List ℕ) (there' : Option Y) (bad' : Y → Bool) (put' : Y → List ℕ → List ℕ) (path : List Visit) (most most' used used' : ℕ) (old mid new : List (List ℕ)) (l m : ReadLimiter) (r : Result ℕ Error)
-    → ((x : X) → there ≡ Some x → (y : Y) × (there' ≡ Some y) × (bad x ≡ false → bad' y ≡ false) × (put x (filled used' mid) ≡ put' y (filled used old)))
-    → ((y : Y) → there' ≡ Some y → (x : X) × (there ≡ Some x))
-    → Behind used' old mid → used ≤ used' → used' ≤ most → most' ≤ most → WritesCopy there bad put path most' used' mid l r new m → WritesCopy there' bad' put' path most used old l r new m
-made_of there bad put there' bad' put' path most most' used used' old mid new l m (Ok end) make back behind h i j x =
+pub made_of : {X Y : Type 0} (part : Copying X) (whole : Copying Y) (old mid new : CopyState) (r : Result ℕ Error) → whole.path ≡ part.path → old.limiter ≡ mid.limiter
+    → ((x : X) → part.there ≡ Some x → (y : Y) × (whole.there ≡ Some y) × (part.bad x ≡ false → whole.bad y ≡ false) × (part.put x (filled part.used mid.words) ≡ whole.put y (filled whole.used old.words)))
+    → ((y : Y) → whole.there ≡ Some y → (x : X) × (part.there ≡ Some x))
+    → Behind part.used old.words mid.words → whole.used ≤ part.used → part.used ≤ whole.most → part.most ≤ whole.most → WritesCopy part mid r new → WritesCopy whole old r new
+made_of part whole old mid new (Ok end) path same make back behind h i j x =
     let y = make x.what x.there_is in
     let few = x.few in
     let more = x.more in
@@ -249,20 +253,20 @@ made_of there bad put there' bad' put' path most most' used used' old mid new l 
       there_is = y.1;
       clean = y.2 x.clean;
       words = x.words ∙ y.3;
-      behind = behind_both used' end end old mid new more (omega arith) behind x.behind;
+      behind = behind_both part.used end end old.words mid.words new.words more (omega arith) behind x.behind;
       bound = x.bound;
       near = x.near;
       more = omega arith;
       cost = x.cost;
-      cost_is = x.cost_is;
-      walked = x.walked;
+      cost_is = ap visits_cost path ∙ x.cost_is;
+      walked = subst (λ (vs : List Visit). Walked vs old.limiter new.limiter) (sym path) (subst (λ (l : ReadLimiter). Walked part.path l new.limiter) (sym same) x.walked);
       few = omega arith;
     }
-made_of {X = X} {Y = Y} there bad put there' bad' put' path most most' used used' old mid new l m (Err e) make back behind h i j x =
-    unwritten_later there put there' put' [] path path [] 0 used' most most' used used' old mid new l l m e (sym (append-nil path)) refl (walked_none l) behind (omega arith) (omega arith)
+made_of {X = X} {Y = Y} part whole old mid new (Err e) path same make back behind h i j x =
+    unwritten_later part whole [] [] 0 part.used old mid new e (path ∙ sym (append-nil part.path)) refl (subst (λ (l : ReadLimiter). Walked [] old.limiter l) same (walked_none old.limiter)) behind (omega arith) (omega arith)
     (λ y is.
     let p = back y is in
     let q = make p.0 p.1 in
-    let same : q.0 ≡ y = some_is _ _ (sym q.1 ∙ is) in
-    let words : length (put p.0 (filled used' mid)) ≡ length (put' y (filled used old)) = ap length q.3 ∙ ap (λ (z : Y). length (put' z (filled used old))) same in
+    let alike : q.0 ≡ y = some_is _ _ (sym q.1 ∙ is) in
+    let words : length (part.put p.0 (filled part.used mid.words)) ≡ length (whole.put y (filled whole.used old.words)) = ap length q.3 ∙ ap (λ (z : Y). length (whole.put z (filled whole.used old.words))) alike in
     (p.0, p.1, omega arith)) x

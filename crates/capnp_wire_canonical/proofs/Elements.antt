@@ -15,8 +15,8 @@ use Rattle.capnp_wire_objects.specs.Inside.{section_at, words_there}
 use Rattle.capnp_wire_objects.proofs.lemmas.Rows.{row_end, elements_start, elements_met_next}
 use Rattle.capnp_model.proofs.lemmas.Counts.{each_element_count}
 use Rattle.capnp_wire_canonical.specs.Writes.{filled, with_cells}
-use Rattle.capnp_wire_canonical.specs.Copies.{copy_visits, Written, Unwritten}
-use Rattle.capnp_wire_canonical.proofs.Copying.{SoFar, begun, next, ended, stopped}
+use Rattle.capnp_wire_canonical.specs.Copies.{copy_visits, Written, Unwritten, copy_state}
+use Rattle.capnp_wire_canonical.proofs.Copying.{SoFar, begun, next, ended, stopped, over_used}
 use Rattle.capnp_wire_canonical.proofs.Rows.{element_join, element_parts, part_section}
 use Rattle.capnp_wire_canonical.proofs.Rooms.{cell_longer, cells_longer}
 use Rattle.capnp_wire_canonical.proofs.Parts.{part_room}
@@ -53,9 +53,9 @@ module _ (n : ℕ) (s : Segments) (p : Place) (d k a b count at first : ℕ) (ol
       (λ es. ap (λ (j : ℕ). with_cells j (at + count * (a + b)) a b (with_pointers b (trim_elements es)) (filled first old)) start)
 
   pub elements_stopped : (words i used : ℕ) (now new : List (List ℕ)) (j m : ReadLimiter) (e : Error) → i < count → AreThere s p words → count * (d + k) ≤ words → at + count * (a + b) ≤ first
-      → Unwritten (each (tree_at n s) (after (after p (i * (d + k))) d) k) (λ ts. with_cells (at + i * (a + b)) (at + i * (a + b) + (a + b)) a b (element (section_at s (after p (i * (d + k))) d) (resized b (trim_each ts)) no_elements)) (from_each (copy_visits n s) (after (after p (i * (d + k))) d) k) used used now j e new m
+      → Unwritten (over_used (each (tree_at n s) (after (after p (i * (d + k))) d) k) have_capability (λ ts. with_cells (at + i * (a + b)) (at + i * (a + b) + (a + b)) a b (element (section_at s (after p (i * (d + k))) d) (resized b (trim_each ts)) no_elements)) (from_each (copy_visits n s) (after (after p (i * (d + k))) d) k) used) (copy_state now j) e (copy_state new m)
       → ElementsSoFar n s p (words_there s p words) d k a b count at i first old l used now j
-      → Unwritten (each_element (tree_at n s) p (words_there s p words) d k count) (elements_put at (at + count * (a + b)) a b) (from_elements (copy_visits n s) p d k count) first first old l e new m
+      → Unwritten (over_used (each_element (tree_at n s) p (words_there s p words) d k count) elements_have_capability (elements_put at (at + count * (a + b)) a b) (from_elements (copy_visits n s) p d k count) first) (copy_state old l) e (copy_state new m)
   elements_stopped words i used now new j m e h there fit inside x so_far =
       let ws = words_there s p words in
       let f = tree_at n s in
@@ -81,7 +81,7 @@ module _ (n : ℕ) (s : Segments) (p : Place) (d k a b count at first : ℕ) (ol
       cells_longer (at + (i + 1) * (a + b)) (at + count * (a + b)) a b (trim_elements es) (out ts) (omega arith) (omega arith)) x so_far
 
   pub elements_next : (words i used end : ℕ) (now new : List (List ℕ)) (j m : ReadLimiter) → i < count → AreThere s p words → count * (d + k) ≤ words → at + count * (a + b) ≤ first
-      → Written (each (tree_at n s) (after (after p (i * (d + k))) d) k) have_capability (λ ts. with_cells (at + i * (a + b)) (at + i * (a + b) + (a + b)) a b (element (section_at s (after p (i * (d + k))) d) (resized b (trim_each ts)) no_elements)) (from_each (copy_visits n s) (after (after p (i * (d + k))) d) k) used used now j end new m
+      → Written (over_used (each (tree_at n s) (after (after p (i * (d + k))) d) k) have_capability (λ ts. with_cells (at + i * (a + b)) (at + i * (a + b) + (a + b)) a b (element (section_at s (after p (i * (d + k))) d) (resized b (trim_each ts)) no_elements)) (from_each (copy_visits n s) (after (after p (i * (d + k))) d) k) used) (copy_state now j) end (copy_state new m)
       → ElementsSoFar n s p (words_there s p words) d k a b count at i first old l used now j → ElementsSoFar n s p (words_there s p words) d k a b count at (i + 1) first old l end new m
   elements_next words i used end now new j m h there fit inside written so_far =
       let ws = words_there s p words in
@@ -100,7 +100,7 @@ module _ (n : ℕ) (s : Segments) (p : Place) (d k a b count at first : ℕ) (ol
       (λ x y is rest_is. element_join at a b d k i count section (filled used now) ws f p x y h (omega arith) is rest_is (sym (part_section s p words there.0 (i * (d + k)) d (omega arith)))) (λ xs is. element_parts d k i count ws f p xs h is) written so_far
 
   pub elements_ended : (ws : List ℕ) (i used : ℕ) (now : List (List ℕ)) (m : ReadLimiter) → i ≡ count → ElementsSoFar n s p ws d k a b count at i first old l used now m
-      → Written (each_element (tree_at n s) p ws d k count) elements_have_capability (elements_put at (at + count * (a + b)) a b) (from_elements (copy_visits n s) p d k count) first first old l used now m
+      → Written (over_used (each_element (tree_at n s) p ws d k count) elements_have_capability (elements_put at (at + count * (a + b)) a b) (from_elements (copy_visits n s) p d k count) first) (copy_state old l) used (copy_state now m)
   unfolding has_capability trim
   elements_ended ws i used now m same so_far =
       let f = tree_at n s in

@@ -1,15 +1,14 @@
 -- What is written of each kind of object.
-use Rattle.std.proofs.Common.{◌≡◌, ℕ, zero, suc, ◌+◌, ◌-◌, ◌*◌, ◌/◌, ◌^◌, ◌<◌, ◌≤◌, nat_lt, Bool, true, false, List, [], ◌∷◌, ◌++◌, length, take, drop, set, Option, Some, Result, Ok, refl, ap, sym, ◌∙◌, subst, arith, eqb, if◌then◌else◌, ◌==◌}
+use Rattle.std.proofs.Common.{◌≡◌, ℕ, zero, suc, ◌+◌, ◌-◌, ◌*◌, ◌/◌, ◌^◌, ◌<◌, ◌≤◌, Bool, true, false, List, [], ◌∷◌, ◌++◌, length, take, drop, set, Option, Some, Result, Ok, refl, ap, sym, ◌∙◌, subst, arith, eqb, if◌then◌else◌, ◌==◌}
 use Rattle.std.specs.Option.{is_some}
 use Rattle.std.specs.Int.{from_le_bytes, w64}
 use Rattle.std.proofs.lemmas.Bool.{eqb-true}
-use Rattle.std.proofs.lemmas.Bool.Decides.{nat_tests}
 use Rattle.std.proofs.Math.Seq.{take-set-lt}
 use Rattle.std.proofs.lemmas.List.{length-map, take_more_set}
 use Rattle.capnp_model.specs.Chains.{◌>>=◌}
 use Rattle.capnp_model.specs.Sections.{words_for, words_of, needed_words}
 use Rattle.capnp_model.specs.Segments.{Segments, Place, place, after, word_at, words_at}
-use Rattle.capnp_model.specs.Trees.{Tree, structure, pointer_list, struct_list, Trees, none, ◌▸◌, Elements, no_elements, element, tree_count, resized, size_bits, has_capability, have_capability, elements_have_capability}
+use Rattle.capnp_model.specs.Trees.{Tree, structure, pointer_list, struct_list, Trees, none, ◌▸◌, Elements, no_elements, element, tree_count, resized, has_capability, have_capability, elements_have_capability}
 use Rattle.capnp_model.specs.Traversal.{tree_at, each, each_element}
 use Rattle.capnp_model.specs.Trimming.{stripped, with_pointers, trim, trim_each, trim_elements}
 use Rattle.capnp_model.specs.Coverage.{from_each, from_elements}
@@ -33,8 +32,8 @@ use Rattle.capnp_wire_canonical.specs.declared.cuts.Cut.{Cut}
 use Rattle.capnp_wire_canonical.specs.Objects.{IsCut}
 use Rattle.capnp_wire_canonical.specs.Widths.{kept, widest}
 use Rattle.capnp_wire_canonical.specs.Writes.{words_view, filled, with_section_at, with_link, with_links, with_cells}
-use Rattle.capnp_wire_canonical.specs.Copies.{copy_visits, Behind, Written, WritesCopy, Unwritten}
-use Rattle.capnp_wire_canonical.proofs.Copying.{behind_none, behind_more, behind_both, unwritten_later, made_of}
+use Rattle.capnp_wire_canonical.specs.Copies.{copy_visits, Behind, Written, WritesCopy, Unwritten, copy_state}
+use Rattle.capnp_wire_canonical.proofs.Copying.{behind_none, behind_more, behind_both, unwritten_later, made_of, over_used}
 use Rattle.capnp_wire_canonical.proofs.Parts.{there_length, section_is, word_is, part_there, part_room, front_section}
 use Rattle.capnp_wire_canonical.proofs.Kept.{widest_at}
 use Rattle.capnp_wire_canonical.proofs.Fronts.{front_words}
@@ -56,11 +55,11 @@ own_at_least z n = by (eqb z 0) refl
 module _ (f : Place → Option Tree) (q : Place) (path : List Visit) (d k d' k' section at used end most word : ℕ) (old mid new : List (List ℕ)) (l m : ReadLimiter) (r : Result ℕ Error) where
   pub struct_gives : end ≡ used + (d' + k') → at < used → used ≤ length old → end ≤ length mid → end ≤ most → words_view mid ≡ set (words_view old) at word → Behind (at + 1) old mid → d' ≡ needed_words d section
       → ((ts : Trees) → each f q k ≡ Some ts → tree_count (stripped (trim_each ts)) ≡ k') → ((ts : Trees) → tree_count ts ≡ k' → word ≡ pointer (used - at - 1) (structure d' section ts))
-      → WritesCopy (each f q k) have_capability (λ ts. with_cells used (used + (d' + k')) d' k' (element section (resized k' (trim_each ts)) no_elements)) path end end mid l r new m
-      → WritesCopy (each f q k >>= λ ts. Some (structure d section ts)) has_capability (λ t. with_link at (trim t)) path most used old l r new m
+      → WritesCopy (over_used (each f q k) have_capability (λ ts. with_cells used (used + (d' + k')) d' k' (element section (resized k' (trim_each ts)) no_elements)) path end) (copy_state mid l) r (copy_state new m)
+      → WritesCopy (record { there = each f q k >>= λ ts. Some (structure d section ts); bad = has_capability; put = λ t. with_link at (trim t); path = path; used = used; most = most }) (copy_state old l) r (copy_state new m)
   unfolding has_capability
   struct_gives is less inside room little put behind words count pointing x =
-      made_of (each f q k) have_capability (λ ts. with_cells used (used + (d' + k')) d' k' (element section (resized k' (trim_each ts)) no_elements)) (each f q k >>= λ ts. Some (structure d section ts)) has_capability (λ t. with_link at (trim t)) path most end used end old mid new l m r
+      made_of (over_used (each f q k) have_capability (λ ts. with_cells used (used + (d' + k')) d' k' (element section (resized k' (trim_each ts)) no_elements)) path end) (record { there = each f q k >>= λ ts. Some (structure d section ts); bad = has_capability; put = λ t. with_link at (trim t); path = path; used = used; most = most }) (copy_state old l) (copy_state mid l) (copy_state new m) r refl refl
       (λ ts e. (
         structure d section ts,
         ap (λ (o : Option Trees). o >>= λ us. Some (structure d section us)) e,
@@ -72,11 +71,11 @@ module _ (f : Place → Option Tree) (q : Place) (path : List Visit) (d k d' k' 
 
   -- ---- a list of pointers
   pub pointers_gives : end ≡ used + k → at < used → used ≤ length old → end ≤ length mid → end ≤ most → words_view mid ≡ set (words_view old) at word → Behind (at + 1) old mid → word ≡ list_pointer (used - at - 1) 6 k
-      → WritesCopy (each f q k) have_capability (λ ts. with_links used (used + k) (trim_each ts)) path end end mid l r new m
-      → WritesCopy (each f q k >>= λ ts. Some (pointer_list ts)) has_capability (λ t. with_link at (trim t)) path most used old l r new m
+      → WritesCopy (over_used (each f q k) have_capability (λ ts. with_links used (used + k) (trim_each ts)) path end) (copy_state mid l) r (copy_state new m)
+      → WritesCopy (record { there = each f q k >>= λ ts. Some (pointer_list ts); bad = has_capability; put = λ t. with_link at (trim t); path = path; used = used; most = most }) (copy_state old l) r (copy_state new m)
   unfolding has_capability
   pointers_gives is less inside room little put behind pointing x =
-      made_of (each f q k) have_capability (λ ts. with_links used (used + k) (trim_each ts)) (each f q k >>= λ ts. Some (pointer_list ts)) has_capability (λ t. with_link at (trim t)) path most end used end old mid new l m r
+      made_of (over_used (each f q k) have_capability (λ ts. with_links used (used + k) (trim_each ts)) path end) (record { there = each f q k >>= λ ts. Some (pointer_list ts); bad = has_capability; put = λ t. with_link at (trim t); path = path; used = used; most = most }) (copy_state old l) (copy_state mid l) (copy_state new m) r refl refl
       (λ ts e. (
         pointer_list ts,
         ap (λ (o : Option Trees). o >>= λ us. Some (pointer_list us)) e,
@@ -142,12 +141,13 @@ module _ (n : ℕ) (s : Segments) (p : Place) (a b at d' used section : ℕ) (ol
       )
 
   pub element_halts : (e : Error) → is_some (words_at s p (a + b)) ≡ true → kept (words_there s p (a + b)) ≤ a → at + (d' + a) ≤ used → used ≤ length old → words_view mid ≡ with_section_at at d' section (words_view old) → Behind (at + d') old mid
-      → Unwritten (each (tree_at n s) p a) (λ ts. with_links (at + d') (at + d' + a) (trim_each ts)) (from_each (copy_visits n s) p a) used used mid l e new m
-      → Unwritten (each (tree_at n s) p (a + b)) (λ ts. with_cells at (at + (d' + a)) d' a (element section (resized a (trim_each ts)) no_elements)) (from_each (copy_visits n s) p (a + b)) used used old l e new m
+      → Unwritten (over_used (each (tree_at n s) p a) have_capability (λ ts. with_links (at + d') (at + d' + a) (trim_each ts)) (from_each (copy_visits n s) p a) used) (copy_state mid l) e (copy_state new m)
+      → Unwritten (over_used (each (tree_at n s) p (a + b)) have_capability (λ ts. with_cells at (at + (d' + a)) d' a (element section (resized a (trim_each ts)) no_elements)) (from_each (copy_visits n s) p (a + b)) used) (copy_state old l) e (copy_state new m)
   element_halts e there few room inside words behind x =
       let f = tree_at n s in
-      unwritten_later (each f p a) (λ ts. with_links (at + d') (at + d' + a) (trim_each ts)) (each f p (a + b)) (λ ts. with_cells at (at + (d' + a)) d' a (element section (resized a (trim_each ts)) no_elements))
-      [] (from_each (copy_visits n s) p a) (from_each (copy_visits n s) p (a + b)) (from_each (copy_visits n s) (after p a) b) 0 (at + d') used used used used old mid new l l m e (path_is (copy_visits n s)) refl (walked_none l) behind (omega arith) (omega arith)
+      unwritten_later (over_used (each f p a) have_capability (λ ts. with_links (at + d') (at + d' + a) (trim_each ts)) (from_each (copy_visits n s) p a) used)
+      (over_used (each f p (a + b)) have_capability (λ ts. with_cells at (at + (d' + a)) d' a (element section (resized a (trim_each ts)) no_elements)) (from_each (copy_visits n s) p (a + b)) used)
+      [] (from_each (copy_visits n s) (after p a) b) 0 (at + d') (copy_state old l) (copy_state mid l) (copy_state new m) e (path_is (copy_visits n s)) refl (walked_none l) behind (omega arith) (omega arith)
       (λ us is.
       let ts = each_front f p a b us is in
       let made = element_made there few room inside words ts.0 ts.1 in
@@ -158,8 +158,8 @@ module _ (n : ℕ) (s : Segments) (p : Place) (a b at d' used section : ℕ) (ol
 
   pub element_gives : (t : ReadLimiter) (end : ℕ) → is_some (words_at s p (a + b)) ≡ true → kept (words_there s p (a + b)) ≤ a → at + (d' + a) ≤ used → used ≤ length old
       → words_view mid ≡ with_section_at at d' section (words_view old) → Behind (at + d') old mid → Follows m t b → Spends m t 0
-      → Written (each (tree_at n s) p a) have_capability (λ ts. with_links (at + d') (at + d' + a) (trim_each ts)) (from_each (copy_visits n s) p a) used used mid l end new m
-      → Written (each (tree_at n s) p (a + b)) have_capability (λ ts. with_cells at (at + (d' + a)) d' a (element section (resized a (trim_each ts)) no_elements)) (from_each (copy_visits n s) p (a + b)) used used old l end new t
+      → Written (over_used (each (tree_at n s) p a) have_capability (λ ts. with_links (at + d') (at + d' + a) (trim_each ts)) (from_each (copy_visits n s) p a) used) (copy_state mid l) end (copy_state new m)
+      → Written (over_used (each (tree_at n s) p (a + b)) have_capability (λ ts. with_cells at (at + (d' + a)) d' a (element section (resized a (trim_each ts)) no_elements)) (from_each (copy_visits n s) p (a + b)) used) (copy_state old l) end (copy_state new t)
   element_gives t end there few room inside words behind follow spend x =
       let v = copy_visits n s in
       let made = element_made there few room inside words x.what x.there_is in
@@ -189,8 +189,8 @@ module _ (n : ℕ) (s : Segments) (p : Place) (words count d k d' k' at used end
       → words_view first ≡ set (words_view old) at word → Behind (at + 1) old first → words_view mid ≡ set (words_view first) used tag → Behind (used + 1) first mid
       → d' ≡ widest (λ q. needed_words d (section_at s q d)) p (d + k) count → k' ≡ widest (λ q. kept (words_there s q k)) (after p d) (d + k) count
       → word ≡ list_pointer (used - at - 1) 7 (count * (d' + k')) → tag ≡ struct_pointer count d' k'
-      → WritesCopy (each_element (tree_at n s) p (words_there s p words) d k count) elements_have_capability (λ es. with_cells (used + 1) (used + 1 + count * (d' + k')) d' k' (with_pointers k' (trim_elements es))) (from_elements (copy_visits n s) p d k count) end end mid l r new m
-      → WritesCopy (each_element (tree_at n s) p (words_there s p words) d k count >>= λ es. Some (struct_list d k es)) has_capability (λ t. with_link at (trim t)) (from_elements (copy_visits n s) p d k count) most used old l r new m
+      → WritesCopy (over_used (each_element (tree_at n s) p (words_there s p words) d k count) elements_have_capability (λ es. with_cells (used + 1) (used + 1 + count * (d' + k')) d' k' (with_pointers k' (trim_elements es))) (from_elements (copy_visits n s) p d k count) end) (copy_state mid l) r (copy_state new m)
+      → WritesCopy (record { there = each_element (tree_at n s) p (words_there s p words) d k count >>= λ es. Some (struct_list d k es); bad = has_capability; put = λ t. with_link at (trim t); path = from_elements (copy_visits n s) p d k count; used = used; most = most }) (copy_state old l) r (copy_state new m)
   unfolding has_capability
   structs_gives there fit is less some inside room little put behind put_tag behind_tag data_is kept_is pointing tagged x =
       let f = tree_at n s in
@@ -203,7 +203,7 @@ module _ (n : ℕ) (s : Segments) (p : Place) (words count d k d' k' at used end
       filled_part (used + 1) end mid (omega arith) ∙ ap (take (used + 1)) put_tag ∙ take_more_set (words_view first) used tag (omega arith)
       ∙ ap (λ (xs : List ℕ). xs ++ tag ∷ []) (ap (take used) put ∙ take-set-lt used (words_view old) at word less) in
       let size : length (filled end mid) ≡ used + 1 + count * (d' + k') = filled_length end mid room ∙ is ∙ (let sum : used + (1 + count * (d' + k')) ≡ used + 1 + count * (d' + k') = omega arith in sum) in
-      made_of all elements_have_capability (λ es. with_cells (used + 1) (used + 1 + count * (d' + k')) d' k' (with_pointers k' (trim_elements es))) (all >>= λ es. Some (struct_list d k es)) has_capability (λ t. with_link at (trim t)) (from_elements (copy_visits n s) p d k count) most end used end old mid new l m r
+      made_of (over_used all elements_have_capability (λ es. with_cells (used + 1) (used + 1 + count * (d' + k')) d' k' (with_pointers k' (trim_elements es))) (from_elements (copy_visits n s) p d k count) end) (record { there = all >>= λ es. Some (struct_list d k es); bad = has_capability; put = λ t. with_link at (trim t); path = from_elements (copy_visits n s) p d k count; used = used; most = most }) (copy_state old l) (copy_state mid l) (copy_state new m) r refl refl
       (λ es e. (
         struct_list d k es,
         ap (λ (o : Option Elements). o >>= λ us. Some (struct_list d k us)) e,
@@ -219,7 +219,7 @@ module _ (n : ℕ) (s : Segments) (p : Place) (words count d k d' k' at used end
 module _ (n : ℕ) (s : Segments) (p : Place) (ws : List ℕ) (count at used : ℕ) (old : List (List ℕ)) (l : ReadLimiter) where
   -- What is written of them.
   abbrev EmptyGives : ℕ → ℕ → ℕ → ℕ → Type 0
-  EmptyGives d k v m = WritesCopy (each_element (tree_at n s) p ws d k count) elements_have_capability (λ es. with_cells at (at + count * (v + m)) v m (with_pointers m (trim_elements es))) (from_elements (copy_visits n s) p d k count) used used old l (Ok used) old l
+  EmptyGives d k v m = WritesCopy (over_used (each_element (tree_at n s) p ws d k count) elements_have_capability (λ es. with_cells at (at + count * (v + m)) v m (with_pointers m (trim_elements es))) (from_elements (copy_visits n s) p d k count) used) (copy_state old l) (Ok used) (copy_state old l)
 
   empty_written : used ≤ length old → used < 2 ^ 29 → EmptyGives 0 0 0 0
   empty_written bound near =

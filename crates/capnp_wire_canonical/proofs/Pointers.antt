@@ -11,9 +11,11 @@ use Rattle.capnp_units.specs.declared.limiter.ReadLimiter.{ReadLimiter}
 use Rattle.capnp_model.proofs.lemmas.TrimFits.{count-trim_each}
 use Rattle.capnp_wire_objects.proofs.lemmas.Rows.{row_start, row_end, met_next}
 use Rattle.capnp_model.proofs.lemmas.Counts.{each_count}
+use Rattle.capnp_wire_canonical.specs.Reaches.{reach}
 use Rattle.capnp_wire_canonical.specs.Writes.{filled, with_link, with_links}
-use Rattle.capnp_wire_canonical.specs.Copies.{copy_visits, Written, Unwritten}
-use Rattle.capnp_wire_canonical.proofs.Copying.{SoFar, begun, next, ended, stopped}
+use Rattle.capnp_wire_canonical.specs.Copies.{copy_visits, Written, Unwritten, copy_state}
+use Rattle.capnp_wire_canonical.specs.Objects.{write_spot, value_copy}
+use Rattle.capnp_wire_canonical.proofs.Copying.{SoFar, begun, next, ended, stopped, over_used}
 use Rattle.capnp_wire_canonical.proofs.Rows.{row_join, row_parts}
 use Rattle.capnp_wire_canonical.proofs.Rooms.{link_longer, links_longer}
 use Rattle.capnp_wire_canonical.proofs.lemmas.Putting.{links_all}
@@ -43,8 +45,8 @@ module _ (n : ℕ) (s : Segments) (p : Place) (count at first : ℕ) (old : List
       begun (each (tree_at n s) p count) (trees_from n s p count 0) have_capability (trees_put at (at + count)) (trees_put (at + 0) (at + count)) (from_each (copy_visits n s) p count) (visits_from n s p count 0) first old l
       (row_start p count (each (tree_at n s))) (row_start p count (from_each (copy_visits n s))) bound near (λ ts. ap (λ (j : ℕ). with_links j (at + count) (trim_each ts) (filled first old)) start)
 
-  pub pointers_stopped : (i used : ℕ) (now new : List (List ℕ)) (j m : ReadLimiter) (e : Error) → i < count → at + count ≤ first → Unwritten (tree_at n s (after p i)) (λ t. with_link (at + i) (trim t)) (copy_visits n s (after p i)) used used now j e new m
-      → PointersSoFar n s p count at i first old l used now j → Unwritten (each (tree_at n s) p count) (trees_put at (at + count)) (from_each (copy_visits n s) p count) first first old l e new m
+  pub pointers_stopped : (i used : ℕ) (now new : List (List ℕ)) (j m : ReadLimiter) (e : Error) → i < count → at + count ≤ first → Unwritten (value_copy (reach n s) (after p i) (write_spot (at + i) used)) (copy_state now j) e (copy_state new m)
+      → PointersSoFar n s p count at i first old l used now j → Unwritten (over_used (each (tree_at n s) p count) have_capability (trees_put at (at + count)) (from_each (copy_visits n s) p count) first) (copy_state old l) e (copy_state new m)
   pointers_stopped i used now new j m e h inside x so_far =
       let f = tree_at n s in
       let v = copy_visits n s in
@@ -60,7 +62,7 @@ module _ (n : ℕ) (s : Segments) (p : Place) (count at first : ℕ) (old : List
       let long = link_longer (at + i) (trim t) (filled used now) in
       links_longer (at + (i + 1)) (at + count) (trim_each ts) (out t) (omega arith) (omega arith)) x so_far
 
-  pub pointers_next : (i used end : ℕ) (now new : List (List ℕ)) (j m : ReadLimiter) → i < count → at + count ≤ first → Written (tree_at n s (after p i)) has_capability (λ t. with_link (at + i) (trim t)) (copy_visits n s (after p i)) used used now j end new m
+  pub pointers_next : (i used end : ℕ) (now new : List (List ℕ)) (j m : ReadLimiter) → i < count → at + count ≤ first → Written (value_copy (reach n s) (after p i) (write_spot (at + i) used)) (copy_state now j) end (copy_state new m)
       → PointersSoFar n s p count at i first old l used now j → PointersSoFar n s p count at (i + 1) first old l end new m
   pointers_next i used end now new j m h inside written so_far =
       let f = tree_at n s in
@@ -71,7 +73,7 @@ module _ (n : ℕ) (s : Segments) (p : Place) (count at first : ℕ) (old : List
       (f (after p i)) has_capability (λ t. with_link (at + i) (trim t)) (from_each v p count) (visits_from n s p count i) (visits_from n s p count (i + 1)) (v (after p i)) first old now new l j m used end
       (met_next p i count h v) (λ x y is rest_is. row_join at i count (filled used now) f p x y h (omega arith) is rest_is) (λ us is. row_parts i count f p us h is) written so_far
 
-  pub pointers_ended : (i used : ℕ) (now : List (List ℕ)) (m : ReadLimiter) → i ≡ count → PointersSoFar n s p count at i first old l used now m → Written (each (tree_at n s) p count) have_capability (trees_put at (at + count)) (from_each (copy_visits n s) p count) first first old l used now m
+  pub pointers_ended : (i used : ℕ) (now : List (List ℕ)) (m : ReadLimiter) → i ≡ count → PointersSoFar n s p count at i first old l used now m → Written (over_used (each (tree_at n s) p count) have_capability (trees_put at (at + count)) (from_each (copy_visits n s) p count) first) (copy_state old l) used (copy_state now m)
   unfolding has_capability trim
   pointers_ended i used now m same so_far =
       let f = tree_at n s in

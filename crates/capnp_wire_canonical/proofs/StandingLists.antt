@@ -30,9 +30,10 @@ use Rattle.capnp_wire_objects.proofs.lemmas.Walks.{walked_none}
 use Rattle.capnp_wire_objects.proofs.lemmas.Measuring.{data_bits_plain}
 use Rattle.capnp_model.proofs.lemmas.Counts.{each_count, each_element_count}
 use Rattle.capnp_model.proofs.lemmas.Stripping.{resized_all}
+use Rattle.capnp_wire_canonical.specs.Reaches.{reach}
 use Rattle.capnp_wire_canonical.specs.Widths.{kept, widest}
 use Rattle.capnp_wire_canonical.specs.Standing.{Hold, Stands, StandEach, StandElements, segment_words, IsSmall}
-use Rattle.capnp_wire_canonical.specs.Checks.{Tests, TestsObject, TestsRow, TestsElements}
+use Rattle.capnp_wire_canonical.specs.Checks.{Tests, object_test, row_test, elements_test}
 use Rattle.capnp_wire_canonical.proofs.lemmas.Checking.{made_of}
 use Rattle.capnp_wire_canonical.proofs.Holding.{hold_parts, hold_both, hold_at, hold_own, own_words_are}
 use Rattle.capnp_wire_canonical.proofs.Masks.{last_cut}
@@ -71,7 +72,7 @@ module _ (n : ℕ) (s : Segments) (p : Place) (head : ℕ) (start : wire.Place) 
 
   pub list_yes : (l : ReadLimiter) → word_at s p ≡ Some (list_pointer (head - p.position - 1) (size_number z) c)
       → words_of (words_for (data_bits (size_number z) * c)) (section_at s (place_view start) (words_for (data_bits (size_number z) * c)) % 2 ^ (data_bits (size_number z) * c)) ≡ words_of (words_for (data_bits (size_number z) * c)) (section_at s (place_view start) (words_for (data_bits (size_number z) * c)))
-      → TestsObject n s p head (object.List start z c) l (Ok (Some ((place_view start).position + words_for (data_bits (size_number z) * c)))) l
+      → Tests (object_test (reach n s) p head (object.List start z c)) l (Ok (Some ((place_view start).position + words_for (data_bits (size_number z) * c)))) l
   unfolding has_capability trim
   list_yes l link cut =
       let q = place_view start in
@@ -126,7 +127,7 @@ module _ (n : ℕ) (s : Segments) (p : Place) (head : ℕ) (start : wire.Place) 
   no_further : (place_view start).position ≡ (place_view start).position + 0
   no_further = omega arith
 
-  pub pointers_tests : (l m : ReadLimiter) (r : Result (Option ℕ) Error) → TestsRow n s (place_view start) c ((place_view start).position + c) l r m → TestsObject n s p head (object.PointerList start c) l r m
+  pub pointers_tests : (l m : ReadLimiter) (r : Result (Option ℕ) Error) → Tests (row_test (reach n s) (place_view start) c ((place_view start).position + c)) l r m → Tests (object_test (reach n s) p head (object.PointerList start c)) l r m
   unfolding has_capability trim
   pointers_tests l m r x =
       let q = place_view start in
@@ -255,7 +256,7 @@ module _ (n : ℕ) (s : Segments) (p : Place) (head : ℕ) (start : wire.Place) 
         ends = omega arith;
       }
 
-  pub structs_tests : (l m : ReadLimiter) (r : Result (Option ℕ) Error) → TestsElements n s (place_view start) c d k ((place_view start).position + c * (d + k)) l r m → TestsObject n s p head (object.StructList start words c d k) l r m
+  pub structs_tests : (l m : ReadLimiter) (r : Result (Option ℕ) Error) → Tests (elements_test (reach n s) (place_view start) c d k ((place_view start).position + c * (d + k))) l r m → Tests (object_test (reach n s) p head (object.StructList start words c d k)) l r m
   unfolding has_capability
   structs_tests l m r x =
       let q = place_view start in
@@ -267,7 +268,7 @@ module _ (n : ℕ) (s : Segments) (p : Place) (head : ℕ) (start : wire.Place) 
       let segment_is : q.segment ≡ p.segment = ap (λ (r : Place). r.segment) here in
       let exact : Option Elements = each_element g q ws d k c in
       let read : ℕ → Option Elements = λ more. each_element (f more) q ws d k c in
-      let y : Tests (exact >>= λ es. Some (struct_list d k es)) (λ more. read more >>= λ es. Some (struct_list d k es)) has_capability (λ t. Stands s p head (trim t)) (IsSmall s p) (from_elements (visits n s) q d k c) l r m =
+      let y : Tests (record { there = exact >>= λ es. Some (struct_list d k es); deeper = λ more. read more >>= λ es. Some (struct_list d k es); bad = has_capability; stands = λ t. Stands s p head (trim t); premise = IsSmall s p; path = from_elements (visits n s) q d k c }) l r m =
       made_of exact read elements_have_capability (λ es. StandElements s q d k behind (trim_elements es)) (exact >>= λ es. Some (struct_list d k es)) (λ more. read more >>= λ es. Some (struct_list d k es)) has_capability (λ t. Stands s p head (trim t)) (IsSmall s q) (IsSmall s p) (from_elements (visits n s) q d k c) l m r
       (λ h. subst (λ (i : ℕ). length (segment_words s i) < 2 ^ 29) (sym segment_is) h)
       (λ es end e clean y. (
@@ -282,7 +283,7 @@ module _ (n : ℕ) (s : Segments) (p : Place) (head : ℕ) (start : wire.Place) 
       let z : Stands s p head (trim (struct_list d k b.0)) end = subst (λ (u : Tree). Stands s p head (trim u) end) (sym is) y in
       (b.0, b.1, ap has_capability is ∙ clean, list_parts (more + n) b.0 end b.1 (subst (λ (u : Tree). Stands s p head u end) (least_is (more + n) b.0 b.1) z)))
       x in
-      subst (λ (j : ℕ). Tests (each_element g q (words_there s q j) d k c >>= λ es. Some (struct_list d k es)) (λ more. each_element (f more) q (words_there s q j) d k c >>= λ es. Some (struct_list d k es)) has_capability (λ t. Stands s p head (trim t)) (IsSmall s p) (from_elements (visits n s) q d k c) l r m) (sym own) y
+      subst (λ (j : ℕ). Tests (record { there = each_element g q (words_there s q j) d k c >>= λ es. Some (struct_list d k es); deeper = λ more. each_element (f more) q (words_there s q j) d k c >>= λ es. Some (struct_list d k es); bad = has_capability; stands = λ t. Stands s p head (trim t); premise = IsSmall s p; path = from_elements (visits n s) q d k c }) l r m) (sym own) y
 
 -- the words of the pointer to a list of structs that stands, and of its tag
 structs_words : (s : Segments) (p q : Place) (head c d k a b end : ℕ) (f : Place → Option Tree) (ws : List ℕ) (t : Tree) → ((es : Elements) → each_element f q ws d k c ≡ Some es → (common_words d (trim_elements es) ≡ a) × (common_pointers (trim_elements es) ≡ b))

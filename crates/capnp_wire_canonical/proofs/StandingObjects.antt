@@ -30,9 +30,10 @@ use Rattle.capnp_units.specs.declared.errors.Error.{Error}
 use Rattle.capnp_units.specs.declared.limiter.ReadLimiter.{ReadLimiter}
 use Rattle.capnp_model.proofs.lemmas.Counts.{each_count}
 use Rattle.capnp_model.proofs.lemmas.Stripping.{resized_all}
+use Rattle.capnp_wire_canonical.specs.Reaches.{reach}
 use Rattle.capnp_wire_canonical.specs.Widths.{kept, widest}
 use Rattle.capnp_wire_canonical.specs.Standing.{Hold, Stands, StandEach, segment_words, IsSmall, HasHead, LeadsToObject}
-use Rattle.capnp_wire_canonical.specs.Checks.{TestsObject, TestsRow}
+use Rattle.capnp_wire_canonical.specs.Checks.{object_test, row_test, Tests}
 use Rattle.capnp_wire_canonical.proofs.lemmas.Checking.{made_of}
 use Rattle.capnp_wire_canonical.proofs.Holding.{hold_parts, hold_both, hold_at, hold_none, hold_own, place_within}
 use Rattle.capnp_wire_canonical.proofs.Kept.{widest_one}
@@ -243,7 +244,7 @@ module _ (n : ℕ) (s : Segments) (p : Place) (head : ℕ) (start : wire.Place) 
       | inr here ↦ sym (ap (λ (r : Place). r.segment) here.0)
     ]
 
-    pub struct_tests : (l m : ReadLimiter) (r : Result (Option ℕ) Error) → TestsRow n s (after (place_view start) d) k (head + (d + k)) l r m → TestsObject n s p head (object.Struct start d k) l r m
+    pub struct_tests : (l m : ReadLimiter) (r : Result (Option ℕ) Error) → Tests (row_test (reach n s) (after (place_view start) d) k (head + (d + k))) l r m → Tests (object_test (reach n s) p head (object.Struct start d k)) l r m
     unfolding has_capability
     struct_tests l m r x =
         let q = place_view start in

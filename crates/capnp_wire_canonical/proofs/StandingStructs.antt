@@ -14,8 +14,9 @@ use Rattle.capnp_units.specs.declared.errors.Error.{Error}
 use Rattle.capnp_units.specs.declared.limiter.ReadLimiter.{ReadLimiter}
 use Rattle.capnp_model.proofs.lemmas.Counts.{each_count}
 use Rattle.capnp_model.proofs.lemmas.Stripping.{resized_all}
+use Rattle.capnp_wire_canonical.specs.Reaches.{reach}
 use Rattle.capnp_wire_canonical.specs.Widths.{kept, widest}
-use Rattle.capnp_wire_canonical.specs.Checks.{TellsRow, TellsStruct}
+use Rattle.capnp_wire_canonical.specs.Checks.{TellsRow, TellsStruct, head_state}
 use Rattle.capnp_wire_canonical.proofs.lemmas.Checking.{began_none}
 use Rattle.capnp_wire_canonical.proofs.Objects.{stripped_front}
 use Rattle.capnp_wire_canonical.proofs.StandingObjects.{least_struct}
@@ -53,7 +54,7 @@ module _ (n : ℕ) (s : Segments) (q : Place) (d k a b : ℕ) (inside : is_some 
 -- ---- what is told
 
 module _ (n : ℕ) (s : Segments) (q : Place) (d k a b : ℕ) (inside : is_some (words_at s q (d + k)) ≡ true) (words : a ≡ widest (λ r. needed_words d (section_at s r d)) q (d + k) 1) (pointers : b ≡ widest (λ r. kept (words_there s r k)) (after q d) (d + k) 1) (h : Place) (l : ReadLimiter) where
-  pub wide_told : ((a ≡ d) × (b ≡ k) → ⊥) → TellsStruct n s q d k h l (Ok false) h l
+  pub wide_told : ((a ≡ d) × (b ≡ k) → ⊥) → TellsStruct (reach n s) q (record { data_words = d; pointers = k }) (head_state h l) (Ok false) (head_state h l)
   wide_told apart = (
     refl,
     record {
@@ -62,7 +63,7 @@ module _ (n : ℕ) (s : Segments) (q : Place) (d k a b : ℕ) (inside : is_some 
     },
   )
 
-  pub kept_told : (r : Result Bool Error) (h' : Place) (m : ReadLimiter) → a ≡ d → b ≡ k → TellsRow n s (after q d) k h l r h' m → TellsStruct n s q d k h l r h' m
+  pub kept_told : (r : Result Bool Error) (h' : Place) (m : ReadLimiter) → a ≡ d → b ≡ k → TellsRow (reach n s) (after q d) k (head_state h l) r (head_state h' m) → TellsStruct (reach n s) q (record { data_words = d; pointers = k }) (head_state h l) r (head_state h' m)
   kept_told (Ok true) h' m e f x =
       let y = x.1 in
       let stand = y.stand in (

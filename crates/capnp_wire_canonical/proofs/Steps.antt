@@ -24,10 +24,11 @@ use Rattle.capnp_wire_objects.specs.Follow.{own_cost, Pays, levels_suffice}
 use Rattle.capnp_wire_objects.specs.Inside.{tree_in, met_in}
 use Rattle.capnp_wire_objects.proofs.lemmas.Walking.{object_found, link_tree}
 use Rattle.capnp_wire_objects.proofs.lemmas.Walks.{walked_none, walked_one}
+use Rattle.capnp_wire_canonical.specs.Reaches.{reach}
 use Rattle.capnp_wire_canonical.specs.Writes.{words_view, filled, with_link}
-use Rattle.capnp_wire_canonical.specs.Copies.{copy_visits, object_fault, IsNoCapability, Behind, WritesCopy}
-use Rattle.capnp_wire_canonical.specs.Objects.{IsShort, WritesObject, HasPlace}
-use Rattle.capnp_wire_canonical.proofs.Copying.{behind_more, paid_then}
+use Rattle.capnp_wire_canonical.specs.Copies.{copy_visits, object_fault, IsNoCapability, Behind, WritesCopy, copy_state}
+use Rattle.capnp_wire_canonical.specs.Objects.{IsShort, WritesObject, HasPlace, write_spot, value_copy}
+use Rattle.capnp_wire_canonical.proofs.Copying.{behind_more, paid_then, over_used}
 use Rattle.capnp_wire_canonical.proofs.Following.{copy_link, copy_leaf}
 use Rattle.capnp_wire_canonical.proofs.Objects.{null_written}
 
@@ -60,7 +61,7 @@ leaf_tree s p g (model.a_list q size n) e f h = absurd cc
 -- ---- null
 
 pub null_put : (at most used : ℕ) (old new : List (List ℕ)) (l : ReadLimiter) → HasPlace (at + 1) used old → used ≤ most → words_view new ≡ set (words_view old) at 0 → Behind (at + 1) old new
-    → WritesCopy (Some null) has_capability (λ t. with_link at (trim t)) [] most used old l (Ok used) new l
+    → WritesCopy (record { there = Some null; bad = has_capability; put = λ t. with_link at (trim t); path = []; used = used; most = most }) (copy_state old l) (Ok used) (copy_state new l)
 unfolding has_capability
 null_put at most used old new l place h words behind =
     let room = place.1 in
@@ -88,7 +89,7 @@ module _ (n : ℕ) (s : Segments) (p : Place) (at used : ℕ) (o : Object) (old 
   one_cost c = let z : c + 0 ≡ c = omega arith in ap Some z
 
   pub leaf_at : n ≡ 0 → Pays s p l o k → levels_suffice n o ≡ true → IsNoCapability o → HasPlace (at + 1) used old → words_view new ≡ set (words_view old) at 0 → Behind (at + 1) old new
-      → WritesCopy (tree_at n s p) has_capability (λ t. with_link at (trim t)) (copy_visits n s p) used used old l (Ok used) new k
+      → WritesCopy (value_copy (reach n s) p (write_spot at used)) (copy_state old l) (Ok used) (copy_state new k)
   leaf_at z pay within is place words behind =
       let found = object_found s p (record { pads = pay.pads; object = o }) pay.is in
       let none = no_fault s found.0.object n o found.2 within is in
@@ -96,17 +97,17 @@ module _ (n : ℕ) (s : Segments) (p : Place) (at used : ℕ) (o : Object) (old 
       let cost : ℕ = pay.pads + own_cost o in
       let tree = leaf_tree s p found.0 found.0.object found.1 refl fault in
       let path : copy_visits 0 s p ≡ Ok cost ∷ [] = copy_leaf s p found.0 found.1 o found.2 fault ∙ ap (λ (j : ℕ). Ok (j + own_cost o) ∷ []) found.3 in
-      let here : WritesCopy (Some null) has_capability (λ t. with_link at (trim t)) (Ok cost ∷ []) used used old l (Ok used) new k =
+      let here : WritesCopy (over_used (Some null) has_capability (λ t. with_link at (trim t)) (Ok cost ∷ []) used) (copy_state old l) (Ok used) (copy_state new k) =
       paid_then (Some null) has_capability (λ t. with_link at (trim t)) (Ok cost ∷ []) [] cost used used old new l k k (Ok used) (one_cost cost) (walked_one cost l k pay.spends pay.follows) (omega arith)
       (null_put at (used + cost) used old new k place (omega arith) words behind) in
-      let one : WritesCopy (tree_at 0 s p) has_capability (λ t. with_link at (trim t)) (Ok cost ∷ []) used used old l (Ok used) new k =
-      subst (λ (t : Option Tree). WritesCopy t has_capability (λ t. with_link at (trim t)) (Ok cost ∷ []) used used old l (Ok used) new k) (sym tree) here in
-      let two : WritesCopy (tree_at 0 s p) has_capability (λ t. with_link at (trim t)) (copy_visits 0 s p) used used old l (Ok used) new k =
-      subst (λ (vs : List Visit). WritesCopy (tree_at 0 s p) has_capability (λ t. with_link at (trim t)) vs used used old l (Ok used) new k) (sym path) one in
-      subst (λ (j : ℕ). WritesCopy (tree_at j s p) has_capability (λ t. with_link at (trim t)) (copy_visits j s p) used used old l (Ok used) new k) (sym z) two
+      let one : WritesCopy (over_used (tree_at 0 s p) has_capability (λ t. with_link at (trim t)) (Ok cost ∷ []) used) (copy_state old l) (Ok used) (copy_state new k) =
+      subst (λ (t : Option Tree). WritesCopy (over_used t has_capability (λ t. with_link at (trim t)) (Ok cost ∷ []) used) (copy_state old l) (Ok used) (copy_state new k)) (sym tree) here in
+      let two : WritesCopy (value_copy (reach 0 s) p (write_spot at used)) (copy_state old l) (Ok used) (copy_state new k) =
+      subst (λ (vs : List Visit). WritesCopy (over_used (tree_at 0 s p) has_capability (λ t. with_link at (trim t)) vs used) (copy_state old l) (Ok used) (copy_state new k)) (sym path) one in
+      subst (λ (j : ℕ). WritesCopy (value_copy (reach j s) p (write_spot at used)) (copy_state old l) (Ok used) (copy_state new k)) (sym z) two
 
-  pub deep_at : (i : ℕ) (r : Result ℕ Error) → n ≡ suc i → Pays s p l o k → levels_suffice n o ≡ true → IsNoCapability o → WritesObject s i o at used old k r new m
-      → WritesCopy (tree_at n s p) has_capability (λ t. with_link at (trim t)) (copy_visits n s p) used used old l r new m
+  pub deep_at : (i : ℕ) (r : Result ℕ Error) → n ≡ suc i → Pays s p l o k → levels_suffice n o ≡ true → IsNoCapability o → WritesObject (reach i s) o (write_spot at used) (copy_state old k) r (copy_state new m)
+      → WritesCopy (value_copy (reach n s) p (write_spot at used)) (copy_state old l) r (copy_state new m)
   deep_at i r z pay within is h =
       let found = object_found s p (record { pads = pay.pads; object = o }) pay.is in
       let none = no_fault s found.0.object n o found.2 within is in
@@ -115,13 +116,13 @@ module _ (n : ℕ) (s : Segments) (p : Place) (at used : ℕ) (o : Object) (old 
       let tree = link_tree s p found.0 found.1 o found.2 i in
       let rest = met_in (copy_visits i s) o in
       let path : copy_visits (suc i) s p ≡ Ok cost ∷ rest = copy_link s p found.0 found.1 o found.2 i fault ∙ ap (λ (j : ℕ). Ok (j + own_cost o) ∷ rest) found.3 in
-      let here : WritesCopy (tree_in s (tree_at i s) o) has_capability (λ t. with_link at (trim t)) (Ok cost ∷ rest) used used old l r new m =
+      let here : WritesCopy (over_used (tree_in s (tree_at i s) o) has_capability (λ t. with_link at (trim t)) (Ok cost ∷ rest) used) (copy_state old l) r (copy_state new m) =
       paid_then (tree_in s (tree_at i s) o) has_capability (λ t. with_link at (trim t)) (Ok cost ∷ []) rest cost used used old new l k m r (one_cost cost) (walked_one cost l k pay.spends pay.follows) (omega arith) (h (used + cost) (omega arith)) in
-      let one : WritesCopy (tree_at (suc i) s p) has_capability (λ t. with_link at (trim t)) (Ok cost ∷ rest) used used old l r new m =
-      subst (λ (t : Option Tree). WritesCopy t has_capability (λ t. with_link at (trim t)) (Ok cost ∷ rest) used used old l r new m) (sym tree) here in
-      let two : WritesCopy (tree_at (suc i) s p) has_capability (λ t. with_link at (trim t)) (copy_visits (suc i) s p) used used old l r new m =
-      subst (λ (vs : List Visit). WritesCopy (tree_at (suc i) s p) has_capability (λ t. with_link at (trim t)) vs used used old l r new m) (sym path) one in
-      subst (λ (j : ℕ). WritesCopy (tree_at j s p) has_capability (λ t. with_link at (trim t)) (copy_visits j s p) used used old l r new m) (sym z) two
+      let one : WritesCopy (over_used (tree_at (suc i) s p) has_capability (λ t. with_link at (trim t)) (Ok cost ∷ rest) used) (copy_state old l) r (copy_state new m) =
+      subst (λ (t : Option Tree). WritesCopy (over_used t has_capability (λ t. with_link at (trim t)) (Ok cost ∷ rest) used) (copy_state old l) r (copy_state new m)) (sym tree) here in
+      let two : WritesCopy (over_used (tree_at (suc i) s p) has_capability (λ t. with_link at (trim t)) (copy_visits (suc i) s p) used) (copy_state old l) r (copy_state new m) =
+      subst (λ (vs : List Visit). WritesCopy (over_used (tree_at (suc i) s p) has_capability (λ t. with_link at (trim t)) vs used) (copy_state old l) r (copy_state new m)) (sym path) one in
+      subst (λ (j : ℕ). WritesCopy (value_copy (reach j s) p (write_spot at used)) (copy_state old l) r (copy_state new m)) (sym z) two
 
 -- A list of so many structs.
 abbrev IsStructs : Object → ℕ → Type 0

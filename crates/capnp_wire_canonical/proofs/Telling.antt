@@ -27,8 +27,9 @@ use Rattle.capnp_wire_objects.proofs.lemmas.Tags.{words_from, words_are}
 use Rattle.capnp_wire_objects.proofs.lemmas.Walking.{object_found, link_visits, leaf_visited}
 use Rattle.capnp_wire_objects.proofs.lemmas.Walks.{walked_one}
 use Rattle.capnp_model.proofs.lemmas.Tests.{never_true}
-use Rattle.capnp_wire_canonical.specs.Standing.{Hold, Stands, IsSmall}
-use Rattle.capnp_wire_canonical.specs.Checks.{Began, Agrees, Differs, Tests, Tells, TellsMessage, IsBehind}
+use Rattle.capnp_wire_canonical.specs.Reaches.{reach}
+use Rattle.capnp_wire_canonical.specs.Standing.{Hold, Stands}
+use Rattle.capnp_wire_canonical.specs.Checks.{Began, Agrees, Differs, Tests, Tells, TellsMessage, IsBehind, head_state, value_from}
 use Rattle.capnp_wire_canonical.proofs.lemmas.Checking.{began_none}
 use Rattle.capnp_wire_canonical.proofs.Holding.{hold_parts, hold_both, hold_end}
 use Rattle.capnp_wire_canonical.proofs.StandingValues.{leaf_object}
@@ -44,12 +45,13 @@ on_false P true e h = absurd cc
 on_false P false e h = h
 
 pub tells_moved : {X : Type 0} (there : Option X) (deeper : ℕ → Option X) (bad : X → Bool) (stands : X → ℕ → Type 0) (Q premise : Type 0) (path : List Visit) (h h' : Place) (l m : ReadLimiter) (end : Option ℕ) (b : Bool) → Q → OnTrue b ((end ≡ Some h'.position) × (h'.segment ≡ h.segment)) → OnFalse b ((end ≡ None) × (h' ≡ h))
-    → Tests there deeper bad stands premise path l (Ok end) m → Tells there deeper bad (λ x e. Q × stands x e) premise path h l (Ok b) h' m
+    → Tests (record { there = there; deeper = deeper; bad = bad; stands = stands; premise = premise; path = path }) l (Ok end) m
+    → Tells (record { there = there; deeper = deeper; bad = bad; stands = λ x e. Q × stands x e; premise = premise; path = path }) (head_state h l) (Ok b) (head_state h' m)
 tells_moved there deeper bad stands Q premise path h h' l m end true given moved stayed x =
-    let y = subst (λ (o : Option ℕ). Tests there deeper bad stands premise path l (Ok o) m) moved.0 x in
+    let y = subst (λ (o : Option ℕ). Tests (record { there = there; deeper = deeper; bad = bad; stands = stands; premise = premise; path = path }) l (Ok o) m) moved.0 x in
     (moved.1, record { what = y.what; there_is = y.there_is; clean = y.clean; stand = (given, y.stand); near = y.near; walked = y.walked })
 tells_moved there deeper bad stands Q premise path h h' l m end false given moved stayed x =
-    let y = subst (λ (o : Option ℕ). Tests there deeper bad stands premise path l (Ok o) m) stayed.0 x in
+    let y = subst (λ (o : Option ℕ). Tests (record { there = there; deeper = deeper; bad = bad; stands = stands; premise = premise; path = path }) l (Ok o) m) stayed.0 x in
     (stayed.1, record { began = y.began; apart = λ small more z e is clean stand. y.apart small more z e is clean stand.1 })
 
 -- the place that the code has
@@ -175,7 +177,7 @@ pub more_segments : (n : ℕ) (s : Segments) (l : ReadLimiter) → is_some (word
 more_segments n s l h = ((λ small m le. two_segments m s (second_there s h)), began_none (visits n s root) l, (λ _. refl))
 
 pub message_tells : (n : ℕ) (s : Segments) (l m : ReadLimiter) (after : Place) (more : Bool) → is_some (words_at s (place 1 0) 0) ≡ false → more ≡ is_some (words_at s after 1) → after.segment ≡ 0
-    → Agrees (tree_at n s root) has_capability (λ t end. IsBehind s root 1 (place 0 1) × Stands s root 1 (trim t) end) (visits n s root) l after.position m → TellsMessage n s l (Ok (not more)) m
+    → Agrees (value_from (reach n s) root (place 0 1)) l after.position m → TellsMessage n s l (Ok (not more)) m
 message_tells n s l m after true alone is at x =
     let stand = x.stand in
     let there : is_some (words_at s (place 0 after.position) 1) ≡ true = ap (λ (i : ℕ). is_some (words_at s (place i after.position) 1)) (sym at) ∙ sym is in
@@ -185,7 +187,7 @@ message_tells n s l m after false alone is at x =
     let past : is_some (words_at s (place 0 after.position) 1) ≡ false = ap (λ (i : ℕ). is_some (words_at s (place i after.position) 1)) (sym at) ∙ sym is in
     (message_is n s x.what after.position (second_missing s alone) x.there_is x.clean stand.1 past, x.walked)
 
-pub message_differs : (n : ℕ) (s : Segments) (l m : ReadLimiter) → is_some (words_at s (place 1 0) 0) ≡ false → Differs (λ more. tree_at (more + n) s root) has_capability (λ t end. IsBehind s root 1 (place 0 1) × Stands s root 1 (trim t) end) (IsSmall s root) (visits n s root) l m → TellsMessage n s l (Ok false) m
+pub message_differs : (n : ℕ) (s : Segments) (l m : ReadLimiter) → is_some (words_at s (place 1 0) 0) ≡ false → Differs (value_from (reach n s) root (place 0 1)) l m → TellsMessage n s l (Ok false) m
 message_differs n s l m alone x = (
   (λ small k le. never_true (is_canonical_message k s) (λ e.
       let a = message_stands k s e in

@@ -50,6 +50,26 @@ FollowsNear object follows old (Ok (Some x)) new = follows old (Ok (object x)) n
 FollowsNear object follows old (Ok None) new = new ≡ old
 FollowsNear object follows old (Err e) new = follows old (Err e) new
 
+-- The words that a copy writes over, and what is left to read.
+pub record CopyState : Type 0 where
+  pub words : List (List ℕ)
+  pub limiter : ReadLimiter
+
+-- Words, and what is left to read.
+abbrev pub copy_state : List (List ℕ) → ReadLimiter → CopyState
+copy_state ws l = record { words = ws; limiter = l }
+
+-- What is copied: what is there, if it can be read, whether it has a capability, what it makes of
+-- the words in use, and which visits it takes. So many words are in use, and so many may be written
+-- besides those that are paid.
+pub record Copying (X : Type 0) : Type 0 where
+  pub there : Option X
+  pub bad : X → Bool
+  pub put : X → List ℕ → List ℕ
+  pub path : List Visit
+  pub used : ℕ
+  pub most : ℕ
+
 -- The slice is as it was from a place on.
 abbrev pub Behind : ℕ → List (List ℕ) → List (List ℕ) → Type 0
 Behind n old new = (length new ≡ length old) × (drop n new ≡ drop n old)
@@ -71,38 +91,38 @@ pub record Filled (path : List Visit) (room most : ℕ) (old : ReadLimiter) (e :
 
 -- A copy was refused: its walk was stopped, or it found no room. It wrote at most n words and those
 -- that were paid.
-pub record Halted (path : List Visit) (most : ℕ) (old : List (List ℕ)) (l : ReadLimiter) (e : Error) (new : List (List ℕ)) (m : ReadLimiter) : Type 0 where
+pub record Halted (path : List Visit) (most : ℕ) (old : CopyState) (e : Error) (new : CopyState) : Type 0 where
   pub paid : ℕ
-  pub spends : Spends l m paid
-  pub behind : Behind (most + paid) old new
-  pub why : Stopped path l e m ⊎ Filled path (room_of old) most l e m
+  pub spends : Spends old.limiter new.limiter paid
+  pub behind : Behind (most + paid) old.words new.words
+  pub why : Stopped path old.limiter e new.limiter ⊎ Filled path (room_of old.words) most old.limiter e new.limiter
 
 -- What is there, put over the words in use, makes more words than there is room for.
 abbrev pub HasNoRoomFor : {X : Type 0} → Option X → (X → List ℕ → List ℕ) → ℕ → List (List ℕ) → Type 0
 HasNoRoomFor {X = X} there put used old = (what : X) → there ≡ Some what → room_of old < length (put what (filled used old))
 
 -- What is there wasn't written: the copy was refused, and for want of room only where there is no room for all of it.
-pub record Unwritten {X : Type 0} (there : Option X) (put : X → List ℕ → List ℕ) (path : List Visit) (most used : ℕ) (old : List (List ℕ)) (l : ReadLimiter) (e : Error) (new : List (List ℕ)) (m : ReadLimiter) : Type 0 where
-  pub halted : Halted path most old l e new m
-  pub full : e.kind ≡ BufferNotLargeEnough → HasNoRoomFor there put used old
+pub record Unwritten {X : Type 0} (copy : Copying X) (old : CopyState) (e : Error) (new : CopyState) : Type 0 where
+  pub halted : Halted copy.path copy.most old e new
+  pub full : e.kind ≡ BufferNotLargeEnough → HasNoRoomFor copy.there copy.put copy.used old.words
 
 -- What is there was written behind the words in use, to this end. It has no capability, its visits
 -- were made, and it takes no more words than n and those that were paid.
-pub record Written {X : Type 0} (there : Option X) (bad : X → Bool) (put : X → List ℕ → List ℕ) (path : List Visit) (most used : ℕ) (old : List (List ℕ)) (l : ReadLimiter) (end : ℕ) (new : List (List ℕ)) (m : ReadLimiter) : Type 0 where
+pub record Written {X : Type 0} (copy : Copying X) (old : CopyState) (end : ℕ) (new : CopyState) : Type 0 where
   pub what : X
-  pub there_is : there ≡ Some what
-  pub clean : bad what ≡ false
-  pub words : filled end new ≡ put what (filled used old)
-  pub behind : Behind end old new
-  pub bound : end ≤ length new
+  pub there_is : copy.there ≡ Some what
+  pub clean : copy.bad what ≡ false
+  pub words : filled end new.words ≡ copy.put what (filled copy.used old.words)
+  pub behind : Behind end old.words new.words
+  pub bound : end ≤ length new.words
   pub near : end < 2 ^ 29
-  pub more : used ≤ end
+  pub more : copy.used ≤ end
   pub cost : ℕ
-  pub cost_is : visits_cost path ≡ Some cost
-  pub walked : Walked path l m
-  pub few : end ≤ most + cost
+  pub cost_is : visits_cost copy.path ≡ Some cost
+  pub walked : Walked copy.path old.limiter new.limiter
+  pub few : end ≤ copy.most + cost
 
 -- What a copy gives of what is there: it is written, or refused.
-abbrev pub WritesCopy : {X : Type 0} → Option X → (X → Bool) → (X → List ℕ → List ℕ) → List Visit → ℕ → ℕ → List (List ℕ) → ReadLimiter → Result ℕ Error → List (List ℕ) → ReadLimiter → Type 0
-WritesCopy there bad put path most used old l (Ok end) new m = Written there bad put path most used old l end new m
-WritesCopy there bad put path most used old l (Err e) new m = Unwritten there put path most used old l e new m
+abbrev pub WritesCopy : {X : Type 0} → Copying X → CopyState → Result ℕ Error → CopyState → Type 0
+WritesCopy copy old (Ok end) new = Written copy old end new
+WritesCopy copy old (Err e) new = Unwritten copy old e new

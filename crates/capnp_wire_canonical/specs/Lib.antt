@@ -1,5 +1,6 @@
 pub mod Writes
 pub mod Widths
+pub mod Reaches
 pub mod Copies
 pub mod Objects
 pub mod Standing

@@ -3,7 +3,8 @@ ghost use Rattle.std.specs.Prelude.{◌+◌};
 ghost use Rattle.capnp_units.specs.Segments.{words_in};
 ghost use Rattle.capnp_wire_objects.specs.Places.{place_view};
 ghost use Rattle.capnp_wire_objects.specs.Objects.{AreThere};
-ghost use Rattle.capnp_wire_canonical.specs.Checks.{TellsValue, TellsRow, TellsStruct, TellsMessage};
+ghost use Rattle.capnp_wire_canonical.specs.Reaches.{reach};
+ghost use Rattle.capnp_wire_canonical.specs.Checks.{head_state, TellsValue, TellsRow, TellsStruct, TellsMessage};
 
 use crate::heads::{is_behind, move_on};
 use crate::own_words::{are_words, is_least};
@@ -39,8 +40,9 @@ pub fn is_canonical<A: ReaderArena>(
     levels: u32,
     head: &mut Place,
 ) -> Result<bool>
-    ensures { TellsValue levels (words_in (A.segments arena.now)) (place_view place)
-        (place_view head.old) limiter.old result (place_view head.new) limiter.new }
+    ensures { TellsValue (reach levels (words_in (A.segments arena.now))) (place_view place)
+        (head_state (place_view head.old) limiter.old) result
+        (head_state (place_view head.new) limiter.new) }
 {
     if !is_behind(arena, place, 1, *head) {
         follow_within(arena, limiter, place, levels)?;
@@ -63,8 +65,9 @@ pub fn are_canonical<A: ReaderArena>(
     head: &mut Place,
 ) -> Result<bool>
     requires { AreThere (words_in (A.segments arena.now)) (place_view first) count }
-    ensures { TellsRow levels (words_in (A.segments arena.now)) (place_view first) count
-        (place_view head.old) limiter.old result (place_view head.new) limiter.new }
+    ensures { TellsRow (reach levels (words_in (A.segments arena.now))) (place_view first) count
+        (head_state (place_view head.old) limiter.old) result
+        (head_state (place_view head.new) limiter.new) }
 {
     if !is_behind(arena, first, count as usize, *head) {
         return Ok(false);
@@ -90,9 +93,9 @@ pub fn is_canonical_struct<A: ReaderArena>(
 ) -> Result<bool>
     requires { AreThere (words_in (A.segments arena.now)) (place_view start)
         (size.data_words + size.pointers) }
-    ensures { TellsStruct levels (words_in (A.segments arena.now)) (place_view start)
-        size.data_words size.pointers (place_view head.old) limiter.old result
-        (place_view head.new) limiter.new }
+    ensures { TellsStruct (reach levels (words_in (A.segments arena.now))) (place_view start) size
+        (head_state (place_view head.old) limiter.old) result
+        (head_state (place_view head.new) limiter.new) }
 {
     if !is_least(arena, start, size) {
         return Ok(false);

@@ -10,8 +10,9 @@ ghost use Rattle.capnp_wire_objects.specs.declared.object.Object.TheVariants as 
 ghost use Rattle.capnp_wire_objects.specs.Arenas.{segment_bytes};
 ghost use Rattle.capnp_wire_objects.specs.Places.{place_view};
 ghost use Rattle.capnp_wire_objects.specs.Objects.{AreThere, IsInside};
-ghost use Rattle.capnp_wire_canonical.specs.Copies.{IsNoCapability};
-ghost use Rattle.capnp_wire_canonical.specs.Objects.{IsShort, WritesObject, HasPlace, IsCut, WritesCanonical, WritesValue, WritesRow, WritesElement, WritesElements};
+ghost use Rattle.capnp_wire_canonical.specs.Reaches.{reach};
+ghost use Rattle.capnp_wire_canonical.specs.Copies.{copy_state, IsNoCapability, WritesCopy};
+ghost use Rattle.capnp_wire_canonical.specs.Objects.{IsShort, WritesObject, HasPlace, IsCut, write_spot, canonical_copy, value_copy, row_copy, element_copy, elements_copy};
 
 use crate::cuts::{Cut, cut_of, pointer_to_cut};
 use crate::follow::{follow_data, follow_near_list, follow_near_struct, follow_nulls};
@@ -53,8 +54,9 @@ pub fn write_canonical<A: ReaderArena>(
     levels: u32,
     into: &mut [Word],
 ) -> Result<usize>
-    ensures { WritesCanonical levels (words_in (A.segments arena.now)) (place_view place)
-        into.old limiter.old result into.new limiter.new }
+    ensures { WritesCopy
+        (canonical_copy (reach levels (words_in (A.segments arena.now))) (place_view place))
+        (copy_state into.old limiter.old) result (copy_state into.new limiter.new) }
 {
     let used = end_of(into, 0, 1)?;
     let bytes = segment_bytes(arena, place.segment);
@@ -77,8 +79,9 @@ fn write_at<A: ReaderArena>(
 ) -> Result<usize>
     requires bytes { bytes.now ≡ segment_bytes (A.segments arena.now) place.segment }
     requires place { HasPlace (at + 1) used into.old }
-    ensures { WritesValue levels (words_in (A.segments arena.now)) (place_view place) at used
-        into.old limiter.old result into.new limiter.new }
+    ensures { let r = reach levels (words_in (A.segments arena.now)) in
+        WritesCopy (value_copy r (place_view place) (write_spot at used))
+        (copy_state into.old limiter.old) result (copy_state into.new limiter.new) }
 {
     if let Some(list) = follow_near_list(arena, bytes, limiter, place, levels)? {
         return write_list(arena, bytes, list, into, at, used);
@@ -108,8 +111,9 @@ fn write_any<A: ReaderArena>(
     used: usize,
 ) -> Result<usize>
     requires { HasPlace (at + 1) used into.old }
-    ensures { WritesValue levels (words_in (A.segments arena.now)) (place_view place) at used
-        into.old limiter.old result into.new limiter.new }
+    ensures { let r = reach levels (words_in (A.segments arena.now)) in
+        WritesCopy (value_copy r (place_view place) (write_spot at used))
+        (copy_state into.old limiter.old) result (copy_state into.new limiter.new) }
 {
     let object = follow_data(arena, limiter, place, levels)?;
     if levels == 0 {
@@ -135,8 +139,9 @@ fn write_object<A: ReaderArena>(
     requires data { IsNoCapability object }
     requires short { IsShort object }
     requires place { HasPlace (at + 1) used into.old }
-    ensures { WritesObject (words_in (A.segments arena.now)) levels object at used
-        into.old limiter.old result into.new limiter.new }
+    ensures { WritesObject (reach levels (words_in (A.segments arena.now))) object
+        (write_spot at used)
+        (copy_state into.old limiter.old) result (copy_state into.new limiter.new) }
 {
     match object {
         Object::Null | Object::Capability { .. } => {
@@ -200,9 +205,9 @@ fn write_struct<A: ReaderArena>(
     requires inside { AreThere (words_in (A.segments arena.now)) (place_view start)
         (data_words + pointers) }
     requires place { HasPlace (at + 1) used into.old }
-    ensures { WritesObject (words_in (A.segments arena.now)) levels
-        (seen.Struct start data_words pointers) at used
-        into.old limiter.old result into.new limiter.new }
+    ensures { WritesObject (reach levels (words_in (A.segments arena.now)))
+        (seen.Struct start data_words pointers) (write_spot at used)
+        (copy_state into.old limiter.old) result (copy_state into.new limiter.new) }
 {
     let cut = cut_of(arena, bytes, start, data_words, pointers, 1);
     let words = cut.kept_words as usize + cut.kept_pointers as usize;
@@ -234,9 +239,9 @@ fn write_structs<A: ReaderArena>(
     requires fit { count * (data_words + pointers) ≤ words }
     requires few { count < 2 ^ 30 }
     requires place { HasPlace (at + 1) used into.old }
-    ensures { WritesObject (words_in (A.segments arena.now)) levels
-        (seen.StructList start words count data_words pointers) at used
-        into.old limiter.old result into.new limiter.new }
+    ensures { WritesObject (reach levels (words_in (A.segments arena.now)))
+        (seen.StructList start words count data_words pointers) (write_spot at used)
+        (copy_state into.old limiter.old) result (copy_state into.new limiter.new) }
 {
     let cut = cut_of(arena, bytes, start, data_words, pointers, count);
     let width = cut.kept_words as usize + cut.kept_pointers as usize;
@@ -283,8 +288,9 @@ fn write_row<A: ReaderArena>(
     requires bytes { bytes.now ≡ segment_bytes (A.segments arena.now) first.segment }
     requires first { first.position + count < 2 ^ 62 }
     requires place { HasPlace (at + count) used into.old }
-    ensures { WritesRow levels (words_in (A.segments arena.now)) (place_view first) count at used
-        into.old limiter.old result into.new limiter.new }
+    ensures { let r = reach levels (words_in (A.segments arena.now)) in
+        WritesCopy (row_copy r (place_view first) count (write_spot at used))
+        (copy_state into.old limiter.old) result (copy_state into.new limiter.new) }
 {
     let mut end = used;
     for i in 0..count {
@@ -325,8 +331,9 @@ fn write_element<A: ReaderArena>(
     requires bytes { bytes.now ≡ segment_bytes (A.segments arena.now) start.segment }
     requires cut { IsCut (words_in (A.segments arena.now)) (place_view start) cut }
     requires place { HasPlace (at + (cut.kept_words + cut.kept_pointers)) used into.old }
-    ensures { WritesElement levels (words_in (A.segments arena.now)) (place_view start) cut at used
-        into.old limiter.old result into.new limiter.new }
+    ensures { let r = reach levels (words_in (A.segments arena.now)) in
+        WritesCopy (element_copy r (place_view start) cut (write_spot at used))
+        (copy_state into.old limiter.old) result (copy_state into.new limiter.new) }
 {
     let kept = cut.kept_words as usize;
     copy_words(arena, bytes, start, kept, into, at);
@@ -373,8 +380,9 @@ fn write_elements<A: ReaderArena>(
     requires cut { (i : ℕ) → i < count → IsCut (words_in (A.segments arena.now))
         (after (place_view start) (i * (cut.data_words + cut.pointers))) cut }
     requires place { HasPlace (at + count * (cut.kept_words + cut.kept_pointers)) used into.old }
-    ensures { WritesElements levels (words_in (A.segments arena.now)) (place_view start)
-        words count cut at used into.old limiter.old result into.new limiter.new }
+    ensures { let r = reach levels (words_in (A.segments arena.now)) in
+        WritesCopy (elements_copy r (place_view start) words count cut (write_spot at used))
+        (copy_state into.old limiter.old) result (copy_state into.new limiter.new) }
 {
     if cut.data_words == 0 && cut.pointers == 0 {
         return Ok(used);

@@ -6,12 +6,12 @@ ghost use Rattle.capnp_model.specs.Canonical.{is_canonical_message};
 ghost use Rattle.capnp_model.specs.Encoding.{canonical_words};
 ghost use Rattle.capnp_model.specs.Trees.{Tree, has_capability};
 ghost use Rattle.capnp_model.specs.Traversal.{tree_at};
-ghost use Rattle.capnp_model.specs.Trimming.{trim};
 ghost use Rattle.capnp_model.specs.Visits.{Visit, visits, visits_cost};
 ghost use Rattle.capnp_units.specs.Segments.{words_in};
-ghost use Rattle.capnp_units.specs.declared.limiter.ReadLimiter.{ReadLimiter};
+ghost use Rattle.capnp_wire_canonical.specs.Reaches.{reach};
 ghost use Rattle.capnp_wire_canonical.specs.Writes.{filled, words_view};
-ghost use Rattle.capnp_wire_canonical.specs.Copies.{copy_visits, WritesCopy};
+ghost use Rattle.capnp_wire_canonical.specs.Copies.{copy_visits, CopyState, WritesCopy};
+ghost use Rattle.capnp_wire_canonical.specs.Objects.{canonical_copy};
 ghost use Rattle.capnp_wire_canonical.specs.Standing.{Hold, Stands};
 
 use capnp_units::sizes::Word;
@@ -34,12 +34,10 @@ pub fn standing_is_canonical()
 
 /// The canonical copy of a message that is canonical is its one segment again.
 pub fn canonical_messages_are_copies()
-    ensures { (n : ℕ) (s : Segments) (old : List (List ℕ)) (l : ReadLimiter) (end : ℕ)
-        (new : List (List ℕ)) (m : ReadLimiter)
+    ensures { (n : ℕ) (s : Segments) (old : CopyState) (end : ℕ) (new : CopyState)
         → is_canonical_message n s ≡ true
-        → WritesCopy (tree_at n s root) has_capability (λ t words. canonical_words (trim t))
-        (copy_visits n s root) 1 1 old l (Ok end) new m
-        → s ≡ filled end new ∷ [] }
+        → WritesCopy (canonical_copy (reach n s) root) old (Ok end) new
+        → s ≡ filled end new.words ∷ [] }
 {}
 
 /// A canonical copy follows no more pointers than it pays words, and one, also where it is stopped.

@@ -5,7 +5,9 @@ ghost use Rattle.capnp_units.specs.declared.limiter.ReadLimiter.{ReadLimiter};
 ghost use Rattle.capnp_wire_objects.specs.Arenas.{segment_bytes};
 ghost use Rattle.capnp_wire_objects.specs.Objects.{IsInside};
 ghost use Rattle.capnp_wire_objects.specs.Near.{list_object, IsMeasured};
-ghost use Rattle.capnp_wire_canonical.specs.Objects.{IsShort, WritesObject, HasPlace};
+ghost use Rattle.capnp_wire_canonical.specs.Reaches.{reach};
+ghost use Rattle.capnp_wire_canonical.specs.Copies.{copy_state};
+ghost use Rattle.capnp_wire_canonical.specs.Objects.{IsShort, WritesObject, HasPlace, write_spot};
 
 use crate::own_words::copy_words;
 use crate::words::{end_of, mask_last, pointer_to_list, put};
@@ -30,8 +32,9 @@ pub(crate) fn write_list<A: ReaderArena>(
     requires measured { IsMeasured list }
     requires short { IsShort (list_object list) }
     requires place { HasPlace (at + 1) used into.old }
-    ensures { (levels : ℕ) (l : ReadLimiter) → WritesObject (words_in (A.segments arena.now)) levels
-        (list_object list) at used into.old l result into.new l }
+    ensures { (levels : ℕ) (l : ReadLimiter)
+        → WritesObject (reach levels (words_in (A.segments arena.now))) (list_object list)
+        (write_spot at used) (copy_state into.old l) result (copy_state into.new l) }
 {
     let end = end_of(into, used, list.words)?;
     let word = pointer_to_list(

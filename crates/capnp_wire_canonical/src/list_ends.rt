@@ -7,9 +7,10 @@ ghost use Rattle.capnp_units.specs.declared.limiter.ReadLimiter.{ReadLimiter};
 ghost use Rattle.capnp_wire_objects.specs.Places.{place_view};
 ghost use Rattle.capnp_wire_objects.specs.Near.{list_object, IsMeasured, IsNear};
 ghost use Rattle.capnp_wire_objects.specs.Objects.{AreThere};
+ghost use Rattle.capnp_wire_canonical.specs.Reaches.{reach};
 ghost use Rattle.capnp_wire_canonical.specs.Objects.{IsShort};
 ghost use Rattle.capnp_wire_canonical.specs.Standing.{EndsClear, HasHead, segment_words};
-ghost use Rattle.capnp_wire_canonical.specs.Checks.{TestsObject};
+ghost use Rattle.capnp_wire_canonical.specs.Checks.{Tests, object_test};
 
 use crate::own_words::word_or_zero;
 use capnp_wire_objects::arena::ReaderArena;
@@ -57,8 +58,9 @@ pub(crate) fn list_end<A: ReaderArena>(
     requires measured { IsMeasured list }
     requires short { IsShort (list_object list) }
     requires head { HasHead (words_in (A.segments arena.now)) (place_view place) 1 head }
-    ensures { (levels : ℕ) (l : ReadLimiter) → TestsObject levels (words_in (A.segments arena.now))
-        (place_view place) head (list_object list) l (Ok result) l }
+    ensures { (levels : ℕ) (l : ReadLimiter) → Tests
+        (object_test (reach levels (words_in (A.segments arena.now))) (place_view place) head
+        (list_object list)) l (Ok result) l }
 {
     if list.start.position != head {
         return None;

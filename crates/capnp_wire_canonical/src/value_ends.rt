@@ -8,9 +8,10 @@ ghost use Rattle.capnp_wire_objects.specs.declared.object.Object.TheVariants as 
 ghost use Rattle.capnp_wire_objects.specs.Places.{place_view};
 ghost use Rattle.capnp_wire_objects.specs.Near.{struct_object, IsNear};
 ghost use Rattle.capnp_wire_objects.specs.Objects.{AreThere, IsInside};
+ghost use Rattle.capnp_wire_canonical.specs.Reaches.{reach};
 ghost use Rattle.capnp_wire_canonical.specs.Objects.{IsShort};
 ghost use Rattle.capnp_wire_canonical.specs.Standing.{HasHead, LeadsToObject, ReachesHead};
-ghost use Rattle.capnp_wire_canonical.specs.Checks.{TestsValue, TestsObject, TestsRow, TestsElements};
+ghost use Rattle.capnp_wire_canonical.specs.Checks.{Tests, value_test, object_test, row_test, elements_test};
 
 use crate::cuts::cut_of;
 use crate::follow::{follow_near_list, follow_near_struct};
@@ -44,7 +45,8 @@ pub(crate) fn value_end<A: ReaderArena>(
     head: usize,
 ) -> Result<Option<usize>>
     requires { HasHead (words_in (A.segments arena.now)) (place_view place) 1 head }
-    ensures { TestsValue levels (words_in (A.segments arena.now)) (place_view place) head
+    ensures { Tests
+        (value_test (reach levels (words_in (A.segments arena.now))) (place_view place) head)
         limiter.old result limiter.new }
 {
     let bytes = segment_bytes(arena, place.segment);
@@ -67,7 +69,8 @@ fn any_end<A: ReaderArena>(
     head: usize,
 ) -> Result<Option<usize>>
     requires { HasHead (words_in (A.segments arena.now)) (place_view place) 1 head }
-    ensures { TestsValue levels (words_in (A.segments arena.now)) (place_view place) head
+    ensures { Tests
+        (value_test (reach levels (words_in (A.segments arena.now))) (place_view place) head)
         limiter.old result limiter.new }
 {
     let object = follow_within(arena, limiter, place, levels)?;
@@ -94,8 +97,8 @@ fn object_end<A: ReaderArena>(
     requires short { IsShort object }
     requires leads { LeadsToObject (words_in (A.segments arena.now)) (place_view place) object }
     requires head { HasHead (words_in (A.segments arena.now)) (place_view place) 1 head }
-    ensures { TestsObject levels (words_in (A.segments arena.now)) (place_view place) head object
-        limiter.old result limiter.new }
+    ensures { let r = reach levels (words_in (A.segments arena.now)) in
+        Tests (object_test r (place_view place) head object) limiter.old result limiter.new }
 {
     if head - place.position > REACH {
         return Ok(None);
@@ -157,8 +160,9 @@ fn struct_end<A: ReaderArena>(
     requires near { IsNear (words_in (A.segments arena.now)) (place_view place)
         (struct_object near) }
     requires head { HasHead (words_in (A.segments arena.now)) (place_view place) 1 head }
-    ensures { TestsObject levels (words_in (A.segments arena.now)) (place_view place) head
-        (struct_object near) limiter.old result limiter.new }
+    ensures { let r = reach levels (words_in (A.segments arena.now)) in
+        Tests (object_test r (place_view place) head (struct_object near))
+        limiter.old result limiter.new }
 {
     let data_words = near.size.data_words as usize;
     let words = data_words + near.size.pointers as usize;
@@ -190,8 +194,9 @@ fn pointers_end<A: ReaderArena>(
     requires inside { AreThere (words_in (A.segments arena.now)) (place_view start) count }
     requires link { ReachesHead (words_in (A.segments arena.now)) (place_view place) head
         (seen.PointerList start count) }
-    ensures { TestsObject levels (words_in (A.segments arena.now)) (place_view place) head
-        (seen.PointerList start count) limiter.old result limiter.new }
+    ensures { let r = reach levels (words_in (A.segments arena.now)) in
+        Tests (object_test r (place_view place) head (seen.PointerList start count))
+        limiter.old result limiter.new }
 {
     if count as usize >= REACH {
         return Ok(None);
@@ -222,9 +227,10 @@ fn structs_end<A: ReaderArena>(
     requires few { count < 2 ^ 30 }
     requires link { ReachesHead (words_in (A.segments arena.now)) (place_view place) head
         (seen.StructList start words count size.data_words size.pointers) }
-    ensures { TestsObject levels (words_in (A.segments arena.now)) (place_view place) head
-        (seen.StructList start words count size.data_words size.pointers) limiter.old result
-        limiter.new }
+    ensures { let r = reach levels (words_in (A.segments arena.now)) in
+        Tests (object_test r (place_view place) head
+        (seen.StructList start words count size.data_words size.pointers))
+        limiter.old result limiter.new }
 {
     let bytes = segment_bytes(arena, start.segment);
     let cut = cut_of(arena, bytes, start, size.data_words, size.pointers, count);
@@ -265,8 +271,8 @@ pub(crate) fn row_end<A: ReaderArena>(
 ) -> Result<Option<usize>>
     requires inside { AreThere (words_in (A.segments arena.now)) (place_view first) count }
     requires head { HasHead (words_in (A.segments arena.now)) (place_view first) count head }
-    ensures { TestsRow levels (words_in (A.segments arena.now)) (place_view first) count head
-        limiter.old result limiter.new }
+    ensures { let r = reach levels (words_in (A.segments arena.now)) in
+        Tests (row_test r (place_view first) count head) limiter.old result limiter.new }
 {
     let mut end = head;
     for i in 0..count {
@@ -298,8 +304,9 @@ fn elements_end<A: ReaderArena>(
         (count * (size.data_words + size.pointers)) }
     requires head { HasHead (words_in (A.segments arena.now)) (place_view start)
         (count * (size.data_words + size.pointers)) head }
-    ensures { TestsElements levels (words_in (A.segments arena.now)) (place_view start) count
-        size.data_words size.pointers head limiter.old result limiter.new }
+    ensures { let r = reach levels (words_in (A.segments arena.now)) in
+        Tests (elements_test r (place_view start) count size.data_words size.pointers head)
+        limiter.old result limiter.new }
 {
     if size.pointers == 0 {
         return Ok(Some(head));

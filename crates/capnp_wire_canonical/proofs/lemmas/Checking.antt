@@ -7,7 +7,7 @@ use Rattle.capnp_units.specs.declared.errors.Error.{Error}
 use Rattle.capnp_units.specs.declared.limiter.ReadLimiter.{ReadLimiter}
 use Rattle.capnp_wire_objects.specs.Walks.{Walked, Stopped}
 use Rattle.capnp_wire_objects.proofs.lemmas.Walks.{walked_none, walked_both, stopped_later}
-use Rattle.capnp_wire_canonical.specs.Checks.{Began, Agrees, Differs, Tests}
+use Rattle.capnp_wire_canonical.specs.Checks.{Began, Testing, Agrees, Differs, Tests}
 
 -- ---- a walk that stopped without a refusal
 
@@ -24,7 +24,8 @@ began_later a b path more l k m is w x = record {
 
 -- ---- an object that is paid for, and what is behind it
 
-pub paid_then : {X : Type 0} (there : Option X) (deeper : ℕ → Option X) (bad : X → Bool) (stands : X → ℕ → Type 0) (premise : Type 0) (a b : List Visit) (l k m : ReadLimiter) (r : Result (Option ℕ) Error) → Walked a l k → Tests there deeper bad stands premise b k r m → Tests there deeper bad stands premise (a ++ b) l r m
+pub paid_then : {X : Type 0} (there : Option X) (deeper : ℕ → Option X) (bad : X → Bool) (stands : X → ℕ → Type 0) (premise : Type 0) (a b : List Visit) (l k m : ReadLimiter) (r : Result (Option ℕ) Error) → Walked a l k → Tests (record { there = there; deeper = deeper; bad = bad; stands = stands; premise = premise; path = b }) k r m
+    → Tests (record { there = there; deeper = deeper; bad = bad; stands = stands; premise = premise; path = a ++ b }) l r m
 paid_then there deeper bad stands premise a b l k m (Ok (Some end)) w x = record { what = x.what; there_is = x.there_is; clean = x.clean; stand = x.stand; near = x.near; walked = walked_both a b l k m w x.walked }
 paid_then there deeper bad stands premise a b l k m (Ok None) w x = record { began = began_later a b (a ++ b) [] l k m (ap (λ (vs : List Visit). a ++ vs) (sym (append-nil b))) w x.began; apart = x.apart }
 paid_then there deeper bad stands premise a b l k m (Err e) w x = stopped_later a b (a ++ b) [] l k m e (ap (λ (vs : List Visit). a ++ vs) (sym (append-nil b))) w x
@@ -35,7 +36,8 @@ pub made_of : {X Y : Type 0} (there : Option X) (deeper : ℕ → Option X) (bad
     → (premise' → premise)
     → ((x : X) (end : ℕ) → there ≡ Some x → bad x ≡ false → stands x end → (y : Y) × (there' ≡ Some y) × (bad' y ≡ false) × stands' y end)
     → ((more : ℕ) (y : Y) (end : ℕ) → deeper' more ≡ Some y → bad' y ≡ false → stands' y end → (x : X) × (deeper more ≡ Some x) × (bad x ≡ false) × stands x end)
-    → Tests there deeper bad stands premise path l r m → Tests there' deeper' bad' stands' premise' path l r m
+    → Tests (record { there = there; deeper = deeper; bad = bad; stands = stands; premise = premise; path = path }) l r m
+    → Tests (record { there = there'; deeper = deeper'; bad = bad'; stands = stands'; premise = premise'; path = path }) l r m
 made_of there deeper bad stands there' deeper' bad' stands' premise premise' path l m (Ok (Some end)) less forth back x =
     let y = forth x.what end x.there_is x.clean x.stand in
     record { what = y.0; there_is = y.1; clean = y.2; stand = y.3; near = x.near; walked = x.walked }
@@ -46,18 +48,17 @@ made_of there deeper bad stands there' deeper' bad' stands' premise premise' pat
 made_of there deeper bad stands there' deeper' bad' stands' premise premise' path l m (Err e) less forth back x = x
 
 -- what is there by another word
-pub read_as : {X : Type 0} (there there' : Option X) (deeper deeper' : ℕ → Option X) (bad : X → Bool) (stands : X → ℕ → Type 0) (premise : Type 0) (path : List Visit) (l m : ReadLimiter) (r : Result (Option ℕ) Error) → there' ≡ there → ((more : ℕ) → deeper' more ≡ deeper more) → Tests there deeper bad stands premise path l r m
-    → Tests there' deeper' bad stands premise path l r m
+pub read_as : {X : Type 0} (there there' : Option X) (deeper deeper' : ℕ → Option X) (bad : X → Bool) (stands : X → ℕ → Type 0) (premise : Type 0) (path : List Visit) (l m : ReadLimiter) (r : Result (Option ℕ) Error) → there' ≡ there → ((more : ℕ) → deeper' more ≡ deeper more) → Tests (record { there = there; deeper = deeper; bad = bad; stands = stands; premise = premise; path = path }) l r m
+    → Tests (record { there = there'; deeper = deeper'; bad = bad; stands = stands; premise = premise; path = path }) l r m
 read_as there there' deeper deeper' bad stands premise path l m r same alike x =
     made_of there deeper bad stands there' deeper' bad stands premise premise path l m r (λ given. given) (λ y end is clean stand. (y, same ∙ is, clean, stand)) (λ more y end is clean stand. (y, sym (alike more) ∙ is, clean, stand)) x
 
 -- nothing stands there, and nothing was followed
-pub differs_at : {X : Type 0} (deeper : ℕ → Option X) (bad : X → Bool) (stands : X → ℕ → Type 0) (premise : Type 0) (path : List Visit) (l : ReadLimiter) → (premise → (more : ℕ) (x : X) (end : ℕ) → deeper more ≡ Some x → bad x ≡ false → stands x end → ⊥)
-    → Differs deeper bad stands premise path l l
-differs_at deeper bad stands premise path l never = record { began = began_none path l; apart = never }
+pub differs_at : {X : Type 0} (test : Testing X) (l : ReadLimiter) → (test.premise → (more : ℕ) (x : X) (end : ℕ) → test.deeper more ≡ Some x → test.bad x ≡ false → test.stands x end → ⊥) → Differs test l l
+differs_at test l never = record { began = began_none test.path l; apart = never }
 
-pub refused_is : {X : Type 0} (there : Option X) (deeper : ℕ → Option X) (bad : X → Bool) (stands : X → ℕ → Type 0) (premise : Type 0) (path : List Visit) (l m : ReadLimiter) (r : Result (Option ℕ) Error) (x e : Error) → r ≡ Err x → x ≡ e → Stopped path l e m → Tests there deeper bad stands premise path l r m
-refused_is there deeper bad stands premise path l m r x e a b w = subst (λ (y : Result (Option ℕ) Error). Tests there deeper bad stands premise path l y m) (sym (a ∙ ap (λ (y : Error). Err y) b)) w
+pub refused_is : {X : Type 0} (test : Testing X) (l m : ReadLimiter) (r : Result (Option ℕ) Error) (x e : Error) → r ≡ Err x → x ≡ e → Stopped test.path l e m → Tests test l r m
+refused_is test l m r x e a b w = subst (λ (y : Result (Option ℕ) Error). Tests test l y m) (sym (a ∙ ap (λ (y : Error). Err y) b)) w
 
 -- ---- several in a row
 
@@ -93,10 +94,10 @@ pub record Parts {X Y : Type 0} (item : Option Y) (bad' : Y → Bool) (one : Y �
 
 module _ {X Y : Type 0} (there rest rest' : Option X) (deeper deeper_rest deeper_rest' : ℕ → Option X) (bad : X → Bool) (stands stands' : X → ℕ → Type 0) (behind : ℕ → X → ℕ → Type 0) (item : Option Y) (deeper_item : ℕ → Option Y) (bad' : Y → Bool) (one : Y → ℕ → Type 0) (path left left' own : List Visit) (l k m : ReadLimiter) (split : left ≡ own ++ left')
     (parts : (more : ℕ) (z : X) (end : ℕ) → deeper_rest more ≡ Some z → bad z ≡ false → stands' z end → Parts (deeper_item more) bad' one (deeper_rest' more) bad behind end) where
-  pub next : (e : ℕ) → ((more : ℕ) (x : Y) → item ≡ Some x → deeper_item more ≡ Some x) → ((x : Y) (i j : ℕ) → one x i → one x j → i ≡ j)
+  pub next : (premise : Type 0) (e : ℕ) → ((more : ℕ) (x : Y) → item ≡ Some x → deeper_item more ≡ Some x) → ((x : Y) (i j : ℕ) → one x i → one x j → i ≡ j)
       → ((x : Y) (y : X) (end : ℕ) → item ≡ Some x → rest' ≡ Some y → bad' x ≡ false → bad y ≡ false → one x e → behind e y end → (z : X) × (rest ≡ Some z) × (bad z ≡ false) × stands' z end)
-      → Agrees item bad' one own k e m → SoFar there rest deeper deeper_rest bad stands stands' path left l k → SoFar there rest' deeper deeper_rest' bad stands (behind e) path left' l m
-  next e kept same join w f = record {
+      → Agrees (record { there = item; deeper = deeper_item; bad = bad'; stands = one; premise = premise; path = own }) k e m → SoFar there rest deeper deeper_rest bad stands stands' path left l k → SoFar there rest' deeper deeper_rest' bad stands (behind e) path left' l m
+  next premise e kept same join w f = record {
     done = f.done ++ own;
     path_is = f.path_is ∙ ap (λ (vs : List Visit). f.done ++ vs) split ∙ sym (append_assoc f.done own left');
     walked = walked_both f.done own l k m f.walked w.walked;
@@ -111,7 +112,8 @@ module _ {X Y : Type 0} (there rest rest' : Option X) (deeper deeper_rest deeper
         (x.others, x.others_are, x.others_clean, subst (λ (j : ℕ). behind j x.others end) here x.others_stand);
   }
 
-  pub differs : (premise : Type 0) → Differs deeper_item bad' one premise own k m → SoFar there rest deeper deeper_rest bad stands stands' path left l k → Differs deeper bad stands premise path l m
+  pub differs : (premise : Type 0) → Differs (record { there = item; deeper = deeper_item; bad = bad'; stands = one; premise = premise; path = own }) k m → SoFar there rest deeper deeper_rest bad stands stands' path left l k
+      → Differs (record { there = there; deeper = deeper; bad = bad; stands = stands; premise = premise; path = path }) l m
   differs premise w f = record {
     began = began_later f.done own path left' l k m (f.path_is ∙ ap (λ (vs : List Visit). f.done ++ vs) split) f.walked w.began;
     apart = λ given more y end is clean stand.
@@ -123,9 +125,9 @@ module _ {X Y : Type 0} (there rest rest' : Option X) (deeper deeper_rest deeper
   pub stopped : (e : Error) → Stopped own k e m → SoFar there rest deeper deeper_rest bad stands stands' path left l k → Stopped path l e m
   stopped e w f = stopped_later f.done own path left' l k m e (f.path_is ∙ ap (λ (vs : List Visit). f.done ++ vs) split) f.walked w
 
-pub ended : {X : Type 0} (there rest : Option X) (deeper deeper_rest : ℕ → Option X) (bad : X → Bool) (stands stands' : X → ℕ → Type 0) (path left : List Visit) (l m : ReadLimiter) (x : X) (end : ℕ) → rest ≡ Some x → bad x ≡ false → stands' x end → end < 2 ^ 61 → left ≡ []
-    → SoFar there rest deeper deeper_rest bad stands stands' path left l m → Agrees there bad stands path l end m
-ended there rest deeper deeper_rest bad stands stands' path left l m x end is clean stand near none f =
+pub ended : {X : Type 0} (there rest : Option X) (deeper deeper_rest : ℕ → Option X) (bad : X → Bool) (stands stands' : X → ℕ → Type 0) (path left : List Visit) (l m : ReadLimiter) (premise : Type 0) (x : X) (end : ℕ) → rest ≡ Some x → bad x ≡ false → stands' x end → end < 2 ^ 61 → left ≡ []
+    → SoFar there rest deeper deeper_rest bad stands stands' path left l m → Agrees (record { there = there; deeper = deeper; bad = bad; stands = stands; premise = premise; path = path }) l end m
+ended there rest deeper deeper_rest bad stands stands' path left l m premise x end is clean stand near none f =
     let y = f.forth x end is clean stand in
     let all : path ≡ f.done = f.path_is ∙ ap (λ (vs : List Visit). f.done ++ vs) none ∙ append-nil f.done in
     record { what = y.0; there_is = y.1; clean = y.2; stand = y.3; near = near; walked = subst (λ (vs : List Visit). Walked vs l m) (sym all) f.walked }

@@ -8,7 +8,7 @@ use Rattle.capnp_model.specs.Pointers.{Object, nothing, a_struct, a_list, a_capa
 use Rattle.capnp_model.specs.Traversal.{ListKind, of_bits, of_pointers, of_structs, list_kind, list_words, tag_in}
 use Rattle.capnp_model.specs.Coverage.{from_each, from_elements}
 use Rattle.capnp_model.specs.Visits.{Visit, visits_of, list_visits, object_visits, leaf_visits, visits, visits_cost}
-use Rattle.capnp_model.proofs.lemmas.Chaining.{bind_some, some_is}
+use Rattle.capnp_model.proofs.lemmas.Chaining.{bind_some}
 use Rattle.capnp_model.proofs.lemmas.Visits.{follows_few, cost_front}
 use Rattle.capnp_model.proofs.lemmas.Lists.{last_of}
 use Rattle.capnp_wire_canonical.specs.Copies.{unless_capability, copy_visits}

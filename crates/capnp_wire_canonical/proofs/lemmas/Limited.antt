@@ -4,8 +4,6 @@ use Rattle.std.specs.Prelude.{nat_le}
 use Rattle.std.proofs.lemmas.Bool.Decides.{nat_tests}
 use Rattle.capnp_model.specs.Segments.{Segments, Place, root}
 use Rattle.capnp_model.specs.Trees.{Tree, has_capability}
-use Rattle.capnp_model.specs.Trimming.{trim}
-use Rattle.capnp_model.specs.Encoding.{canonical_words}
 use Rattle.capnp_model.specs.Traversal.{tree_at, cost_at}
 use Rattle.capnp_model.specs.Answers.{Limits, value_within}
 use Rattle.capnp_model.specs.Visits.{Visit, visits, visits_cost}
@@ -14,7 +12,9 @@ use Rattle.capnp_units.specs.Limits.{left_of, Allows}
 use Rattle.capnp_units.specs.declared.errors.Error.{Error}
 use Rattle.capnp_units.specs.declared.limiter.ReadLimiter.{ReadLimiter}
 use Rattle.capnp_wire_objects.specs.Walks.{Walked, Stopped, CannotPass}
-use Rattle.capnp_wire_canonical.specs.Copies.{copy_visits, Written}
+use Rattle.capnp_wire_canonical.specs.Reaches.{reach}
+use Rattle.capnp_wire_canonical.specs.Copies.{copy_visits, Written, copy_state}
+use Rattle.capnp_wire_canonical.specs.Objects.{canonical_copy}
 
 -- what the laws say of walks
 pub record WalkLaws : Type 0 where
@@ -112,6 +112,6 @@ module _ (laws : WalkLaws) (s : Segments) (words n : ℕ) where
 
   -- and so is one of which a copy is made
   pub written_within : (l m : ReadLimiter) (old new : List (List ℕ)) (end : ℕ) → left_of l ≡ Some words
-      → (w : Written (tree_at n s root) has_capability (λ t ws. canonical_words (trim t)) (copy_visits n s root) 1 1 old l end new m) → value_within (limits words n) s ≡ Some w.what
+      → (w : Written (canonical_copy (reach n s) root) (copy_state old l) end (copy_state new m)) → value_within (limits words n) s ≡ Some w.what
   written_within l m old new end left w =
       walked_within l m w.what left (subst (λ (path : List Visit). Walked path l m) (laws.walks n s root w.what w.there_is w.clean) w.walked) w.there_is w.clean

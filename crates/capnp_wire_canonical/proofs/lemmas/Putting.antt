@@ -4,7 +4,7 @@ use Rattle.std.proofs.Math.ListN.{set, length-set}
 use Rattle.std.proofs.Math.Seq.{take-suc-set}
 use Rattle.std.proofs.lemmas.List.{drop-set-lt, take-append-drop, take-append-le, drop-append-le, length-append, length-take, length-drop, drop-drop, drop-take, take-take}
 use Rattle.capnp_model.specs.Sections.{words_of}
-use Rattle.capnp_model.specs.Trees.{Tree, Trees, none, ◌▸◌, Elements, no_elements, element, tree_count, element_count, resized}
+use Rattle.capnp_model.specs.Trees.{Tree, Trees, none, ◌▸◌, Elements, no_elements, element, tree_count, element_count}
 use Rattle.capnp_model.specs.Encoding.{pointer, body, links, bodies, cells, element_bodies}
 use Rattle.capnp_model.proofs.lemmas.Numbers.{length-numbers_in}
 use Rattle.capnp_model.proofs.lemmas.RoundTrip.{links_length}

@@ -1,5 +1,5 @@
--- The row from the head on.
-use Rattle.std.proofs.Common.{◌+◌}
+-- The row from the head on, or a head that lies elsewhere.
+use Rattle.std.proofs.Common.{◌+◌, refl}
 use Rattle.capnp_model.specs.Segments.{Segments, Place}
 use Rattle.capnp_model.specs.Trees.{have_capability}
 use Rattle.capnp_model.specs.Traversal.{tree_at, each}
@@ -10,8 +10,19 @@ use Rattle.capnp_units.specs.Segments.{words_in}
 use Rattle.capnp_wire_objects.specs.Places.{place_view}
 use Rattle.capnp_wire_canonical.specs.Standing.{StandEach, IsSmall}
 use Rattle.capnp_wire_canonical.specs.Checks.{IsBehind}
+use Rattle.capnp_wire_canonical.proofs.lemmas.Checking.{began_none}
 use Rattle.capnp_wire_canonical.proofs.Telling.{none_left, tells_moved}
 use Rattle.capnp_wire_canonical.proofs.check.are_canonical.Goals as goal
+
+pub returns-then-not-is_behind : goal.returns-then-not-is_behind
+returns-then-not-is_behind g c =
+    let s : Segments = words_in (g.A.ReaderArena.segments c.args.arena.now) in (
+      refl,
+      record {
+        began = began_none (from_each (visits c.args.levels s) (place_view c.args.first) c.args.count) c.args.limiter.now;
+        apart = λ small more ts end is clean stand. c.if-not-is_behind.ensures.elsewhere stand.0;
+      },
+    )
 
 pub returns : goal.returns
 returns g c =

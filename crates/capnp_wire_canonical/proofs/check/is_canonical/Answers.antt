@@ -10,8 +10,9 @@ use Rattle.capnp_units.specs.declared.errors.Error.{Error}
 use Rattle.capnp_units.specs.Segments.{words_in}
 use Rattle.capnp_wire_objects.specs.Places.{place_view}
 use Rattle.capnp_wire_objects.proofs.lemmas.Measuring.{unfollowed_at}
+use Rattle.capnp_wire_canonical.specs.Reaches.{reach}
 use Rattle.capnp_wire_canonical.specs.Standing.{Stands, IsSmall}
-use Rattle.capnp_wire_canonical.specs.Checks.{IsBehind, TellsValue}
+use Rattle.capnp_wire_canonical.specs.Checks.{IsBehind, TellsValue, head_state}
 use Rattle.capnp_wire_canonical.proofs.Telling.{none_left, tells_moved, first_began}
 use Rattle.capnp_wire_canonical.proofs.check.is_canonical.Goals as goal
 
@@ -25,7 +26,7 @@ returns-in_err-follow_within g c =
     let m = c.follow_within.new.limiter in
     let e = c.in_err-follow_within.field-0.0 in
     let r = err_from_is_err_and c.from_residual.result c.from_residual.ensures.1 in
-    subst (λ (y : Result Bool Error). TellsValue n s p h l y h m) (sym (r.1 ∙ ap (λ (y : Error). Err y) r.2)) (refl, unfollowed_at n s p l m (Err e) e e refl refl c.in_err-follow_within.ensures)
+    subst (λ (y : Result Bool Error). TellsValue (reach n s) p (head_state h l) y (head_state h m)) (sym (r.1 ∙ ap (λ (y : Error). Err y) r.2)) (refl, unfollowed_at n s p l m (Err e) e e refl refl c.in_err-follow_within.ensures)
 
 pub returns-then-not-is_behind : goal.returns-then-not-is_behind
 returns-then-not-is_behind g c =

@@ -5,9 +5,9 @@ use Rattle.std.specs.Option.{is_some}
 use Rattle.std.proofs.lemmas.Result.{err_from_is_err_and}
 use Rattle.capnp_model.specs.Sections.{needed_words}
 use Rattle.capnp_model.specs.Segments.{Segments, Place, after, words_at}
-use Rattle.capnp_model.specs.Trees.{no_elements, element, resized, has_capability, have_capability, elements_have_capability}
+use Rattle.capnp_model.specs.Trees.{no_elements, element, resized, have_capability, elements_have_capability}
 use Rattle.capnp_model.specs.Traversal.{tree_at, each, each_element}
-use Rattle.capnp_model.specs.Trimming.{trim, trim_each, trim_elements, with_pointers}
+use Rattle.capnp_model.specs.Trimming.{trim_each, trim_elements, with_pointers}
 use Rattle.capnp_model.specs.Coverage.{from_each, from_elements}
 use Rattle.capnp_units.specs.declared.errors.Error.{Error}
 use Rattle.capnp_units.specs.Segments.{words_in}
@@ -18,14 +18,15 @@ use Rattle.capnp_wire_objects.specs.Places.{place_view}
 use Rattle.capnp_wire_objects.specs.Near.{list_object, struct_object, IsMeasured, IsNear}
 use Rattle.capnp_wire_objects.specs.Arenas.{segment_bytes}
 use Rattle.capnp_wire_objects.specs.Objects.{IsInside}
-use Rattle.capnp_wire_objects.specs.Inside.{tree_in, met_in, section_at, words_there}
+use Rattle.capnp_wire_objects.specs.Inside.{section_at, words_there}
 use Rattle.capnp_wire_objects.specs.Walks.{Stopped}
 use Rattle.capnp_model.proofs.lemmas.Counts.{each_count, each_element_count}
-use Rattle.capnp_wire_canonical.specs.Writes.{words_view, with_link, with_links, with_cells}
+use Rattle.capnp_wire_canonical.specs.Reaches.{reach}
+use Rattle.capnp_wire_canonical.specs.Writes.{words_view, with_links, with_cells}
 use Rattle.capnp_wire_canonical.specs.Widths.{kept}
-use Rattle.capnp_wire_canonical.specs.Copies.{copy_visits, IsNoCapability, FollowsData, WritesCopy, Unwritten}
-use Rattle.capnp_wire_canonical.specs.Objects.{IsShort, WritesObject}
-use Rattle.capnp_wire_canonical.proofs.Copying.{unwritten_at, no_room, halts_is}
+use Rattle.capnp_wire_canonical.specs.Copies.{copy_visits, IsNoCapability, FollowsData, WritesCopy, Unwritten, copy_state}
+use Rattle.capnp_wire_canonical.specs.Objects.{IsShort, WritesObject, write_spot, value_copy, object_copy}
+use Rattle.capnp_wire_canonical.proofs.Copying.{unwritten_at, no_room, halts_is, over_used}
 use Rattle.capnp_wire_canonical.proofs.lemmas.Faults.{stopped_otherwise}
 use Rattle.capnp_wire_canonical.proofs.Rooms.{no_room_for_struct, no_room_for_pointers, no_room_for_structs}
 use Rattle.capnp_wire_canonical.proofs.Rows.{least_words, least_pointers}
@@ -50,8 +51,8 @@ write_at-returns-in_err-list g t c =
     let k = c.follow_near_list.new.limiter in
     let e = c.in_err-list.field-0.0 in
     let r = err_from_is_err_and c.from_residual.result c.from_residual.ensures.1 in
-    halts_is (tree_at n s p) has_capability (λ t. with_link c.args.at (trim t)) (copy_visits n s p) c.args.used c.args.used old old l k c.from_residual.result r.0 e r.1 r.2
-    (unwritten_at (tree_at n s p) (λ t. with_link c.args.at (trim t)) (copy_visits n s p) c.args.used c.args.used old l k e c.in_err-list.ensures.copied (λ kind. stopped_otherwise n s p l k e c.in_err-list.ensures.copied kind))
+    halts_is (value_copy (reach n s) p (write_spot c.args.at c.args.used)) (copy_state old l) (copy_state old k) c.from_residual.result r.0 e r.1 r.2
+    (unwritten_at (value_copy (reach n s) p (write_spot c.args.at c.args.used)) (copy_state old l) e k c.in_err-list.ensures.copied (λ kind. stopped_otherwise n s p l k e c.in_err-list.ensures.copied kind))
 
 pub write_at-returns-in-Some : goal.write_at-returns-in-Some
 write_at-returns-in-Some g t c =
@@ -75,8 +76,8 @@ write_at-returns-in_err-near g t c =
     let r = err_from_is_err_and c.from_residual-in_err-near.result c.from_residual-in_err-near.ensures.1 in
     let same = untold list_object (FollowsData n s p) l c.follow_near_list.new.limiter c.in_ok-list.field-0 c.in_default.not-Some c.in_ok-list.ensures.copied in
     let stop : Stopped (copy_visits n s p) l e k = subst (λ (x : ReadLimiter). Stopped (copy_visits n s p) x e k) same c.in_err-near.ensures.copied in
-    halts_is (tree_at n s p) has_capability (λ t. with_link c.args.at (trim t)) (copy_visits n s p) c.args.used c.args.used old old l k c.from_residual-in_err-near.result r.0 e r.1 r.2
-    (unwritten_at (tree_at n s p) (λ t. with_link c.args.at (trim t)) (copy_visits n s p) c.args.used c.args.used old l k e stop (λ kind. stopped_otherwise n s p l k e stop kind))
+    halts_is (value_copy (reach n s) p (write_spot c.args.at c.args.used)) (copy_state old l) (copy_state old k) c.from_residual-in_err-near.result r.0 e r.1 r.2
+    (unwritten_at (value_copy (reach n s) p (write_spot c.args.at c.args.used)) (copy_state old l) e k stop (λ kind. stopped_otherwise n s p l k e stop kind))
 
 pub write_at-returns-in-Some-2 : goal.write_at-returns-in-Some-2
 write_at-returns-in-Some-2 g t c =
@@ -121,8 +122,8 @@ write_any-returns-in_err-object g t c =
     let n = c.args.levels in
     let old = c.args.into.now in
     let r = err_from_is_err_and c.from_residual.result c.from_residual.ensures.1 in
-    halts_is (tree_at n s p) has_capability (λ t. with_link c.args.at (trim t)) (copy_visits n s p) c.args.used c.args.used old old c.args.limiter.now c.follow_data.new.limiter c.from_residual.result r.0 c.in_err-object.field-0.0 r.1 r.2
-    (unwritten_at (tree_at n s p) (λ t. with_link c.args.at (trim t)) (copy_visits n s p) c.args.used c.args.used old c.args.limiter.now c.follow_data.new.limiter c.in_err-object.field-0.0 c.in_err-object.ensures (λ kind. stopped_otherwise n s p c.args.limiter.now c.follow_data.new.limiter c.in_err-object.field-0.0 c.in_err-object.ensures kind))
+    halts_is (value_copy (reach n s) p (write_spot c.args.at c.args.used)) (copy_state old c.args.limiter.now) (copy_state old c.follow_data.new.limiter) c.from_residual.result r.0 c.in_err-object.field-0.0 r.1 r.2
+    (unwritten_at (value_copy (reach n s) p (write_spot c.args.at c.args.used)) (copy_state old c.args.limiter.now) c.in_err-object.field-0.0 c.follow_data.new.limiter c.in_err-object.ensures (λ kind. stopped_otherwise n s p c.args.limiter.now c.follow_data.new.limiter c.in_err-object.field-0.0 c.in_err-object.ensures kind))
 
 pub write_any-returns-then-levels-eq0 : goal.write_any-returns-then-levels-eq0
 write_any-returns-then-levels-eq0 g t c =
@@ -140,13 +141,13 @@ write_any-returns g t c =
 pub write_object-returns-in-Struct : goal.write_object-returns-in-Struct
 write_object-returns-in-Struct g t c =
     let s : Segments = words_in (g.A.ReaderArena.segments c.args.arena.now) in
-    subst (λ (o : Object). WritesObject s c.args.levels o c.args.at c.args.used c.args.into.now c.args.limiter.now c.write_struct.result c.write_struct.new.into c.write_struct.new.limiter) (sym c.in-Struct.is) c.write_struct.ensures
+    subst (λ (o : Object). WritesObject (reach c.args.levels s) o (write_spot c.args.at c.args.used) (copy_state c.args.into.now c.args.limiter.now) c.write_struct.result (copy_state c.write_struct.new.into c.write_struct.new.limiter)) (sym c.in-Struct.is) c.write_struct.ensures
 
 pub write_object-returns-in-List : goal.write_object-returns-in-List
 write_object-returns-in-List g t c =
     let s : Segments = words_in (g.A.ReaderArena.segments c.args.arena.now) in
     let l = c.args.limiter.now in
-    subst (λ (o : Object). WritesObject s c.args.levels o c.args.at c.args.used c.args.into.now l c.write_list.result c.write_list.new.into l) (sym (c.in-List.is ∙ sym c.new-list.ensures.object)) (c.write_list.ensures c.args.levels l)
+    subst (λ (o : Object). WritesObject (reach c.args.levels s) o (write_spot c.args.at c.args.used) (copy_state c.args.into.now l) c.write_list.result (copy_state c.write_list.new.into l)) (sym (c.in-List.is ∙ sym c.new-list.ensures.object)) (c.write_list.ensures c.args.levels l)
 
 pub write_object-write_list-requires : goal.write_object-write_list-requires
 write_object-write_list-requires g t c =
@@ -157,7 +158,7 @@ write_object-write_list-requires g t c =
 pub write_object-returns-in-StructList : goal.write_object-returns-in-StructList
 write_object-returns-in-StructList g t c =
     let s : Segments = words_in (g.A.ReaderArena.segments c.args.arena.now) in
-    subst (λ (o : Object). WritesObject s c.args.levels o c.args.at c.args.used c.args.into.now c.args.limiter.now c.write_structs.result c.write_structs.new.into c.write_structs.new.limiter) (sym c.in-StructList.is) c.write_structs.ensures
+    subst (λ (o : Object). WritesObject (reach c.args.levels s) o (write_spot c.args.at c.args.used) (copy_state c.args.into.now c.args.limiter.now) c.write_structs.result (copy_state c.write_structs.new.into c.write_structs.new.limiter)) (sym c.in-StructList.is) c.write_structs.ensures
 
 pub write_row-loop-i-init : goal.write_row-loop-i-init
 write_row-loop-i-init g t c =
@@ -173,7 +174,7 @@ write_row-returns-in_err-next g t c =
     let at = c.args.at in
     let r = err_from_is_err_and c.from_residual.result c.from_residual.ensures.1 in
     let e = c.in_err-next.field-0.0 in
-    halts_is (each (tree_at n s) p count) have_capability (trees_put at (at + count)) (from_each (copy_visits n s) p count) c.args.used c.args.used c.args.into.now c.write_at.new.into c.args.limiter.now c.write_at.new.limiter c.from_residual.result r.0 e r.1 r.2
+    halts_is (over_used (each (tree_at n s) p count) have_capability (trees_put at (at + count)) (from_each (copy_visits n s) p count) c.args.used) (copy_state c.args.into.now c.args.limiter.now) (copy_state c.write_at.new.into c.write_at.new.limiter) c.from_residual.result r.0 e r.1 r.2
     (pointers_stopped c.args.levels s (place_view c.args.first) c.args.count c.args.at c.args.used c.args.into.now c.args.limiter.now c.loop-i.i c.loop-i.end c.loop-i.into c.write_at.new.into c.loop-i.limiter c.write_at.new.limiter e c.loop-i-test.true c.requires.place.0 c.in_err-next.ensures c.loop-i.invariant)
 
 pub write_row-loop-i-preserved : goal.write_row-loop-i-preserved
@@ -201,8 +202,8 @@ write_object-returns-in_err-end-in-PointerList g t c =
     let e = c.in_err-end-in-PointerList.field-0.0 in
     let r = err_from_is_err_and c.from_residual.result c.from_residual.ensures.1 in
     let full = c.in_err-end-in-PointerList.ensures.1 in
-    subst (λ (o : Object). WritesObject s n o c.args.at c.args.used old l c.from_residual.result old l) (sym c.in-PointerList.is)
-    (λ most room. no_room (tree_in s (tree_at n s) o) has_capability (λ t. with_link c.args.at (trim t)) (met_in (copy_visits n s) o) most c.args.used old l c.from_residual.result e (r.1 ∙ ap (λ (y : Error). Err y) r.2) c.in_err-end-in-PointerList.ensures.0 (omega arith)
+    subst (λ (o : Object). WritesObject (reach n s) o (write_spot c.args.at c.args.used) (copy_state old l) c.from_residual.result (copy_state old l)) (sym c.in-PointerList.is)
+    (λ most room. no_room (object_copy (reach n s) o (write_spot c.args.at c.args.used) most) (copy_state old l) c.from_residual.result e (r.1 ∙ ap (λ (y : Error). Err y) r.2) c.in_err-end-in-PointerList.ensures.0 (omega arith)
     (no_room_for_pointers c.args.at c.args.used count old c.requires.place.1 full (each (tree_at n s) p count) (λ ts is. each_count (tree_at n s) p count ts is)))
 
 pub write_object-returns-in_ok-end-in-PointerList : goal.write_object-returns-in_ok-end-in-PointerList
@@ -217,10 +218,10 @@ write_object-returns-in_ok-end-in-PointerList g t c =
     let bound = c.in_ok-end-in-PointerList.ensures.1 in
     let less = c.requires.place.0 in
     let same = c.put-in-PointerList.ensures.behind.0 in
-    subst (λ (o : Object). WritesObject s n o c.args.at c.args.used old c.args.limiter.now c.write_row.result c.write_row.new.into c.write_row.new.limiter) (sym c.in-PointerList.is)
+    subst (λ (o : Object). WritesObject (reach n s) o (write_spot c.args.at c.args.used) (copy_state old c.args.limiter.now) c.write_row.result (copy_state c.write_row.new.into c.write_row.new.limiter)) (sym c.in-PointerList.is)
     (λ most room. pointers_gives (tree_at n s) p (from_each (copy_visits n s) p count) 0 count 0 0 0 c.args.at c.args.used end most c.pointer_to_list-word.result old c.put-in-PointerList.new.into c.write_row.new.into c.args.limiter.now c.write_row.new.limiter c.write_row.result
     end_is (omega arith) c.requires.place.1 (omega arith) (omega arith) c.put-in-PointerList.ensures.words c.put-in-PointerList.ensures.behind c.pointer_to_list-word.ensures
-    (subst (λ (j : ℕ). WritesCopy (each (tree_at n s) p count) have_capability (λ ts. with_links c.args.used (c.args.used + count) (trim_each ts)) (from_each (copy_visits n s) p count) j j c.put-in-PointerList.new.into c.args.limiter.now c.write_row.result c.write_row.new.into c.write_row.new.limiter) refl c.write_row.ensures))
+    (subst (λ (j : ℕ). WritesCopy (over_used (each (tree_at n s) p count) have_capability (λ ts. with_links c.args.used (c.args.used + count) (trim_each ts)) (from_each (copy_visits n s) p count) j) (copy_state c.put-in-PointerList.new.into c.args.limiter.now) c.write_row.result (copy_state c.write_row.new.into c.write_row.new.limiter)) refl c.write_row.ensures))
 
 pub write_struct-returns-in_err-end : goal.write_struct-returns-in_err-end
 write_struct-returns-in_err-end g t c = λ most room.
@@ -243,7 +244,7 @@ write_struct-returns-in_err-end g t c = λ most room.
     let long = there_length s (after p d) k there in
     let is = c.cut_of-cut.ensures.pointers ∙ widest_one (λ q. kept (words_there s q k)) (after p d) (d + k) in
     let words = c.cut_of-cut.ensures.words ∙ widest_one (λ q. needed_words d (section_at s q d)) p (d + k) in
-    no_room (tree_in s (tree_at n s) o) has_capability (λ t. with_link c.args.at (trim t)) (met_in (copy_visits n s) o) most c.args.used old l c.from_residual.result e (r.1 ∙ ap (λ (y : Error). Err y) r.2) c.in_err-end.ensures.0 (omega arith)
+    no_room (object_copy (reach n s) o (write_spot c.args.at c.args.used) most) (copy_state old l) c.from_residual.result e (r.1 ∙ ap (λ (y : Error). Err y) r.2) c.in_err-end.ensures.0 (omega arith)
     (no_room_for_struct c.args.at c.args.used (cut.kept_words + cut.kept_pointers) old c.requires.place.1 full cut.kept_words cut.kept_pointers (section_at s p d) (each (tree_at n s) (after p d) k) d refl words
     (λ ts e. kept_count n s ws (after p d) ts (λ i h. word_is s (after p d) k there i (omega arith)) (ap (each (tree_at n s) (after p d)) long ∙ e) ∙ sym is))
 
@@ -270,8 +271,8 @@ write_element-returns-in_err-end g t c =
     let r = err_from_is_err_and c.from_residual.result c.from_residual.ensures.1 in
     let e = c.in_err-end.field-0.0 in
     let section = section_at s start cut.data_words in
-    halts_is (each (tree_at n s) p cut.pointers) have_capability (λ ts. with_cells at (at + (cut.kept_words + a)) cut.kept_words a (element section (resized a (trim_each ts)) no_elements)) (from_each (copy_visits n s) p cut.pointers) c.args.used c.args.used c.args.into.now c.write_row.new.into c.args.limiter.now c.write_row.new.limiter c.from_residual.result r.0 e r.1 r.2
-    (subst (λ (j : ℕ). Unwritten (each (tree_at n s) p j) (λ ts. with_cells at (at + (cut.kept_words + a)) cut.kept_words a (element section (resized a (trim_each ts)) no_elements)) (from_each (copy_visits n s) p j) c.args.used c.args.used c.args.into.now c.args.limiter.now e c.write_row.new.into c.write_row.new.limiter) sum
+    halts_is (over_used (each (tree_at n s) p cut.pointers) have_capability (λ ts. with_cells at (at + (cut.kept_words + a)) cut.kept_words a (element section (resized a (trim_each ts)) no_elements)) (from_each (copy_visits n s) p cut.pointers) c.args.used) (copy_state c.args.into.now c.args.limiter.now) (copy_state c.write_row.new.into c.write_row.new.limiter) c.from_residual.result r.0 e r.1 r.2
+    (subst (λ (j : ℕ). Unwritten (over_used (each (tree_at n s) p j) have_capability (λ ts. with_cells at (at + (cut.kept_words + a)) cut.kept_words a (element section (resized a (trim_each ts)) no_elements)) (from_each (copy_visits n s) p j) c.args.used) (copy_state c.args.into.now c.args.limiter.now) e (copy_state c.write_row.new.into c.write_row.new.limiter)) sum
     (element_halts n s p a b at cut.kept_words c.args.used section c.args.into.now c.copy_words.new.into c.write_row.new.into c.args.limiter.now c.write_row.new.limiter e all small c.requires.place.0 c.requires.place.1 words c.copy_words.ensures.behind c.in_err-end.ensures))
 
 pub write_element-returns : goal.write_element-returns
@@ -300,7 +301,7 @@ write_element-returns g t c =
     let all = ap (λ (j : ℕ). is_some (words_at s p j)) sum ∙ pointers in
     let small = subst (λ (j : ℕ). kept (words_there s p j) ≤ a) (sym sum) c.requires.cut.3 in
     let words = c.copy_words.ensures.words ∙ same_words s start d cut.kept_words at (words_view old) (front_there s start (d + k) there d (omega arith)) c.requires.cut.1 in
-    subst (λ (j : ℕ). WritesCopy (each (tree_at n s) p j) have_capability (λ ts. with_cells at (at + (cut.kept_words + a)) cut.kept_words a (element section (resized a (trim_each ts)) no_elements)) (from_each (copy_visits n s) p j) used used old l (Ok end) new c.follow_nulls.new.limiter) sum
+    subst (λ (j : ℕ). WritesCopy (over_used (each (tree_at n s) p j) have_capability (λ ts. with_cells at (at + (cut.kept_words + a)) cut.kept_words a (element section (resized a (trim_each ts)) no_elements)) (from_each (copy_visits n s) p j) used) (copy_state old l) (Ok end) (copy_state new c.follow_nulls.new.limiter)) sum
     (element_gives n s p a b at cut.kept_words used section old mid new l c.write_row.new.limiter c.follow_nulls.new.limiter end all small c.requires.place.0 c.requires.place.1 words c.copy_words.ensures.behind c.follow_nulls.ensures.followed c.follow_nulls.ensures.granted c.in_ok-end.ensures)
 
 pub write_struct-returns : goal.write_struct-returns
@@ -337,8 +338,8 @@ write_struct-returns g t c = λ most room.
     let long = there_length s (after p d) k there in
     let is = c.cut_of-cut.ensures.pointers ∙ widest_one (λ q. kept (words_there s q k)) (after p d) (d + k) in
     let words = c.cut_of-cut.ensures.words ∙ widest_one (λ q. needed_words d (section_at s q d)) p (d + k) in
-    let x = subst (λ (j : ℕ). WritesCopy (each f (after p d) j) have_capability (λ ts. with_cells used (used + (a + b)) a b (element section (resized b (trim_each ts)) no_elements)) (from_each v (after p d) j) end end mid l r new m) sizes.1
-    (subst (λ (j : ℕ). WritesCopy (each f (after p j) cut.pointers) have_capability (λ ts. with_cells used (used + (a + b)) a b (element (section_at s p j) (resized b (trim_each ts)) no_elements)) (from_each v (after p j) cut.pointers) end end mid l r new m) sizes.0 c.write_element.ensures) in
+    let x = subst (λ (j : ℕ). WritesCopy (over_used (each f (after p d) j) have_capability (λ ts. with_cells used (used + (a + b)) a b (element section (resized b (trim_each ts)) no_elements)) (from_each v (after p d) j) end) (copy_state mid l) r (copy_state new m)) sizes.1
+    (subst (λ (j : ℕ). WritesCopy (over_used (each f (after p j) cut.pointers) have_capability (λ ts. with_cells used (used + (a + b)) a b (element (section_at s p j) (resized b (trim_each ts)) no_elements)) (from_each v (after p j) cut.pointers) end) (copy_state mid l) r (copy_state new m)) sizes.0 c.write_element.ensures) in
     struct_gives f (after p d) (from_each v (after p d) k) d k a b section at used end most c.pointer_to_cut-word.result old mid new l m r end_is (omega arith) c.requires.place.1 (omega arith) (omega arith) c.put.ensures.words c.put.ensures.behind words
     (λ ts e. kept_count n s ws (after p d) ts (λ i h. word_is s (after p d) k there i (omega arith)) (ap (each f (after p d)) long ∙ e) ∙ sym is)
     (λ ts e. c.pointer_to_cut-word.ensures section ts e) x
@@ -361,7 +362,7 @@ write_structs-returns-in_err-end g t c = λ most room.
     let full = c.in_err-end.ensures.1 in
     let fit = c.requires.fit in
     let own = no_wider c.args.count c.cut_of-cut.result.kept_words c.cut_of-cut.result.kept_pointers c.args.data_words c.args.pointers c.cut_of-cut.ensures.sizes.2 c.cut_of-cut.ensures.sizes.3 in
-    no_room (tree_in s (tree_at n s) o) has_capability (λ t. with_link c.args.at (trim t)) (met_in (copy_visits n s) o) most c.args.used old l c.from_residual.result e (r.1 ∙ ap (λ (y : Error). Err y) r.2) c.in_err-end.ensures.0 (omega arith)
+    no_room (object_copy (reach n s) o (write_spot c.args.at c.args.used) most) (copy_state old l) c.from_residual.result e (r.1 ∙ ap (λ (y : Error). Err y) r.2) c.in_err-end.ensures.0 (omega arith)
     (no_room_for_structs c.args.at c.args.used (1 + count * (cut.kept_words + cut.kept_pointers)) old c.requires.place.1 full count d k cut.kept_words cut.kept_pointers (each_element (tree_at n s) p ws d k count) refl
     (λ es is. (
       each_element_count (tree_at n s) p ws d k count es is,
@@ -399,7 +400,7 @@ write_structs-returns g t c = λ most room.
     let bound = c.in_ok-end.ensures.1 in
     let fit = c.requires.fit in
     let own = no_wider count a b d k sizes.2 sizes.3 in
-    let gives : ℕ → ℕ → Type 0 = λ i j. WritesCopy (each_element (tree_at n s) p ws i j count) elements_have_capability (λ es. with_cells (used + 1) (used + 1 + count * (a + b)) a b (with_pointers b (trim_elements es))) (from_elements (copy_visits n s) p i j count) end end mid l r new m in
+    let gives : ℕ → ℕ → Type 0 = λ i j. WritesCopy (over_used (each_element (tree_at n s) p ws i j count) elements_have_capability (λ es. with_cells (used + 1) (used + 1 + count * (a + b)) a b (with_pointers b (trim_elements es))) (from_elements (copy_visits n s) p i j count) end) (copy_state mid l) r (copy_state new m) in
     let x : gives d k = subst (λ (j : ℕ). gives d j) sizes.1 (subst (λ (j : ℕ). gives j cut.pointers) sizes.0 c.write_elements.ensures) in
     structs_gives n s p c.args.words count d k a b at used end most c.pointer_to_list-word.result c.pointer_to_struct-tag.result old first mid new l m r c.requires.inside.0 fit end_is (omega arith) (omega arith) c.requires.place.1 (omega arith) (omega arith)
     c.put.ensures.words c.put.ensures.behind c.put-2.ensures.words c.put-2.ensures.behind c.cut_of-cut.ensures.words c.cut_of-cut.ensures.pointers c.pointer_to_list-word.ensures c.pointer_to_struct-tag.ensures x
@@ -434,7 +435,7 @@ write_elements-returns-in_err-next g t c =
     let ws = words_there s p c.args.words in
     let r = err_from_is_err_and c.from_residual.result c.from_residual.ensures.1 in
     let e = c.in_err-next.field-0.0 in
-    halts_is (each_element (tree_at n s) p ws d k count) elements_have_capability (elements_put at (at + count * (a + b)) a b) (from_elements (copy_visits n s) p d k count) c.args.used c.args.used c.args.into.now c.write_element.new.into c.args.limiter.now c.write_element.new.limiter c.from_residual.result r.0 e r.1 r.2
+    halts_is (over_used (each_element (tree_at n s) p ws d k count) elements_have_capability (elements_put at (at + count * (a + b)) a b) (from_elements (copy_visits n s) p d k count) c.args.used) (copy_state c.args.into.now c.args.limiter.now) (copy_state c.write_element.new.into c.write_element.new.limiter) c.from_residual.result r.0 e r.1 r.2
     (elements_stopped n s p d k a b count at c.args.used c.args.into.now c.args.limiter.now c.args.words c.loop-i.i c.loop-i.end c.loop-i.into c.write_element.new.into c.loop-i.limiter c.write_element.new.limiter e c.loop-i-test.true c.requires.inside c.requires.fit c.requires.place.0 c.in_err-next.ensures c.loop-i.invariant)
 
 pub write_elements-loop-i-preserved : goal.write_elements-loop-i-preserved
@@ -487,7 +488,7 @@ write_object-returns-in-Null g t c =
     let s : Segments = words_in (g.A.ReaderArena.segments c.args.arena.now) in
     let l = c.args.limiter.now in
     elim c.in-Null.is [
-      | inl e ↦ subst (λ (o : Object). WritesObject s c.args.levels o c.args.at c.args.used c.args.into.now l (Ok c.args.used) c.put.new.into l) (sym e)
+      | inl e ↦ subst (λ (o : Object). WritesObject (reach c.args.levels s) o (write_spot c.args.at c.args.used) (copy_state c.args.into.now l) (Ok c.args.used) (copy_state c.put.new.into l)) (sym e)
           (λ most room. null_put c.args.at most c.args.used c.args.into.now c.put.new.into l c.requires.place (omega arith) c.put.ensures.words c.put.ensures.behind)
       | inr e ↦ absurd (subst IsNoCapability e.1 c.requires.data)
     ]

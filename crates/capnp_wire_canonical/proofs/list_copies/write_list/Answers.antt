@@ -18,6 +18,7 @@ use Rattle.capnp_wire_objects.specs.Places.{place_view}
 use Rattle.capnp_wire_objects.specs.Inside.{section_at, tree_in}
 use Rattle.capnp_wire_objects.proofs.lemmas.Walks.{walked_none}
 use Rattle.capnp_wire_objects.proofs.lemmas.Measuring.{data_bits_plain}
+use Rattle.capnp_wire_canonical.specs.Copies.{copy_state}
 use Rattle.capnp_wire_canonical.specs.Writes.{words_view, filled, with_section_at, with_link}
 use Rattle.capnp_wire_canonical.proofs.Copying.{behind_both, no_room}
 use Rattle.capnp_wire_canonical.proofs.Rooms.{no_room_for_list}
@@ -41,7 +42,7 @@ returns-in_err-end g c = λ levels l most room.
     let words : c.args.list.words ≡ words_for (data_bits z * n) = (c.requires.measured.1 ∙ ap words_for c.requires.measured.0) in
     let same : words_for (data_bits z * n) ≡ words_for (size_bits z * n) = ap (λ (j : ℕ). words_for (j * n)) (sym (data_bits_plain z c.requires.inside.0)) in
     let full = c.in_err-end.ensures.1 in
-    no_room (tree_in s (tree_at levels s) o) has_capability (λ t. with_link c.args.at (trim t)) [] most c.args.used old l c.from_residual.result e (r.1 ∙ ap (λ (y : Error). Err y) r.2) c.in_err-end.ensures.0 (omega arith)
+    no_room (record { there = tree_in s (tree_at levels s) o; bad = has_capability; put = λ t. with_link c.args.at (trim t); path = []; used = c.args.used; most = most }) (copy_state old l) c.from_residual.result e (r.1 ∙ ap (λ (y : Error). Err y) r.2) c.in_err-end.ensures.0 (omega arith)
     (no_room_for_list c.args.at c.args.used c.args.list.words old c.requires.place.1 full z n (section % 2 ^ bits) (omega arith))
 
 pub returns : goal.returns

@@ -3,17 +3,14 @@ use Rattle.std.proofs.Common.{◌≡◌, ℕ, ◌+◌, ◌-◌, ◌*◌, ◌%◌
 use Rattle.capnp_model.specs.Sections.{words_for}
 use Rattle.capnp_model.specs.Segments.{Segments, Place}
 use Rattle.capnp_model.specs.Spelling.{AreWords}
-use Rattle.capnp_model.specs.Trees.{has_capability}
-use Rattle.capnp_model.specs.Traversal.{tree_at}
-use Rattle.capnp_model.specs.Trimming.{trim}
-use Rattle.capnp_model.specs.Visits.{visits}
 use Rattle.capnp_units.specs.Segments.{words_in}
 use Rattle.capnp_units.specs.Sizes.{size_number, data_bits}
 use Rattle.capnp_wire_objects.specs.Places.{place_view}
 use Rattle.capnp_wire_objects.specs.Near.{list_object}
-use Rattle.capnp_wire_objects.specs.Inside.{section_at, tree_in, met_in}
-use Rattle.capnp_wire_canonical.specs.Standing.{Stands, segment_words, IsSmall, EndsClear}
-use Rattle.capnp_wire_canonical.specs.Checks.{TestsObject}
+use Rattle.capnp_wire_objects.specs.Inside.{section_at}
+use Rattle.capnp_wire_canonical.specs.Reaches.{reach}
+use Rattle.capnp_wire_canonical.specs.Standing.{segment_words, EndsClear}
+use Rattle.capnp_wire_canonical.specs.Checks.{object_test, Tests}
 use Rattle.capnp_wire_canonical.proofs.lemmas.Checking.{differs_at}
 use Rattle.capnp_wire_canonical.proofs.NearPlaces.{list_near}
 use Rattle.capnp_wire_canonical.proofs.StandingLists.{list_yes, list_words, list_word}
@@ -33,7 +30,7 @@ returns-then-list-head g c = λ levels l.
     let bits = data_bits z * n in
     let o = list_object c.args.list in
     let behind = c.requires.head.behind in
-    differs_at (λ more. tree_in s (tree_at (more + levels) s) o) has_capability (λ u. Stands s p head (trim u)) (IsSmall s p) (met_in (visits levels s) o) l
+    differs_at (object_test (reach levels s) p head o) l
     (λ small more u end e clean stand.
     let near = within_reach s p 1 head small c.requires.head in
     let word = list_word s p head z n (section_at s q (words_for bits) % 2 ^ bits) end u e stand in
@@ -51,7 +48,7 @@ returns-then-not-ends_clear g c = λ levels l.
     let o = list_object c.args.list in
     let w = lead_word s p o (0, c.requires.near.0) in
     let here = list_near s p head c.requires.head.whole start c.args.list.size n w.0 w.1 c.requires.near.0 c.if-list-head.false c.requires.head.behind in
-    differs_at (λ more. tree_in s (tree_at (more + levels) s) o) has_capability (λ u. Stands s p head (trim u)) (IsSmall s p) (met_in (visits levels s) o) l
+    differs_at (object_test (reach levels s) p head o) l
     (λ small more u end e clean stand.
     let cut = list_words levels s p head start c.args.list.size n c.requires.near.1.0 c.requires.near.1.1 c.requires.head.whole here.1 end u e stand in
     c.if-not-ends_clear.ensures.spare (subst (EndsClear s q) (sym c.requires.measured.0) cut))
@@ -70,7 +67,7 @@ returns g c = λ levels l.
     let bits = data_bits (size_number c.args.list.size) * n in
     let words : words_for bits ≡ c.args.list.words = sym (c.requires.measured.1 ∙ ap words_for c.requires.measured.0) in
     let at : q.position + words_for bits ≡ head + c.args.list.words = ap (λ (j : ℕ). j + words_for bits) c.if-list-head.false ∙ ap (λ (j : ℕ). head + j) words in
-    subst (λ (j : ℕ). TestsObject levels s p head o l (Ok (Some j)) l) at
+    subst (λ (j : ℕ). Tests (object_test (reach levels s) p head o) l (Ok (Some j)) l) at
     (list_yes levels s p head start c.args.list.size n c.requires.near.1.0 c.requires.near.1.1 c.requires.head.whole here.1 l here.0 (subst (EndsClear s q) c.requires.measured.0 c.if-not-ends_clear.ensures.clear))
 
 pub ends_clear-requires-clause-whole : goal.ends_clear-requires-clause-whole

@@ -3,13 +3,10 @@ use Rattle.std.proofs.Common.{◌≡◌, ℕ, ◌+◌, ◌-◌, ◌*◌, true, S
 use Rattle.std.specs.Option.{is_some}
 use Rattle.std.proofs.lemmas.Result.{err_from_is_err_and}
 use Rattle.capnp_model.specs.Segments.{Segments, Place, place, after, words_at}
-use Rattle.capnp_model.specs.Trees.{has_capability, have_capability, elements_have_capability}
-use Rattle.capnp_model.specs.Traversal.{tree_at, each, each_element}
-use Rattle.capnp_model.specs.Trimming.{trim, trim_each, trim_elements}
-use Rattle.capnp_model.specs.Coverage.{from_each, from_elements}
+use Rattle.capnp_model.specs.Traversal.{tree_at}
+use Rattle.capnp_model.specs.Trimming.{trim}
 use Rattle.capnp_model.specs.Encoding.{struct_pointer, list_pointer}
 use Rattle.capnp_model.specs.Spelling.{AreWords}
-use Rattle.capnp_model.specs.Visits.{visits}
 use Rattle.capnp_model.proofs.lemmas.Chaining.{some_is}
 use Rattle.capnp_units.specs.Segments.{words_in}
 use Rattle.capnp_wire_objects.specs.declared.object.Object.{Object}
@@ -19,10 +16,10 @@ use Rattle.capnp_wire_objects.specs.Places.{place_view}
 use Rattle.capnp_wire_objects.specs.Near.{list_object, struct_object, IsMeasured, IsNear}
 use Rattle.capnp_wire_objects.specs.Follow.{FollowsWithin}
 use Rattle.capnp_wire_objects.specs.Objects.{AreThere}
-use Rattle.capnp_wire_objects.specs.Inside.{words_there, tree_in, met_in}
 use Rattle.capnp_wire_objects.proofs.lemmas.Measuring.{unfollowed_at}
-use Rattle.capnp_wire_canonical.specs.Standing.{Stands, StandEach, StandElements, segment_words, IsSmall, HasHead, LeadsToObject}
-use Rattle.capnp_wire_canonical.specs.Checks.{TestsObject, TestsElements}
+use Rattle.capnp_wire_canonical.specs.Reaches.{reach}
+use Rattle.capnp_wire_canonical.specs.Standing.{segment_words, HasHead, LeadsToObject}
+use Rattle.capnp_wire_canonical.specs.Checks.{value_test, object_test, row_test, elements_test, Tests}
 use Rattle.capnp_wire_canonical.specs.Objects.{IsShort}
 use Rattle.capnp_wire_canonical.proofs.lemmas.Checking.{refused_is, differs_at}
 use Rattle.capnp_wire_canonical.proofs.NearPlaces.{far_differs, near_leads}
@@ -52,7 +49,7 @@ row_end-returns-in_err-next g t c =
     let given = c.loop-i.invariant.there in
     let r = err_from_is_err_and c.from_residual.result c.from_residual.ensures.1 in
     let e = c.in_err-next.field-0.0 in
-    refused_is (each (tree_at n s) p count) (λ more. each (tree_at (more + n) s) p count) have_capability (λ ts. StandEach s p head (trim_each ts)) (IsSmall s p) (from_each (visits n s) p count) l c.value_end.new.limiter c.from_residual.result r.0 e r.1 r.2
+    refused_is (row_test (reach n s) p count head) l c.value_end.new.limiter c.from_residual.result r.0 e r.1 r.2
     (row_stopped n s p count head l c.loop-i.i c.loop-i.end c.loop-i-test.true given.behind c.loop-i.limiter c.value_end.new.limiter e c.in_err-next.ensures c.loop-i.invariant)
 
 pub row_end-returns-in-None : goal.row_end-returns-in-None
@@ -86,7 +83,7 @@ elements_end-returns-then-size-eq0 g t c =
     let d = c.args.size.data_words in
     let l = c.args.limiter.now in
     let none = c.if-size-eq0.true in
-    subst (λ (j : ℕ). TestsElements n s p count d j c.args.head l (Ok (Some c.args.head)) l) (sym none)
+    subst (λ (j : ℕ). Tests (elements_test (reach n s) p count d j c.args.head) l (Ok (Some c.args.head)) l) (sym none)
     (plain_elements n s p count d c.args.head l (subst (λ (j : ℕ). AreThere s p (count * (d + j))) none c.requires.inside) (subst (λ (j : ℕ). HasHead s p (count * (d + j)) c.args.head) none c.requires.head))
 
 pub elements_end-returns-in_err-next : goal.elements_end-returns-in_err-next
@@ -101,7 +98,7 @@ elements_end-returns-in_err-next g t c =
     let l = c.args.limiter.now in
     let r = err_from_is_err_and c.from_residual.result c.from_residual.ensures.1 in
     let e = c.in_err-next.field-0.0 in
-    refused_is (each_element (tree_at n s) p (words_there s p (count * (d + k))) d k count) (λ more. each_element (tree_at (more + n) s) p (words_there s p (count * (d + k))) d k count) elements_have_capability (λ es. StandElements s p d k head (trim_elements es)) (IsSmall s p) (from_elements (visits n s) p d k count) l c.row_end.new.limiter c.from_residual.result r.0 e r.1 r.2
+    refused_is (elements_test (reach n s) p count d k head) l c.row_end.new.limiter c.from_residual.result r.0 e r.1 r.2
     (elements_stopped n s p count d k head l c.loop-i.i c.loop-i.end c.loop-i-test.true c.requires.inside c.loop-i.invariant.there c.loop-i.limiter c.row_end.new.limiter e c.in_err-next.ensures c.loop-i.invariant)
 
 pub elements_end-returns-in-None : goal.elements_end-returns-in-None
@@ -132,7 +129,7 @@ value_end-returns-in_err-list g t c =
     let k = c.follow_near_list.new.limiter in
     let e = c.in_err-list.field-0.0 in
     let r = err_from_is_err_and c.from_residual.result c.from_residual.ensures.1 in
-    refused_is (tree_at n s p) (λ more. tree_at (more + n) s p) has_capability (λ u. Stands s p c.args.head (trim u)) (IsSmall s p) (visits n s p) l k c.from_residual.result r.0 e r.1 r.2
+    refused_is (value_test (reach n s) p c.args.head) l k c.from_residual.result r.0 e r.1 r.2
     (unfollowed_at n s p l k (Err e) e e refl refl c.in_err-list.ensures.walked)
 
 pub value_end-returns-in-Some : goal.value_end-returns-in-Some
@@ -155,7 +152,7 @@ value_end-returns-in_err-near g t c =
     let r = err_from_is_err_and c.from_residual-in_err-near.result c.from_residual-in_err-near.ensures.1 in
     let same = untold list_object (FollowsWithin n s p) l c.follow_near_list.new.limiter c.in_ok-list.field-0 c.in_default.not-Some c.in_ok-list.ensures.walked in
     let stop : FollowsWithin n s p l (Err e) k = subst (λ (x : ReadLimiter). FollowsWithin n s p x (Err e) k) same c.in_err-near.ensures.walked in
-    refused_is (tree_at n s p) (λ more. tree_at (more + n) s p) has_capability (λ u. Stands s p c.args.head (trim u)) (IsSmall s p) (visits n s p) l k c.from_residual-in_err-near.result r.0 e r.1 r.2
+    refused_is (value_test (reach n s) p c.args.head) l k c.from_residual-in_err-near.result r.0 e r.1 r.2
     (unfollowed_at n s p l k (Err e) e e refl refl stop)
 
 pub value_end-returns-in-Some-2 : goal.value_end-returns-in-Some-2
@@ -199,7 +196,7 @@ any_end-returns-in_err-object g t c =
     let l = c.args.limiter.now in
     let e = c.in_err-object.field-0.0 in
     let r = err_from_is_err_and c.from_residual.result c.from_residual.ensures.1 in
-    refused_is (tree_at n s p) (λ more. tree_at (more + n) s p) has_capability (λ u. Stands s p c.args.head (trim u)) (IsSmall s p) (visits n s p) l c.follow_within.new.limiter c.from_residual.result r.0 e r.1 r.2
+    refused_is (value_test (reach n s) p c.args.head) l c.follow_within.new.limiter c.from_residual.result r.0 e r.1 r.2
     (unfollowed_at n s p l c.follow_within.new.limiter (Err e) e e refl refl c.in_err-object.ensures)
 
 pub any_end-returns-in-Null : goal.any_end-returns-in-Null
@@ -232,7 +229,7 @@ object_end-returns-then-head-place-gt-REACH g t c =
     let n = c.args.levels in
     let o = c.args.object in
     let far = c.if-head-place-gt-REACH.true in
-    differs_at (λ more. tree_in s (tree_at (more + n) s) o) has_capability (λ u. Stands s p c.args.head (trim u)) (IsSmall s p) (met_in (visits n s) o) c.args.limiter.now
+    differs_at (object_test (reach n s) p c.args.head o) c.args.limiter.now
     (λ small more u end is clean stand. let near = within_reach s p 1 c.args.head small c.requires.head in omega arith)
 
 pub object_end-returns-then-word_or_zero-eq-FAR : goal.object_end-returns-then-word_or_zero-eq-FAR
@@ -241,7 +238,7 @@ object_end-returns-then-word_or_zero-eq-FAR g t c =
     let p : Place = place_view c.args.place in
     let n = c.args.levels in
     let o = c.args.object in
-    differs_at (λ more. tree_in s (tree_at (more + n) s) o) has_capability (λ u. Stands s p c.args.head (trim u)) (IsSmall s p) (met_in (visits n s) o) c.args.limiter.now
+    differs_at (object_test (reach n s) p c.args.head o) c.args.limiter.now
     (λ small more u end is clean stand. far_differs s p c.args.head c.word_or_zero.result end (trim u) c.word_or_zero.ensures.word c.if-word_or_zero-eq-FAR.true stand)
 
 pub object_end-struct_end-requires : goal.object_end-struct_end-requires
@@ -264,7 +261,7 @@ object_end-returns-in-Null g t c =
     let s : Segments = words_in (g.A.ReaderArena.segments c.args.arena.now) in
     let p : Place = place_view c.args.place in
     let l = c.args.limiter.now in
-    subst (λ (o : Object). TestsObject c.args.levels s p c.args.head o l (Ok (Some c.args.head)) l) (sym c.in-Null.is)
+    subst (λ (o : Object). Tests (object_test (reach c.args.levels s) p c.args.head o) l (Ok (Some c.args.head)) l) (sym c.in-Null.is)
     (null_tests s p c.args.head l (subst (LeadsToObject s p) c.in-Null.is c.requires.leads) c.requires.head)
 
 pub object_end-returns-in-Capability : goal.object_end-returns-in-Capability
@@ -272,14 +269,14 @@ object_end-returns-in-Capability g t c =
     let s : Segments = words_in (g.A.ReaderArena.segments c.args.arena.now) in
     let p : Place = place_view c.args.place in
     let l = c.args.limiter.now in
-    subst (λ (o : Object). TestsObject c.args.levels s p c.args.head o l (Ok None) l) (sym c.in-Capability.is) (capability_tests s p c.args.head c.in-Capability.index l)
+    subst (λ (o : Object). Tests (object_test (reach c.args.levels s) p c.args.head o) l (Ok None) l) (sym c.in-Capability.is) (capability_tests s p c.args.head c.in-Capability.index l)
 
 pub object_end-returns-in-List : goal.object_end-returns-in-List
 object_end-returns-in-List g t c =
     let s : Segments = words_in (g.A.ReaderArena.segments c.args.arena.now) in
     let p : Place = place_view c.args.place in
     let l = c.args.limiter.now in
-    subst (λ (o : Object). TestsObject c.args.levels s p c.args.head o l (Ok c.list_end.result) l) (sym (c.in-List.is ∙ sym c.new-list.ensures.object)) (c.list_end.ensures c.args.levels l)
+    subst (λ (o : Object). Tests (object_test (reach c.args.levels s) p c.args.head o) l (Ok c.list_end.result) l) (sym (c.in-List.is ∙ sym c.new-list.ensures.object)) (c.list_end.ensures c.args.levels l)
 
 pub struct_end-returns-then-near-struct_start : goal.struct_end-returns-then-near-struct_start
 struct_end-returns-then-near-struct_start g t c =
@@ -289,7 +286,7 @@ struct_end-returns-then-near-struct_start g t c =
     let o = struct_object c.args.near in
     let head = c.args.head in
     let begins = c.struct_start.ensures in
-    differs_at (λ more. tree_in s (tree_at (more + n) s) o) has_capability (λ u. Stands s p head (trim u)) (IsSmall s p) (met_in (visits n s) o) c.args.limiter.now
+    differs_at (object_test (reach n s) p head o) c.args.limiter.now
     (λ small more u end e clean stand.
     let x = struct_stands (more + n) s p head c.args.near.start c.args.near.size.data_words c.args.near.size.pointers c.requires.near.1.0 c.requires.head.whole c.requires.near.0 c.requires.head.behind end u (within_reach s p 1 head small c.requires.head) e stand in
     elim x.1 [
@@ -304,7 +301,7 @@ struct_end-returns-then-not-is_least g t c =
     let n = c.args.levels in
     let o = struct_object c.args.near in
     let head = c.args.head in
-    differs_at (λ more. tree_in s (tree_at (more + n) s) o) has_capability (λ u. Stands s p head (trim u)) (IsSmall s p) (met_in (visits n s) o) c.args.limiter.now
+    differs_at (object_test (reach n s) p head o) c.args.limiter.now
     (λ small more u end e clean stand.
     let x = struct_stands (more + n) s p head c.args.near.start c.args.near.size.data_words c.args.near.size.pointers c.requires.near.1.0 c.requires.head.whole c.requires.near.0 c.requires.head.behind end u (within_reach s p 1 head small c.requires.head) e stand in
     c.if-not-is_least.ensures.less x.0)
@@ -343,7 +340,7 @@ pointers_end-returns-then-count-ge-REACH g t c =
     let q : Place = place_view c.args.start in
     let n = c.args.levels in
     let o = object.PointerList c.args.start c.args.count in
-    differs_at (λ more. tree_in s (tree_at (more + n) s) o) has_capability (λ u. Stands s p c.args.head (trim u)) (IsSmall s p) (met_in (visits n s) o) c.args.limiter.now
+    differs_at (object_test (reach n s) p c.args.head o) c.args.limiter.now
     (λ small more u end e clean stand. wide_pointer s p (c.args.head - p.position - 1) 6 c.args.count c.requires.link.given.whole c.if-count-ge-REACH.true (pointers_word s p q c.args.head c.args.count end (tree_at (more + n) s) u e stand))
 
 pub pointers_end-returns-then-word_or_zero-pointer_to_list : goal.pointers_end-returns-then-word_or_zero-pointer_to_list
@@ -353,7 +350,7 @@ pointers_end-returns-then-word_or_zero-pointer_to_list g t c =
     let q : Place = place_view c.args.start in
     let n = c.args.levels in
     let o = object.PointerList c.args.start c.args.count in
-    differs_at (λ more. tree_in s (tree_at (more + n) s) o) has_capability (λ u. Stands s p c.args.head (trim u)) (IsSmall s p) (met_in (visits n s) o) c.args.limiter.now
+    differs_at (object_test (reach n s) p c.args.head o) c.args.limiter.now
     (λ small more u end e clean stand. word_differs s p c.word_or_zero.result c.pointer_to_list.result c.word_or_zero.ensures.word c.if-word_or_zero-pointer_to_list.true (pointers_word s p q c.args.head c.args.count end (tree_at (more + n) s) u e stand ∙ ap (λ (j : ℕ). Some j) (sym c.pointer_to_list.ensures)))
 
 pub pointers_end-row_end-requires : goal.pointers_end-row_end-requires
@@ -364,7 +361,7 @@ pointers_end-row_end-requires g t c =
     let o = object.PointerList c.args.start c.args.count in
     let head = c.args.head in
     let behind = c.requires.link.given.behind in
-    let reach = c.requires.link.near in
+    let near_enough = c.requires.link.near in
     let bound = c.requires.inside.1 in
     let w = lead_word s p o c.requires.link.leads in
     let word = word_matches s p c.word_or_zero.result c.pointer_to_list.result w.0 w.1 c.word_or_zero.ensures.word c.if-word_or_zero-pointer_to_list.false ∙ ap (λ (j : ℕ). Some j) c.pointer_to_list.ensures in
@@ -380,7 +377,7 @@ pointers_end-returns g t c =
     let o = object.PointerList c.args.start c.args.count in
     let head = c.args.head in
     let behind = c.requires.link.given.behind in
-    let reach = c.requires.link.near in
+    let near_enough = c.requires.link.near in
     let w = lead_word s p o c.requires.link.leads in
     let word = word_matches s p c.word_or_zero.result c.pointer_to_list.result w.0 w.1 c.word_or_zero.ensures.word c.if-word_or_zero-pointer_to_list.false ∙ ap (λ (j : ℕ). Some j) c.pointer_to_list.ensures in
     let here = pointers_where s p head (head - p.position - 1) (omega arith) (omega arith) c.args.start c.args.count c.if-count-ge-REACH.false c.requires.link.leads word in
@@ -398,7 +395,7 @@ structs_end-returns-then-own-ge-REACH g t c =
     let head = c.args.head in
     let cut = c.cut_of-cut.result in
     let o = object.StructList c.args.start c.args.words count d k in
-    differs_at (λ more. tree_in s (tree_at (more + n) s) o) has_capability (λ u. Stands s p head (trim u)) (IsSmall s p) (met_in (visits n s) o) c.args.limiter.now
+    differs_at (object_test (reach n s) p head o) c.args.limiter.now
     (λ small more u end e clean stand. wide_pointer s p (head - p.position - 1) 7 (count * (cut.kept_words + cut.kept_pointers)) c.requires.link.given.whole c.if-own-ge-REACH.true
     (structs_read (more + n) s p q head c.args.words count d k cut.kept_words cut.kept_pointers end u c.requires.inside.0 c.requires.fit c.cut_of-cut.ensures.words c.cut_of-cut.ensures.pointers e stand).0)
 
@@ -414,7 +411,7 @@ structs_end-returns-then-word_or_zero-pointer_to_list g t c =
     let head = c.args.head in
     let cut = c.cut_of-cut.result in
     let o = object.StructList c.args.start c.args.words count d k in
-    differs_at (λ more. tree_in s (tree_at (more + n) s) o) has_capability (λ u. Stands s p head (trim u)) (IsSmall s p) (met_in (visits n s) o) c.args.limiter.now
+    differs_at (object_test (reach n s) p head o) c.args.limiter.now
     (λ small more u end e clean stand. word_differs s p c.word_or_zero.result c.pointer_to_list.result c.word_or_zero.ensures.word c.if-word_or_zero-pointer_to_list.true
     ((structs_read (more + n) s p q head c.args.words count d k cut.kept_words cut.kept_pointers end u c.requires.inside.0 c.requires.fit c.cut_of-cut.ensures.words c.cut_of-cut.ensures.pointers e stand).0
     ∙ ap (λ (j : ℕ). Some j) (sym c.pointer_to_list.ensures)))
@@ -431,7 +428,7 @@ structs_end-returns-then-word_or_zero-tag g t c =
     let head = c.args.head in
     let cut = c.cut_of-cut.result in
     let o = object.StructList c.args.start c.args.words count d k in
-    differs_at (λ more. tree_in s (tree_at (more + n) s) o) has_capability (λ u. Stands s p head (trim u)) (IsSmall s p) (met_in (visits n s) o) c.args.limiter.now
+    differs_at (object_test (reach n s) p head o) c.args.limiter.now
     (λ small more u end e clean stand. word_differs s (place p.segment head) c.word_or_zero-2.result c.pointer_to_struct-tag.result c.word_or_zero-2.ensures.word c.if-word_or_zero-tag.true
     ((structs_read (more + n) s p q head c.args.words count d k cut.kept_words cut.kept_pointers end u c.requires.inside.0 c.requires.fit c.cut_of-cut.ensures.words c.cut_of-cut.ensures.pointers e stand).1
     ∙ ap (λ (j : ℕ). Some j) (sym c.pointer_to_struct-tag.ensures)))
@@ -448,7 +445,7 @@ structs_end-elements_end-requires g t c =
     let cut = c.cut_of-cut.result in
     let o = object.StructList c.args.start c.args.words count d k in
     let behind = c.requires.link.given.behind in
-    let reach = c.requires.link.near in
+    let near_enough = c.requires.link.near in
     let bound = c.requires.inside.1 in
     let fit = c.requires.fit in
     let w = lead_word s p o c.requires.link.leads in
@@ -474,7 +471,7 @@ structs_end-returns g t c =
     let m = c.elements_end.new.limiter in
     let o = object.StructList c.args.start c.args.words count d k in
     let behind = c.requires.link.given.behind in
-    let reach = c.requires.link.near in
+    let near_enough = c.requires.link.near in
     let w = lead_word s p o c.requires.link.leads in
     let word = word_matches s p c.word_or_zero.result c.pointer_to_list.result w.0 w.1 c.word_or_zero.ensures.word c.if-word_or_zero-pointer_to_list.false ∙ ap (λ (j : ℕ). Some j) c.pointer_to_list.ensures in
     let here = structs_where s p head (head - p.position - 1) (omega arith) (omega arith) c.args.start c.args.words count d k a b (count * (a + b)) c.if-own-ge-REACH.false c.requires.few c.cut_of-cut.ensures.narrow.0 c.cut_of-cut.ensures.narrow.1 c.requires.link.leads word in
@@ -487,4 +484,4 @@ structs_end-returns g t c =
     (λ m. least_of m s q (count * (d + k)) count d k d k there (omega arith) (sizes.0 ∙ c.cut_of-cut.ensures.words) (sizes.1 ∙ c.cut_of-cut.ensures.pointers))
     (word ∙ ap (λ (j : ℕ). Some (list_pointer (head - p.position - 1) 7 j)) rows)
     (tag ∙ ap (λ (j : ℕ). Some (struct_pointer count j b)) (sym sizes.0) ∙ ap (λ (j : ℕ). Some (struct_pointer count d j)) (sym sizes.1))
-    l m c.elements_end.result (subst (λ (j : ℕ). TestsElements n s q count d k (q.position + j) l c.elements_end.result m) own c.elements_end.ensures)
+    l m c.elements_end.result (subst (λ (j : ℕ). Tests (elements_test (reach n s) q count d k (q.position + j)) l c.elements_end.result m) own c.elements_end.ensures)

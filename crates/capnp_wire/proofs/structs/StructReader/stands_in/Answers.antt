@@ -2,7 +2,8 @@
 use Rattle.std.proofs.Common.{◌/◌, length, subst, arith}
 use Rattle.capnp_model.specs.Segments.{Segments, Place}
 use Rattle.capnp_wire_objects.specs.Places.{place_view}
-use Rattle.capnp_wire_canonical.specs.Checks.{TellsStruct}
+use Rattle.capnp_wire_canonical.specs.Reaches.{reach}
+use Rattle.capnp_wire_canonical.specs.Checks.{head_state, TellsStruct}
 use Rattle.capnp_wire.specs.Views.{seen_struct}
 use Rattle.capnp_wire.proofs.Telling.{lies_told, elsewhere_told}
 use Rattle.capnp_wire.proofs.structs.StructReader.stands_in.Goals as goal
@@ -24,4 +25,4 @@ returns g c =
     let k = c.args.self.now.pointers in
     let lies = c.if-not-lies_at.ensures.lies in
     let whole = lies.0.whole in
-    lies_told c.args.levels v p h d r h' l m lies.0 (omega arith) (subst (λ (s : Segments). TellsStruct c.args.levels s p d k h l r h' m) c.requires.same c.is_canonical_struct.ensures)
+    lies_told c.args.levels v p h d r h' l m lies.0 (omega arith) (subst (λ (s : Segments). TellsStruct (reach c.args.levels s) p (record { data_words = d; pointers = k }) (head_state h l) r (head_state h' m)) c.requires.same c.is_canonical_struct.ensures)
