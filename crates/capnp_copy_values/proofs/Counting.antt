@@ -36,7 +36,7 @@ unplaced_few n s p u old new e x =
     let last : Visit = Ok (follow_cost x.found) in
     walked_few n s p (x.before ++ last ∷ []) x.rest old new (x.path_is ∙ sym (append_assoc x.before (last ∷ []) x.rest)) x.walked
 
-pub copy_few : (n : ℕ) (from : Segments) (q : Place) (s u : Segments) (p : Place) (old new : ReadLimiter) (r : Result ⊤ Error) → CopiesValue (copy_source n from) q p (limited_words s old) r (limited_words u new) → FollowsFew old new
+pub copy_few : (n : ℕ) (from : Segments) (q : Place) (s u : Segments) (p : Place) (old new : ReadLimiter) (r : Result ⊤ Error) → CopiesValue (copy_source n from q) p (limited_words s old) r (limited_words u new) → FollowsFew old new
 copy_few n from q s u p old new (Ok x) g = walked_few n from q (visits n from q) [] old new (sym (append-nil (visits n from q))) g.walked
 copy_few n from q s u p old new (Err e) g = by g.why
   where

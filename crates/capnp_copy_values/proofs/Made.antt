@@ -104,7 +104,7 @@ zero_row n s r k z =
     held_owned n s r (0 + k) (a_struct r 0 k) (structure 0 0 (resized k none)) (zero_struct n s r 0 k z') (λ q. zero_struct_takes n s r 0 k q z')
 
 pub pointers_fill : (levels : ℕ) (b : Segments) (p : Place) (from : Segments) (there : Option Trees) (path : List Visit) (s u : Segments) (r : Place) (k : ℕ) (old new : ReadLimiter) (x : Result ⊤ Error) → words_at s r k ≡ Some (replicate k 0)
-    → CopyGives (copy_of from there path) (FillsRow levels s u (sized_at r 0 k)) (LeavesRow (copy_source levels b) p s u (sized_at r 0 k)) (limited_words s old) x (limited_words u new)
+    → CopyGives (copy_of from there path) (FillsRow levels s u (sized_at r 0 k)) (LeavesRow (copy_source levels b p) s u (sized_at r 0 k)) (limited_words s old) x (limited_words u new)
     → CopyGives (copy_of from (there >>= λ ts. Some (pointer_list ts)) path) (λ v. (n : ℕ) → levels ≤ n → Fills n s u (span r k) (a_list r 6 k) v) ((t : Tree) × Fills levels s u (span r k) (a_list r 6 k) t) (limited_words s old) x (limited_words u new)
 pointers_fill levels b p from there path s u r k old new (Ok x) z g =
     record {
@@ -221,7 +221,7 @@ data_copied n from p s m r d k own kids there here now o =
 -- whatever was written of the data: the row is filled then
 pub section_copied : (levels : ℕ) (b : Segments) (q : Place) (from : Segments) (there : Option Trees) (path : List Visit) (section : ℕ) (s m u : Segments) (r : Place) (d k : ℕ) (old new : ReadLimiter) (x : Result ⊤ Error) → Grows s m → total_words m ≡ total_words s
     → ((n own : ℕ) (kids : Trees) → OwnsObject n s (a_struct r d k) (structure d own kids) → ReplacesObject n s m (a_struct r d k) (structure d section kids))
-    → CopyGives (copy_of from there path) (FillsRow levels m u (sized_at r d k)) (LeavesRow (copy_source levels b) q m u (sized_at r d k)) (limited_words m old) x (limited_words u new)
+    → CopyGives (copy_of from there path) (FillsRow levels m u (sized_at r d k)) (LeavesRow (copy_source levels b q) m u (sized_at r d k)) (limited_words m old) x (limited_words u new)
     → CopyGives (copy_of from there path) (FillsStruct levels s u (sized_at r d k) section) (LeavesStruct levels s u (sized_at r d k)) (limited_words s old) x (limited_words u new)
 section_copied levels b q from there path section s m u r d k old new (Ok x) grows same write g =
     record {
@@ -249,7 +249,7 @@ section_copied levels b q from there path section s m u r d k old new (Err x) gr
     }
 
 pub struct_copied : (levels : ℕ) (b : Segments) (q : Place) (from : Segments) (there : Option Trees) (path : List Visit) (p : Place) (s m u : Segments) (r : Place) (d k : ℕ) (old new : ReadLimiter) (x : Result ⊤ Error) → is_some (words_at from p d) ≡ true → is_some (words_at s r (d + k)) ≡ true → m ≡ with_words s r (words_there from p d)
-    → CopyGives (copy_of from there path) (FillsRow levels m u (sized_at r d k)) (LeavesRow (copy_source levels b) q m u (sized_at r d k)) (limited_words m old) x (limited_words u new)
+    → CopyGives (copy_of from there path) (FillsRow levels m u (sized_at r d k)) (LeavesRow (copy_source levels b q) m u (sized_at r d k)) (limited_words m old) x (limited_words u new)
     → CopyGives (copy_of from there path) (FillsStruct levels s u (sized_at r d k) (section_at from p d)) (LeavesStruct levels s u (sized_at r d k)) (limited_words s old) x (limited_words u new)
 struct_copied levels b q from there path p s m u r d k old new x e f now g =
     section_copied levels b q from there path (section_at from p d) s m u r d k old new x (subst (λ (v : Segments). Grows s v) (sym now) (splice_grows s r (words_there from p d))) (ap total_words now ∙ written_total s r (words_there from p d))

@@ -168,7 +168,7 @@ module _ (levels : ℕ) (from : Segments) (p : Place) (k : ℕ) (s : Segments) (
         more t ts = joined_next so.first t ts
 
     -- a child that is refused leaves the row as it was
-    pub row_stopped : (e : Error) → Refused from (visits levels from (after p i)) (GrowsByZeros u w) (limited_words u m) e (limited_words w m') → Refused from (from_each (visits levels from) p k) (LeavesRow (copy_source levels from) p s w (sized_at r d k)) (limited_words s l) e (limited_words w m')
+    pub row_stopped : (e : Error) → Refused from (visits levels from (after p i)) (GrowsByZeros u w) (limited_words u m) e (limited_words w m') → Refused from (from_each (visits levels from) p k) (LeavesRow (copy_source levels from p) s w (sized_at r d k)) (limited_words s l) e (limited_words w m')
     row_stopped e x = record {
       left = record {
         grows = grows_then s u w so.grows x.left.grows;

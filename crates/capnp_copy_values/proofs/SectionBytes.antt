@@ -91,7 +91,7 @@ section_written n m r d k own kids bytes small fit there o = by_cases (ltb (whol
 
 -- zero words that become a struct of these bytes, and of the pointers that are copied
 pub section_fills : (levels : ℕ) (b : Segments) (p : Place) (from : Segments) (there : Option Trees) (path : List Visit) (bytes : List ℕ) (m w u : Segments) (r : Place) (d k : ℕ) (old new : ReadLimiter) (x : Result ⊤ Error) → AreBytes bytes → d ≡ words_for (8 * length bytes) → words_at m r (d + k) ≡ Some (replicate (d + k) 0) → w ≡ with_bytes m r d bytes
-    → CopyGives (copy_of from there path) (FillsRow levels w u (sized_at r d k)) (LeavesRow (copy_source levels b) p w u (sized_at r d k)) (limited_words w old) x (limited_words u new)
+    → CopyGives (copy_of from there path) (FillsRow levels w u (sized_at r d k)) (LeavesRow (copy_source levels b p) w u (sized_at r d k)) (limited_words w old) x (limited_words u new)
     → CopyGives (copy_of from (there >>= λ ts. Some (structure d (number_of 8 bytes) ts)) path) (λ v. (n : ℕ) → levels ≤ n → Fills n m u (span r (d + k)) (a_struct r d k) v) ((t : Tree) × Fills levels m u (span r (d + k)) (a_struct r d k) t) (limited_words m old) x (limited_words u new)
 section_fills levels b p from there path bytes m w u r d k old new x small fit zeros now g =
     let front : is_some (words_at m r d) ≡ true = parts.front_there m r (d + k) (ap is_some zeros) d (omega arith) in

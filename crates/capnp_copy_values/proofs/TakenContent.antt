@@ -195,8 +195,8 @@ written_first : (s m : Segments) (o : StructPlace) (section : ℕ) → SetsSecti
 written_first s m o section w n own kids h = let first = w n own kids h in (first, object_replaced_owned n s m (object_of_struct o) _ _ h first)
 
 pub content_refused : (levels : ℕ) (from : Segments) (x : StructSource) (s m u : Segments) (o : StructPlace) (k : ℕ) (old new : ReadLimiter) (e : Error) → k ≡ min x.pointers o.pointers → SetsSection s m o (fitting o.data_words x.section) → map length m ≡ map length s
-    → Refused from (from_each (visits levels from) (place_view x.first) k) (LeavesRow (copy_source levels from) (place_view x.first) m u (sized_at (place_view o.start) o.data_words k)) (limited_words m old) e (limited_words u new)
-    → Refused from (from_each (visits levels from) (place_view x.first) (min x.pointers o.pointers)) (TakesPart (copy_source levels from) x s u o) (limited_words s old) e (limited_words u new)
+    → Refused from (from_each (visits levels from) (place_view x.first) k) (LeavesRow (copy_source levels from (place_view x.first)) m u (sized_at (place_view o.start) o.data_words k)) (limited_words m old) e (limited_words u new)
+    → Refused from (from_each (visits levels from) (place_view x.first) (min x.pointers o.pointers)) (TakesPart (copy_source levels from x) s u o) (limited_words s old) e (limited_words u new)
 content_refused levels from x s m u o k old new e shared w sizes g = record {
   left = record {
     grows = grows_then s m u (sizes_grow s m sizes) g.left.grows;

@@ -18,10 +18,10 @@ use Rattle.capnp_copy_values.specs.Copies.{CopySource, LimitedWords, BecomesCopy
 use Rattle.capnp_copy_values.specs.Fits.{LimitedArena, HasRoomIn, TakesIn, HasLongList}
 
 -- A value without a capability is there, and the visits of a canonical copy were made.
-pub record IsReadForCopy (x : CopySource) (q : Place) (t : Tree) (old new : ReadLimiter) : Type 0 where
-  pub there_is : tree_at x.levels x.segments q ≡ Some t
+pub record IsReadForCopy (x : CopySource Place) (t : Tree) (old new : ReadLimiter) : Type 0 where
+  pub there_is : tree_at x.levels x.segments x.what ≡ Some t
   pub clean : has_capability t ≡ false
-  pub walked : Walked (copy_visits x.levels x.segments q) old new
+  pub walked : Walked (copy_visits x.levels x.segments x.what) old new
 
 -- The message of a value's canonical words.
 abbrev pub canonical_message : Tree → Segments
@@ -36,38 +36,37 @@ pub record TakesCopy (n : ℕ) (t : Tree) (s u : Segments) : Type 0 where
   pub takes : TakesFew s u start end
 
 -- The trimmed value is put in place of that of the pointer at p.
-pub record Canonical (x : CopySource) (q p : Place) (old new : LimitedWords) : Type 0 where
+pub record Canonical (x : CopySource Place) (p : Place) (old new : LimitedWords) : Type 0 where
   pub value : Tree
-  pub read : IsReadForCopy x q value old.limiter new.limiter
+  pub read : IsReadForCopy x value old.limiter new.limiter
   pub grows : Grows old.segments new.segments
   pub takes : TakesCopy x.levels value old.segments new.segments
   pub becomes : BecomesCopy x.levels old.segments new.segments p (trim value)
 
 -- The arena had no room for an object of the canonical message, or the message would be too large with it.
-pub record HasNoRoomForCanonical (x : CopySource) (q : Place) (old : LimitedWords) (e : Error) (new : LimitedWords) : Type 0 where
+pub record HasNoRoomForCanonical (x : CopySource Place) (old : LimitedWords) (e : Error) (new : LimitedWords) : Type 0 where
   pub value : Tree
-  pub read : IsReadForCopy x q value old.limiter new.limiter
+  pub read : IsReadForCopy x value old.limiter new.limiter
   pub start : ReadLimiter
   pub end : ReadLimiter
   pub free : IsFree start
   pub unplaced : Unplaced (canonical_message value) (visits x.levels (canonical_message value) root) new.segments start e end
   pub takes : TakesFew old.segments new.segments start end
 
--- What is copied by way of lent words: the value of the pointer at a place of a source.
+-- What is copied by way of lent words: the value of a pointer.
 pub record LentCopy : Type 0 where
-  pub source : CopySource
-  pub place : Place
+  pub source : CopySource Place
   pub lent : List (List ℕ)
 
-abbrev pub lent_copy : CopySource → Place → List (List ℕ) → LentCopy
-lent_copy source q lent = record { source = source; place = q; lent = lent }
+abbrev pub lent_copy : CopySource Place → List (List ℕ) → LentCopy
+lent_copy source lent = record { source = source; lent = lent }
 
 -- The visits that are made to read it, and the value, where it is there.
 abbrev pub lent_visits : LentCopy → List Visit
-lent_visits x = copy_visits x.source.levels x.source.segments x.place
+lent_visits x = copy_visits x.source.levels x.source.segments x.source.what
 
 abbrev pub lent_tree : LentCopy → Option Tree
-lent_tree x = tree_at x.source.levels x.source.segments x.place
+lent_tree x = tree_at x.source.levels x.source.segments x.source.what
 
 -- The words that were lent are fewer than the value's canonical words, and than those that were granted, and one.
 abbrev pub IsTooShort : LentCopy → ReadLimiter → Error → ReadLimiter → Type 0
@@ -76,11 +75,11 @@ IsTooShort x old e new = Filled (lent_visits x) (room_of x.lent) 1 old e new × 
 -- All words stand: the walk was stopped, too few words were lent, or the arena had no room.
 pub record CanonicalRefused (x : LentCopy) (old : LimitedWords) (e : Error) (new : LimitedWords) : Type 0 where
   pub left : GrowsByZeros old.segments new.segments
-  pub why : ((new.segments ≡ old.segments) × (Stopped (lent_visits x) old.limiter e new.limiter ⊎ IsTooShort x old.limiter e new.limiter)) ⊎ HasNoRoomForCanonical x.source x.place old e new
+  pub why : ((new.segments ≡ old.segments) × (Stopped (lent_visits x) old.limiter e new.limiter ⊎ IsTooShort x old.limiter e new.limiter)) ⊎ HasNoRoomForCanonical x.source old e new
 
 -- That value is put in place of that of the pointer at p, trimmed; or it is refused, and all words stand.
 abbrev pub CopiesCanonical : LentCopy → Place → LimitedWords → Result ⊤ Error → LimitedWords → Type 0
-CopiesCanonical x p old (Ok _) new = Canonical x.source x.place p old new
+CopiesCanonical x p old (Ok _) new = Canonical x.source p old new
 CopiesCanonical x p old (Err e) new = CanonicalRefused x old e new
 
 -- No more of the lent words were written than were granted, and one.

@@ -11,7 +11,7 @@ use Rattle.capnp_model_writes.specs.Footprints.{OwnsObject}
 use Rattle.capnp_model_writes.specs.Changes.{ReplacesObject}
 use Rattle.capnp_copy_arenas.specs.declared.fields.StructPlace.{StructPlace}
 use Rattle.capnp_copy_arenas.specs.Structs.{object_of_struct}
-use Rattle.capnp_copy_values.specs.Copies.{CopySource, LimitedWords, CopyGives, copy_of_row, StructSource}
+use Rattle.capnp_copy_values.specs.Copies.{CopySource, copy_source, LimitedWords, CopyGives, copy_of_row, StructSource}
 
 -- What fits of a section into n words.
 abbrev pub fitting : ℕ → ℕ → ℕ
@@ -25,18 +25,19 @@ TakesContent levels s u o section ts =
 
 -- Its section is what fits of the source's, its first n children those that were read, and the
 -- others stay.
-pub record TakesPart (from : CopySource) (x : StructSource) (s u : Segments) (o : StructPlace) : Type 0 where
+pub record TakesPart (x : CopySource StructSource) (s u : Segments) (o : StructPlace) : Type 0 where
   pub grows : Grows s u
   pub copied : ℕ
-  pub few : copied ≤ min x.pointers o.pointers
+  pub few : copied ≤ min x.what.pointers o.pointers
   pub read : Trees
-  pub read_is : each (tree_at from.levels from.segments) (place_view x.first) copied ≡ Some read
-  pub left : (n own : ℕ) (kids : Trees) → from.levels ≤ n → OwnsObject n s (object_of_struct o) (structure o.data_words own kids) → ReplacesObject n s u (object_of_struct o) (structure o.data_words (fitting o.data_words x.section) (with_first copied read kids))
+  pub read_is : each (tree_at x.levels x.segments) (place_view x.what.first) copied ≡ Some read
+  pub left : (n own : ℕ) (kids : Trees) → x.levels ≤ n → OwnsObject n s (object_of_struct o) (structure o.data_words own kids) → ReplacesObject n s u (object_of_struct o) (structure o.data_words (fitting o.data_words x.what.section) (with_first copied read kids))
 
 -- A struct takes over the content of one that is read, as far as it fits; the pointers that it has no place for aren't followed.
-abbrev pub CopiesContent : CopySource → StructSource → StructPlace → LimitedWords → Result ⊤ Error → LimitedWords → Type 0
-CopiesContent from x o old result new =
-    CopyGives (copy_of_row from (place_view x.first) (min x.pointers o.pointers)) (TakesContent from.levels old.segments new.segments o x.section) (TakesPart from x old.segments new.segments o) old result new
+abbrev pub CopiesContent : CopySource StructSource → StructPlace → LimitedWords → Result ⊤ Error → LimitedWords → Type 0
+CopiesContent x o old result new =
+    let first = copy_source x.levels x.segments (place_view x.what.first) in
+    CopyGives (copy_of_row first (min x.what.pointers o.pointers)) (TakesContent x.levels old.segments new.segments o x.what.section) (TakesPart x old.segments new.segments o) old result new
 
 -- Whatever struct is there: its children behind the first n become null.
 abbrev pub ClearsRest : Segments → Segments → StructPlace → ℕ → Type 0

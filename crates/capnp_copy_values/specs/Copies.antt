@@ -28,17 +28,18 @@ use Rattle.capnp_model_writes.specs.Changes.{Changes, Replaces, ReplacesObject}
 use Rattle.capnp_copy_arenas.specs.Allocations.{total_words}
 use Rattle.capnp_copy_values.specs.Objects.{copied_words, copied_at, IsTooLarge}
 
--- What copies are read from: the words of segments, and how many levels deep.
-pub record CopySource : Type 0 where
+-- What is copied, a pointer's value or more, of segments that are read so many levels deep.
+pub record CopySource (X : Type 0) : Type 0 where
   pub levels : ℕ
   pub segments : Segments
+  pub what : X
 
-abbrev pub copy_source : ℕ → Segments → CopySource
-copy_source levels from = record { levels = levels; segments = from }
+abbrev pub copy_source : {X : Type 0} → ℕ → Segments → X → CopySource X
+copy_source levels from what = record { levels = levels; segments = from; what = what }
 
--- Segments of these bytes.
-abbrev pub source_in : ℕ → List (List ℕ) → CopySource
-source_in levels bytes = copy_source levels (words_in bytes)
+-- Of segments of these bytes.
+abbrev pub source_in : {X : Type 0} → ℕ → List (List ℕ) → X → CopySource X
+source_in levels bytes what = copy_source levels (words_in bytes) what
 
 -- The words of an arena that is copied into, and what may still be read for it.
 pub record LimitedWords : Type 0 where
@@ -119,18 +120,18 @@ CopyGives x Made Left old (Err e) new = Refused x.from x.path Left old e new
 
 -- The value of a pointer, those of n in a row, and that of an object whose words are there; n
 -- levels may be followed from each pointer.
-abbrev pub copy_of_value : CopySource → Place → CopyOf Tree
-copy_of_value x q = copy_of x.segments (tree_at x.levels x.segments q) (visits x.levels x.segments q)
+abbrev pub copy_of_value : CopySource Place → CopyOf Tree
+copy_of_value x = copy_of x.segments (tree_at x.levels x.segments x.what) (visits x.levels x.segments x.what)
 
-abbrev pub copy_of_row : CopySource → Place → ℕ → CopyOf Trees
-copy_of_row x q n = copy_of x.segments (each (tree_at x.levels x.segments) q n) (from_each (visits x.levels x.segments) q n)
+abbrev pub copy_of_row : CopySource Place → ℕ → CopyOf Trees
+copy_of_row x n = copy_of x.segments (each (tree_at x.levels x.segments) x.what n) (from_each (visits x.levels x.segments) x.what n)
 
-abbrev pub copy_of_object : CopySource → wire.Object → CopyOf Tree
-copy_of_object x o = copy_of x.segments (tree_in x.segments (tree_at x.levels x.segments) o) (met_in (visits x.levels x.segments) o)
+abbrev pub copy_of_object : CopySource wire.Object → CopyOf Tree
+copy_of_object x = copy_of x.segments (tree_in x.segments (tree_at x.levels x.segments) x.what) (met_in (visits x.levels x.segments) x.what)
 
--- The value of the pointer at q is put in place of that at p, as its whole tree; or it is refused, and all words stand.
-abbrev pub CopiesValue : CopySource → Place → Place → LimitedWords → Result ⊤ Error → LimitedWords → Type 0
-CopiesValue x q p old result new = CopyGives (copy_of_value x q) (BecomesCopy x.levels old.segments new.segments p) (GrowsByZeros old.segments new.segments) old result new
+-- The value of a pointer is put in place of that of the pointer at p, as its whole tree; or it is refused, and all words stand.
+abbrev pub CopiesValue : CopySource Place → Place → LimitedWords → Result ⊤ Error → LimitedWords → Type 0
+CopiesValue x p old result new = CopyGives (copy_of_value x) (BecomesCopy x.levels old.segments new.segments p) (GrowsByZeros old.segments new.segments) old result new
 
 -- No more words were allocated than twice those of an object that was paid for before, and those that were granted.
 pub record TakesObject (k : ℕ) (s u : Segments) (old new : ReadLimiter) : Type 0 where
@@ -176,8 +177,8 @@ ObjectGives tree x old (Err e) new = ObjectRefused tree.from x.object tree.path 
 
 -- An object whose words are there is put in place of that value, as its whole tree; n levels may be
 -- followed from each of its pointers.
-abbrev pub CopiesObject : CopySource → wire.Object → Place → LimitedWords → Result ⊤ Error → LimitedWords → Type 0
-CopiesObject x o p = ObjectGives (copy_of_object x o) (object_put x.levels o p)
+abbrev pub CopiesObject : CopySource wire.Object → Place → LimitedWords → Result ⊤ Error → LimitedWords → Type 0
+CopiesObject x p = ObjectGives (copy_of_object x) (object_put x.levels x.what p)
 
 -- A struct that is read: the number of its data section, the words of that, where its first pointer stands and how many there are.
 pub record StructSource : Type 0 where
@@ -195,13 +196,13 @@ abbrev pub struct_tree : (Place → Option Tree) → StructSource → Option Tre
 struct_tree below x = each below (place_view x.first) x.pointers >>= λ ts. Some (structure x.data_words x.section ts)
 
 -- The tree of a struct, by its sections.
-abbrev pub copy_of_struct : CopySource → StructSource → CopyOf Tree
-copy_of_struct x o = copy_of x.segments (struct_tree (tree_at x.levels x.segments) o) (from_each (visits x.levels x.segments) (place_view o.first) o.pointers)
+abbrev pub copy_of_struct : CopySource StructSource → CopyOf Tree
+copy_of_struct x = copy_of x.segments (struct_tree (tree_at x.levels x.segments) x.what) (from_each (visits x.levels x.segments) (place_view x.what.first) x.what.pointers)
 
 -- A struct of its size is put in place of that value, as its whole tree; n levels may be followed
 -- from each of its pointers.
-abbrev pub CopiesStruct : CopySource → StructSource → Place → LimitedWords → Result ⊤ Error → LimitedWords → Type 0
-CopiesStruct x o p = ObjectGives (copy_of_struct x o) (object_put x.levels (object.Struct o.first o.data_words o.pointers) p)
+abbrev pub CopiesStruct : CopySource StructSource → Place → LimitedWords → Result ⊤ Error → LimitedWords → Type 0
+CopiesStruct x p = ObjectGives (copy_of_struct x) (object_put x.levels (object.Struct x.what.first x.what.data_words x.what.pointers) p)
 
 -- No more source pointers were followed than words were granted, and one.
 pub record FollowsFew (old new : ReadLimiter) : Type 0 where
@@ -235,12 +236,12 @@ pub record FillsRow (levels : ℕ) (s u : Segments) (o : StructAt) (ts : Trees) 
   pub first : (n own w : ℕ) (kids : Trees) → levels ≤ n → o.pointers ≤ w → OwnsObject n s (a_struct o.start o.data_words w) (structure o.data_words own kids) → ReplacesObject n s u (a_struct o.start o.data_words w) (structure o.data_words own (with_first o.pointers ts kids))
 
 -- Only some of them did, the first that are read from a place on.
-pub record LeavesRow (x : CopySource) (p : Place) (s u : Segments) (o : StructAt) : Type 0 where
+pub record LeavesRow (x : CopySource Place) (s u : Segments) (o : StructAt) : Type 0 where
   pub grows : Grows s u
   pub copied : ℕ
   pub few : copied ≤ o.pointers
   pub read : Trees
-  pub read_is : each (tree_at x.levels x.segments) p copied ≡ Some read
+  pub read_is : each (tree_at x.levels x.segments) x.what copied ≡ Some read
   pub left : (n own w : ℕ) (kids : Trees) → x.levels ≤ n → o.pointers ≤ w → OwnsObject n s (a_struct o.start o.data_words w) (structure o.data_words own kids) → ReplacesObject n s u (a_struct o.start o.data_words w) (structure o.data_words own (with_first copied read kids))
 
 -- Whatever n structs of this size a list has that begins there: they become these.
@@ -269,10 +270,11 @@ FillsObject tree x old result new =
 
 -- The struct of its size at r gets the section of one that is read, and the values of its pointers.
 -- Or it is refused, and has some others.
-abbrev pub CopiesOverStruct : CopySource → StructSource → Place → LimitedWords → Result ⊤ Error → LimitedWords → Type 0
-CopiesOverStruct x o r old result new =
+abbrev pub CopiesOverStruct : CopySource StructSource → Place → LimitedWords → Result ⊤ Error → LimitedWords → Type 0
+CopiesOverStruct x r old result new =
+    let o = x.what in
     let there = sized_at r o.data_words o.pointers in
-    CopyGives (copy_of_row x (place_view o.first) o.pointers) (FillsStruct x.levels old.segments new.segments there o.section) (LeavesStruct x.levels old.segments new.segments there) old result new
+    CopyGives (copy_of_row (copy_source x.levels x.segments (place_view o.first)) o.pointers) (FillsStruct x.levels old.segments new.segments there o.section) (LeavesStruct x.levels old.segments new.segments there) old result new
 
 -- The structs of a list that are read: where the first stands, the words of all, what each has, and
 -- how many there are.
@@ -283,15 +285,17 @@ pub record StructsSource : Type 0 where
   pub pointers : ℕ
   pub count : ℕ
 
-abbrev pub copy_of_structs : CopySource → StructsSource → CopyOf Elements
-copy_of_structs x o = copy_of x.segments (each_element (tree_at x.levels x.segments) o.first o.words o.data_words o.pointers o.count) (from_elements (visits x.levels x.segments) o.first o.data_words o.pointers o.count)
+abbrev pub copy_of_structs : CopySource StructsSource → CopyOf Elements
+copy_of_structs x =
+    let o = x.what in
+    copy_of x.segments (each_element (tree_at x.levels x.segments) o.first o.words o.data_words o.pointers o.count) (from_elements (visits x.levels x.segments) o.first o.data_words o.pointers o.count)
 
 -- As many structs of their size, in the list at r, become those that are read. Or it is refused,
 -- and they are some others.
-abbrev pub CopiesOverElements : CopySource → StructsSource → Place → LimitedWords → Result ⊤ Error → LimitedWords → Type 0
-CopiesOverElements x o r old result new =
-    let there = sized_at r o.data_words o.pointers in
-    CopyGives (copy_of_structs x o) (FillsElements x.levels old.segments new.segments there o.count) (LeavesElements x.levels old.segments new.segments there o.count) old result new
+abbrev pub CopiesOverElements : CopySource StructsSource → Place → LimitedWords → Result ⊤ Error → LimitedWords → Type 0
+CopiesOverElements x r old result new =
+    let there = sized_at r x.what.data_words x.what.pointers in
+    CopyGives (copy_of_structs x) (FillsElements x.levels old.segments new.segments there x.what.count) (LeavesElements x.levels old.segments new.segments there x.what.count) old result new
 
 -- Why a copy is refused: the walk over what is read was stopped by that very error, or the error is as `told` says.
 abbrev pub IsStoppedOr : List Visit → ReadLimiter → ReadLimiter → (Error → Type 0) → Result ⊤ Error → Type 0

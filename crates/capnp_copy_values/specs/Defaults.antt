@@ -26,7 +26,7 @@ pub record CopiesDefault (default s u : Segments) (p : Place) (result : Result �
   pub new : ReadLimiter
   pub endless : limit_of old ≡ None
   pub unused : granted_of old ≡ 0
-  pub copies : CopiesValue (copy_source 64 default) root p (limited_words s old) result (limited_words u new)
+  pub copies : CopiesValue (copy_source 64 default root) p (limited_words s old) result (limited_words u new)
 
 -- It was written exactly where there was null, and the default's root isn't; else all stands as it
 -- was.
@@ -40,7 +40,7 @@ pub record DefaultFits (default : Segments) (i : ℕ) (s u : ArenaState) (result
   pub old : ReadLimiter
   pub new : ReadLimiter
   pub endless : limit_of old ≡ None
-  pub fits : FitsCopy (copy_of_value (copy_source 64 default) root) (wanted object_words (HasLongList default) i) (limited_arena s old) result (limited_arena u new)
+  pub fits : FitsCopy (copy_of_value (copy_source 64 default root)) (wanted object_words (HasLongList default) i) (limited_arena s old) result (limited_arena u new)
   pub cause : IsStoppedOr (visits 64 default root) old new told result
 
 -- It is made exactly where there was null, and the default's root isn't; else all stands, and

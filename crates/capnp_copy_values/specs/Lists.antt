@@ -58,9 +58,9 @@ abbrev pub list_parts : ListSource → List ℕ → ListParts
 list_parts list bytes = record { list = list; bytes = bytes }
 
 -- Its tree; n levels may be followed from each of its pointers.
-abbrev pub copy_of_list : CopySource → ListParts → CopyOf Tree
-copy_of_list x parts = copy_of x.segments (listed_tree (tree_at x.levels x.segments) parts.list parts.bytes) (met_in (visits x.levels x.segments) (listed_object parts.list))
+abbrev pub copy_of_list : CopySource ListParts → CopyOf Tree
+copy_of_list x = copy_of x.segments (listed_tree (tree_at x.levels x.segments) x.what.list x.what.bytes) (met_in (visits x.levels x.segments) (listed_object x.what.list))
 
 -- A list of its size is put in place of the value of the pointer at p, as its whole tree.
-abbrev pub CopiesList : CopySource → ListParts → Place → LimitedWords → Result ⊤ Error → LimitedWords → Type 0
-CopiesList x parts p = ObjectGives (copy_of_list x parts) (object_put x.levels (listed_object parts.list) p)
+abbrev pub CopiesList : CopySource ListParts → Place → LimitedWords → Result ⊤ Error → LimitedWords → Type 0
+CopiesList x p = ObjectGives (copy_of_list x) (object_put x.levels (listed_object x.what.list) p)

@@ -15,7 +15,7 @@ use Rattle.capnp_copy_arenas.specs.States.{HasWords}
 use Rattle.capnp_copy_arenas.specs.declared.fields.StructPlace.{StructPlace}
 use Rattle.capnp_copy_values.specs.declared.copy.StructRows.{StructRows}
 use Rattle.capnp_copy_values.specs.declared.lists.ListSource.{ListSource}
-use Rattle.capnp_copy_values.specs.Copies.{CopySource, LimitedWords, CopyGives, copy_of_value, copy_of_row, copy_of_object, copy_of_struct, copy_of_structs, object_put, StructAt, FillsRow, LeavesRow, FillsObject, CopiesOverStruct, CopiesOverElements, StructSource, StructsSource}
+use Rattle.capnp_copy_values.specs.Copies.{CopySource, copy_source, LimitedWords, CopyGives, copy_of_value, copy_of_row, copy_of_object, copy_of_struct, copy_of_structs, object_put, StructAt, FillsRow, LeavesRow, FillsObject, CopiesOverStruct, CopiesOverElements, StructSource, StructsSource}
 use Rattle.capnp_copy_values.specs.Fits.{LimitedArena, wanted, FitsCopy, HasLongList, IsLong, words_behind, elements_behind}
 
 -- Words from a place on are there, n, before position 2^61.
@@ -52,24 +52,25 @@ visits_in_structs levels from x = from_elements (visits levels (words_in from)) 
 -- ---- what is made
 
 -- The values of n pointers in a row, over the first of a struct that has so many data words.
-abbrev pub CopiesRow : CopySource → location.Place → StructAt → LimitedWords → Result ⊤ Error → LimitedWords → Type 0
-CopiesRow x first o old result new =
-    CopyGives (copy_of_row x (place_view first) o.pointers) (FillsRow x.levels old.segments new.segments o) (LeavesRow x (place_view first) old.segments new.segments o) old result new
+abbrev pub CopiesRow : CopySource Place → StructAt → LimitedWords → Result ⊤ Error → LimitedWords → Type 0
+CopiesRow x o old result new = CopyGives (copy_of_row x o.pointers) (FillsRow x.levels old.segments new.segments o) (LeavesRow x old.segments new.segments o) old result new
 
 -- An object, over zeros.
-abbrev pub FillsFrom : CopySource → wire.Object → location.Place → LimitedWords → Result ⊤ Error → LimitedWords → Type 0
-FillsFrom x object start = FillsObject (copy_of_object x object) (object_put x.levels object (place_view start))
+abbrev pub FillsFrom : CopySource wire.Object → location.Place → LimitedWords → Result ⊤ Error → LimitedWords → Type 0
+FillsFrom x start = FillsObject (copy_of_object x) (object_put x.levels x.what (place_view start))
 
 -- A struct by its place and sizes.
 abbrev pub struct_place : location.Place → ℕ → ℕ → StructPlace
 struct_place start d k = record { start = start; data_words = d; pointers = k }
 
+-- What such a struct has, of which these segments have the words.
+abbrev pub struct_of_place : Segments → StructPlace → StructSource
+struct_of_place from o =
+    record { section = section_at from (place_view o.start) o.data_words; data_words = o.data_words; first = placed (after (place_view o.start) o.data_words); pointers = o.pointers }
+
 -- A struct of a source, over one of its size.
-abbrev pub CopiesStructFrom : CopySource → StructPlace → location.Place → LimitedWords → Result ⊤ Error → LimitedWords → Type 0
-CopiesStructFrom x o start =
-    let section = section_at x.segments (place_view o.start) o.data_words in
-    let first = placed (after (place_view o.start) o.data_words) in
-    CopiesOverStruct x (record { section = section; data_words = o.data_words; first = first; pointers = o.pointers }) (place_view start)
+abbrev pub CopiesStructFrom : CopySource StructPlace → location.Place → LimitedWords → Result ⊤ Error → LimitedWords → Type 0
+CopiesStructFrom x start = CopiesOverStruct (copy_source x.levels x.segments (struct_of_place x.segments x.what)) (place_view start)
 
 -- The structs of a list, of which these segments have the words.
 abbrev pub structs_of_rows : Segments → StructRows → StructsSource
@@ -77,20 +78,20 @@ structs_of_rows from x =
     record { first = place_view x.start; words = words_there from (place_view x.start) x.words; data_words = x.data_words; pointers = x.pointers; count = x.count }
 
 -- These, over as many of their size.
-abbrev pub CopiesRows : CopySource → StructRows → location.Place → LimitedWords → Result ⊤ Error → LimitedWords → Type 0
-CopiesRows x rows start = CopiesOverElements x (structs_of_rows x.segments rows) (place_view start)
+abbrev pub CopiesRows : CopySource StructRows → location.Place → LimitedWords → Result ⊤ Error → LimitedWords → Type 0
+CopiesRows x start = CopiesOverElements (copy_source x.levels x.segments (structs_of_rows x.segments x.what)) (place_view start)
 
 -- ---- what is taken where there is room
 
-abbrev pub FitsValue : CopySource → location.Place → location.Place → LimitedArena → Result ⊤ Error → LimitedArena → Type 0
-FitsValue x place slot = FitsCopy (copy_of_value x (place_view place)) (wanted object_words (HasLongList x.segments) slot.segment)
+abbrev pub FitsValue : CopySource Place → location.Place → LimitedArena → Result ⊤ Error → LimitedArena → Type 0
+FitsValue x slot = FitsCopy (copy_of_value x) (wanted object_words (HasLongList x.segments) slot.segment)
 
-abbrev pub FitsObject : CopySource → wire.Object → location.Place → LimitedArena → Result ⊤ Error → LimitedArena → Type 0
-FitsObject x object slot = FitsCopy (copy_of_object x object) (wanted object_words (IsLong x.segments object) slot.segment)
+abbrev pub FitsObject : CopySource wire.Object → location.Place → LimitedArena → Result ⊤ Error → LimitedArena → Type 0
+FitsObject x slot = FitsCopy (copy_of_object x) (wanted object_words (IsLong x.segments x.what) slot.segment)
 
 -- For what is behind the object, which lies at a place of the segment.
-abbrev pub FitsBehind : CopySource → wire.Object → location.Place → LimitedArena → Result ⊤ Error → LimitedArena → Type 0
-FitsBehind x object start = FitsCopy (copy_of_object x object) (wanted words_behind (HasLongList x.segments) start.segment)
+abbrev pub FitsBehind : CopySource wire.Object → location.Place → LimitedArena → Result ⊤ Error → LimitedArena → Type 0
+FitsBehind x start = FitsCopy (copy_of_object x) (wanted words_behind (HasLongList x.segments) start.segment)
 
 -- n pointers in a row.
 pub record PointerRow : Type 0 where
@@ -100,11 +101,11 @@ pub record PointerRow : Type 0 where
 abbrev pub pointer_row : Place → ℕ → PointerRow
 pointer_row first n = record { first = first; count = n }
 
-abbrev pub FitsRow : CopySource → PointerRow → location.Place → LimitedArena → Result ⊤ Error → LimitedArena → Type 0
-FitsRow x row start = FitsCopy (copy_of_row x row.first row.count) (wanted each_object_words (HasLongList x.segments) start.segment)
+abbrev pub FitsRow : CopySource PointerRow → location.Place → LimitedArena → Result ⊤ Error → LimitedArena → Type 0
+FitsRow x start = FitsCopy (copy_of_row (copy_source x.levels x.segments x.what.first) x.what.count) (wanted each_object_words (HasLongList x.segments) start.segment)
 
-abbrev pub FitsRows : CopySource → StructRows → location.Place → LimitedArena → Result ⊤ Error → LimitedArena → Type 0
-FitsRows x rows start = FitsCopy (copy_of_structs x (structs_of_rows x.segments rows)) (wanted elements_behind (HasLongList x.segments) start.segment)
+abbrev pub FitsRows : CopySource StructRows → location.Place → LimitedArena → Result ⊤ Error → LimitedArena → Type 0
+FitsRows x start = FitsCopy (copy_of_structs (copy_source x.levels x.segments (structs_of_rows x.segments x.what))) (wanted elements_behind (HasLongList x.segments) start.segment)
 
-abbrev pub FitsStruct : CopySource → StructSource → location.Place → LimitedArena → Result ⊤ Error → LimitedArena → Type 0
-FitsStruct x o slot = FitsCopy (copy_of_struct x o) (wanted object_words (HasLongList x.segments) slot.segment)
+abbrev pub FitsStruct : CopySource StructSource → location.Place → LimitedArena → Result ⊤ Error → LimitedArena → Type 0
+FitsStruct x slot = FitsCopy (copy_of_struct x) (wanted object_words (HasLongList x.segments) slot.segment)

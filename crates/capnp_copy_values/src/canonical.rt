@@ -52,13 +52,13 @@ pub fn copy_canonical_from<A: BuilderArena, B: ReaderArena>(
 ) -> Result<()>
     requires there { HasWords (A.segments arena.old) slot 1 }
     requires near { slot.position < 2 ^ 61 }
-    ensures copy { CopiesCanonical (lent_copy (source_in levels (B.segments source.now))
-        (place_view place) lent.old) (place_view slot) (limited (A.segments arena.old) limiter.old)
+    ensures copy { CopiesCanonical (lent_copy (source_in levels (B.segments source.now)
+        (place_view place)) lent.old) (place_view slot) (limited (A.segments arena.old) limiter.old)
         result (limited (A.segments arena.new) limiter.new) }
     ensures few { FollowsFew limiter.old limiter.new }
     ensures lent { WritesFew limiter.old limiter.new lent.old lent.new }
     ensures told { let at = limited_in A.segments A.room A.books in CanonicalTold (lent_copy
-        (source_in levels (B.segments source.now)) (place_view place) lent.old) slot.segment
+        (source_in levels (B.segments source.now) (place_view place)) lent.old) slot.segment
         (IsSizeOrRefusal A.refuses) (at arena.old limiter.old) result (at arena.new limiter.new) }
     ensures books { A.books arena.new ≡ A.books arena.old }
 {

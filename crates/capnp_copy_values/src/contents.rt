@@ -107,13 +107,13 @@ pub fn copy_content_from<A: BuilderArena, B: ReaderArena>(
     requires there { HasStructWords (A.segments arena.old) object }
     requires near { object.start.position + (object.data_words + object.pointers) < 2 ^ 61 }
     requires source_near { first.position + pointers < 2 ^ 62 }
-    ensures content { CopiesContent (source_in levels (B.segments source.now))
-        (struct_source section.now first pointers) object (limited (A.segments arena.old)
+    ensures content { CopiesContent (source_in levels (B.segments source.now)
+        (struct_source section.now first pointers)) object (limited (A.segments arena.old)
         limiter.old) result (limited (A.segments arena.new) limiter.new) }
     ensures cause { IsStoppedOr (visits_in_row levels (B.segments source.now) (place_view first)
         (min pointers object.pointers)) limiter.old limiter.new (IsSizeOrRefusal A.refuses) result }
     ensures fits { let at = limited_in A.segments A.room A.books in FitsRow (source_in levels
-        (B.segments source.now)) (pointer_row (place_view first) (min pointers object.pointers))
+        (B.segments source.now) (pointer_row (place_view first) (min pointers object.pointers)))
         object.start (at arena.old limiter.old) result (at arena.new limiter.new) }
     ensures books { A.books arena.new ≡ A.books arena.old }
 {

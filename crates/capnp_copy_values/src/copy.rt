@@ -63,15 +63,15 @@ pub fn copy_from<A: BuilderArena, B: ReaderArena>(
 ) -> Result<()>
     requires there { HasWords (A.segments arena.old) slot 1 }
     requires near { slot.position < 2 ^ 61 }
-    ensures copy { CopiesValue (source_in levels (B.segments source.now)) (place_view place)
+    ensures copy { CopiesValue (source_in levels (B.segments source.now) (place_view place))
         (place_view slot) (limited (A.segments arena.old) limiter.old) result
         (limited (A.segments arena.new) limiter.new) }
     ensures few { FollowsFew limiter.old limiter.new }
     ensures cause { IsStoppedOr (visits_of_value levels (B.segments source.now) place) limiter.old
         limiter.new (IsSizeOrRefusal A.refuses) result }
     ensures fits { let at = limited_in A.segments A.room A.books in FitsValue
-        (source_in levels (B.segments source.now)) place slot (at arena.old limiter.old) result
-        (at arena.new limiter.new) }
+        (source_in levels (B.segments source.now) (place_view place)) slot
+        (at arena.old limiter.old) result (at arena.new limiter.new) }
     ensures books { A.books arena.new ≡ A.books arena.old }
 {
     let object = follow_within(source, limiter, place, levels)?;
@@ -129,13 +129,13 @@ pub fn copy_object<A: BuilderArena, B: ReaderArena>(
     requires there { HasWords (A.segments arena.old) slot 1 }
     requires near { slot.position < 2 ^ 61 }
     requires inside { IsInside (words_in (B.segments source.now)) object }
-    ensures copy { CopiesObject (source_in levels (B.segments source.now)) object (place_view slot)
+    ensures copy { CopiesObject (source_in levels (B.segments source.now) object) (place_view slot)
         (limited (A.segments arena.old) limiter.old) result
         (limited (A.segments arena.new) limiter.new) }
     ensures cause { IsStoppedOr (visits_in_object levels (B.segments source.now) object) limiter.old
         limiter.new (IsSizeOrRefusal A.refuses) result }
     ensures fits { let at = limited_in A.segments A.room A.books in FitsObject
-        (source_in levels (B.segments source.now)) object slot (at arena.old limiter.old) result
+        (source_in levels (B.segments source.now) object) slot (at arena.old limiter.old) result
         (at arena.new limiter.new) }
     ensures books { A.books arena.new ≡ A.books arena.old }
 {
@@ -172,12 +172,12 @@ fn fill<A: BuilderArena, B: ReaderArena>(
     requires near { start.position + copied_words object < 2 ^ 61 }
     requires few { most_counted object < 2 ^ 29 }
     requires inside { IsInside (words_in (B.segments source.now)) object }
-    ensures copy { FillsFrom (source_in levels (B.segments source.now)) object start (limited
+    ensures copy { FillsFrom (source_in levels (B.segments source.now) object) start (limited
         (A.segments arena.old) limiter.old) result (limited (A.segments arena.new) limiter.new) }
     ensures cause { IsStoppedOr (visits_in_object levels (B.segments source.now) object) limiter.old
         limiter.new (IsSizeOrRefusal A.refuses) result }
     ensures fits { let at = limited_in A.segments A.room A.books in FitsBehind
-        (source_in levels (B.segments source.now)) object start (at arena.old limiter.old) result
+        (source_in levels (B.segments source.now) object) start (at arena.old limiter.old) result
         (at arena.new limiter.new) }
     ensures books { A.books arena.new ≡ A.books arena.old }
 {
@@ -238,13 +238,13 @@ pub(crate) fn fill_row<A: BuilderArena, B: ReaderArena>(
     requires there { HasWords (A.segments arena.old) start (data_words + count) }
     requires near { (start.position + (data_words + count) < 2 ^ 61)
         × (first.position + count < 2 ^ 62) }
-    ensures copy { CopiesRow (source_in levels (B.segments source.now)) first
+    ensures copy { CopiesRow (source_in levels (B.segments source.now) (place_view first))
         (sized_at (place_view start) data_words count) (limited (A.segments arena.old) limiter.old)
         result (limited (A.segments arena.new) limiter.new) }
     ensures cause { IsStoppedOr (visits_in_row levels (B.segments source.now) (place_view first)
         count) limiter.old limiter.new (IsSizeOrRefusal A.refuses) result }
-    ensures fits { let at = limited_in A.segments A.room A.books in FitsRow
-        (source_in levels (B.segments source.now)) (pointer_row (place_view first) count) start
+    ensures fits { let at = limited_in A.segments A.room A.books in FitsRow (source_in levels
+        (B.segments source.now) (pointer_row (place_view first) count)) start
         (at arena.old limiter.old) result (at arena.new limiter.new) }
     ensures books { A.books arena.new ≡ A.books arena.old }
 {
@@ -277,14 +277,14 @@ fn fill_struct<A: BuilderArena, B: ReaderArena>(
     requires there { HasWords (A.segments arena.old) start (data_words + pointers) }
     requires near { start.position + (data_words + pointers) < 2 ^ 61 }
     requires inside { LieThere (B.segments source.now) from (data_words + pointers) }
-    ensures copy { CopiesStructFrom (source_in levels (B.segments source.now))
-        (struct_place from data_words pointers) start (limited (A.segments arena.old) limiter.old)
+    ensures copy { CopiesStructFrom (source_in levels (B.segments source.now)
+        (struct_place from data_words pointers)) start (limited (A.segments arena.old) limiter.old)
         result (limited (A.segments arena.new) limiter.new) }
     ensures cause { IsStoppedOr (visits_in_row levels (B.segments source.now) (after (place_view
         from) data_words) pointers) limiter.old limiter.new (IsSizeOrRefusal A.refuses) result }
-    ensures fits { let at = limited_in A.segments A.room A.books in FitsRow
-        (source_in levels (B.segments source.now)) (pointer_row (after (place_view from) data_words)
-        pointers) start (at arena.old limiter.old) result (at arena.new limiter.new) }
+    ensures fits { let at = limited_in A.segments A.room A.books in FitsRow (source_in levels
+        (B.segments source.now) (pointer_row (after (place_view from) data_words) pointers)) start
+        (at arena.old limiter.old) result (at arena.new limiter.new) }
     ensures books { A.books arena.new ≡ A.books arena.old }
 {
     copy_words(arena, start, source, from, data_words as usize);
@@ -319,12 +319,12 @@ fn fill_elements<A: BuilderArena, B: ReaderArena>(
     requires near { start.position + (1 + rows_words rows) < 2 ^ 61 }
     requires inside { LieThere (B.segments source.now) rows.start rows.words }
     requires fit { rows_words rows ≤ rows.words }
-    ensures copy { CopiesRows (source_in levels (B.segments source.now)) rows start (limited
+    ensures copy { CopiesRows (source_in levels (B.segments source.now) rows) start (limited
         (A.segments arena.old) limiter.old) result (limited (A.segments arena.new) limiter.new) }
     ensures cause { IsStoppedOr (visits_in_rows levels (B.segments source.now) rows) limiter.old
         limiter.new (IsSizeOrRefusal A.refuses) result }
     ensures fits { let at = limited_in A.segments A.room A.books in FitsRows
-        (source_in levels (B.segments source.now)) rows start (at arena.old limiter.old) result
+        (source_in levels (B.segments source.now) rows) start (at arena.old limiter.old) result
         (at arena.new limiter.new) }
     ensures books { A.books arena.new ≡ A.books arena.old }
 {

@@ -100,14 +100,14 @@ fn fill_element<A: BuilderArena, B: ReaderArena>(
     requires near { (object.start.position + (object.data_words + object.pointers) < 2 ^ 61)
         × (first.position + object.pointers < 2 ^ 62) }
     requires all { length section.now ≡ 8 * object.data_words }
-    ensures copy { CopiesOverStruct (source_in levels (B.segments source.now))
-        (struct_by object section.now first) (place_view object.start) (limited
+    ensures copy { CopiesOverStruct (source_in levels (B.segments source.now)
+        (struct_by object section.now first)) (place_view object.start) (limited
         (A.segments arena.old) limiter.old) result (limited (A.segments arena.new) limiter.new) }
     ensures cause { IsStoppedOr (visits_in_row levels (B.segments source.now) (place_view first)
         object.pointers) limiter.old limiter.new (IsSizeOrRefusal A.refuses) result }
-    ensures fits { let at = limited_in A.segments A.room A.books in FitsRow
-        (source_in levels (B.segments source.now)) (pointer_row (place_view first) object.pointers)
-        object.start (at arena.old limiter.old) result (at arena.new limiter.new) }
+    ensures fits { let at = limited_in A.segments A.room A.books in FitsRow (source_in levels
+        (B.segments source.now) (pointer_row (place_view first) object.pointers)) object.start
+        (at arena.old limiter.old) result (at arena.new limiter.new) }
     ensures books { A.books arena.new ≡ A.books arena.old }
 {
     arena.write_words(object.start, section);
@@ -139,13 +139,13 @@ fn fill_structs<A: BuilderArena, B: ReaderArena>(
     requires near { start.position + (1 + structs_words list) < 2 ^ 61 }
     requires source_near { list.start.position + structs_words list < 2 ^ 61 }
     requires all { length bytes.now ≡ 8 * structs_words list }
-    ensures copy { CopiesListedStructs (source_in levels (B.segments source.now))
-        (list_parts list bytes.now) start (limited (A.segments arena.old) limiter.old) result
+    ensures copy { CopiesListedStructs (source_in levels (B.segments source.now)
+        (list_parts list bytes.now)) start (limited (A.segments arena.old) limiter.old) result
         (limited (A.segments arena.new) limiter.new) }
     ensures cause { IsStoppedOr (visits_in_structs levels (B.segments source.now) list) limiter.old
         limiter.new (IsSizeOrRefusal A.refuses) result }
     ensures fits { let at = limited_in A.segments A.room A.books in FitsListedStructs
-        (source_in levels (B.segments source.now)) (list_parts list bytes.now) start
+        (source_in levels (B.segments source.now) (list_parts list bytes.now)) start
         (at arena.old limiter.old) result (at arena.new limiter.new) }
     ensures books { A.books arena.new ≡ A.books arena.old }
 {
@@ -200,13 +200,13 @@ fn fill_list<A: BuilderArena, B: ReaderArena>(
     requires near { start.position + copied_words (listed_object list) < 2 ^ 61 }
     requires few { most_counted (listed_object list) < 2 ^ 29 }
     requires held { HoldListed list bytes.now }
-    ensures copy { FillsListed (source_in levels (B.segments source.now))
-        (list_parts list bytes.now) start (limited (A.segments arena.old) limiter.old) result
+    ensures copy { FillsListed (source_in levels (B.segments source.now)
+        (list_parts list bytes.now)) start (limited (A.segments arena.old) limiter.old) result
         (limited (A.segments arena.new) limiter.new) }
     ensures cause { IsStoppedOr (visits_in_object levels (B.segments source.now)
         (listed_object list)) limiter.old limiter.new (IsSizeOrRefusal A.refuses) result }
     ensures fits { let at = limited_in A.segments A.room A.books in FitsBehindListed
-        (source_in levels (B.segments source.now)) (list_parts list bytes.now) start
+        (source_in levels (B.segments source.now) (list_parts list bytes.now)) start
         (at arena.old limiter.old) result (at arena.new limiter.new) }
     ensures books { A.books arena.new ≡ A.books arena.old }
 {
@@ -258,13 +258,13 @@ pub fn set_list<A: BuilderArena, B: ReaderArena>(
     requires there { HasWords (A.segments arena.old) slot 1 }
     requires near { slot.position < 2 ^ 61 }
     requires held { HoldListed list bytes.now }
-    ensures copy { CopiesList (source_in levels (B.segments source.now)) (list_parts list bytes.now)
+    ensures copy { CopiesList (source_in levels (B.segments source.now) (list_parts list bytes.now))
         (place_view slot) (limited (A.segments arena.old) limiter.old) result
         (limited (A.segments arena.new) limiter.new) }
     ensures cause { IsStoppedOr (visits_in_object levels (B.segments source.now)
         (listed_object list)) limiter.old limiter.new (IsSizeOrRefusal A.refuses) result }
     ensures fits { let at = limited_in A.segments A.room A.books in FitsListed
-        (source_in levels (B.segments source.now)) (list_parts list bytes.now) slot
+        (source_in levels (B.segments source.now) (list_parts list bytes.now)) slot
         (at arena.old limiter.old) result (at arena.new limiter.new) }
     ensures books { A.books arena.new ≡ A.books arena.old }
 {

@@ -46,13 +46,13 @@ pub fn set_struct<A: BuilderArena, B: ReaderArena>(
     requires there { HasWords (A.segments arena.old) slot 1 }
     requires near { (slot.position < 2 ^ 61) × (first.position + pointers < 2 ^ 62) }
     requires few { length section.now ≤ 8 * (2 ^ 16 - 1) }
-    ensures copy { CopiesStruct (source_in levels (B.segments source.now))
-        (struct_source section.now first pointers) (place_view slot) (limited (A.segments arena.old)
-        limiter.old) result (limited (A.segments arena.new) limiter.new) }
+    ensures copy { CopiesStruct (source_in levels (B.segments source.now)
+        (struct_source section.now first pointers)) (place_view slot) (limited
+        (A.segments arena.old) limiter.old) result (limited (A.segments arena.new) limiter.new) }
     ensures cause { IsStoppedOr (visits_in_row levels (B.segments source.now) (place_view first)
         pointers) limiter.old limiter.new (IsSizeOrRefusal A.refuses) result }
-    ensures fits { let at = limited_in A.segments A.room A.books in FitsStruct
-        (source_in levels (B.segments source.now)) (struct_source section.now first pointers) slot
+    ensures fits { let at = limited_in A.segments A.room A.books in FitsStruct (source_in levels
+        (B.segments source.now) (struct_source section.now first pointers)) slot
         (at arena.old limiter.old) result (at arena.new limiter.new) }
     ensures books { A.books arena.new ≡ A.books arena.old }
 {

@@ -1,5 +1,5 @@
 -- Copies of what readers stand at.
-use Rattle.std.specs.Prelude.{◌≡◌, ⊤, ℕ, Bool, true, false, min, List, Option, None, MatchOption, map, length, Result, Ok, Err}
+use Rattle.std.specs.Prelude.{◌≡◌, ⊤, ℕ, Bool, true, false, min, List, None, MatchOption, map, length, Result, Ok, Err}
 use Rattle.capnp_model.specs.Sections.{words_for}
 use Rattle.capnp_model.specs.Segments.{Segments, Place}
 use Rattle.capnp_units.specs.declared.errors.Error.{Error}
@@ -40,7 +40,7 @@ abbrev pub CopiesPointer : PointerView → Segments → Segments → Place → W
 CopiesPointer v s u p old result new =
     MatchOption v.levels (WithoutLevels s u old result new) (λ n.
     MatchOption v.place (BecomesNull s u p old result new) (λ q.
-    Charged v.basis.paid (λ l r m. CopiesValue (copy_source n v.basis.segments) q p (limited_words s l) r (limited_words u m)) old result new))
+    Charged v.basis.paid (λ l r m. CopiesValue (copy_source n v.basis.segments q) p (limited_words s l) r (limited_words u m)) old result new))
 
 -- The parts of a struct that is read.
 pub record IsSourceOf (v : StructView) (x : StructSource) : Type 0 where
@@ -53,7 +53,7 @@ pub record IsSourceOf (v : StructView) (x : StructSource) : Type 0 where
 abbrev pub SetsStruct : StructView → Segments → Segments → Place → Walk
 SetsStruct v s u p old result new =
     MatchOption v.levels (WithoutLevels s u old result new) (λ n.
-    Charged v.basis.paid (λ l r m. (x : StructSource) × IsSourceOf v x × CopiesStruct (copy_source n v.basis.segments) x p (limited_words s l) r (limited_words u m)) old result new)
+    Charged v.basis.paid (λ l r m. (x : StructSource) × IsSourceOf v x × CopiesStruct (copy_source n v.basis.segments x) p (limited_words s l) r (limited_words u m)) old result new)
 
 -- Nothing has levels: the copy is refused, but what fits of the data is taken over before. The pointers and all else stand.
 pub record TakesDataAlone (v : StructView) (s u : Segments) (o : StructPlace) (old : ReadLimiter) (result : Result ⊤ Error) (new : ReadLimiter) : Type 0 where
@@ -66,7 +66,7 @@ pub record TakesDataAlone (v : StructView) (s u : Segments) (o : StructPlace) (o
 abbrev pub TakesOver : StructView → Segments → Segments → StructPlace → Walk
 TakesOver v s u o old result new =
     MatchOption v.levels (TakesDataAlone v s u o old result new) (λ n.
-    Charged v.basis.paid (λ l r m. (x : StructSource) × IsSourceOf v x × CopiesContent (copy_source n v.basis.segments) x o (limited_words s l) r (limited_words u m)) old result new)
+    Charged v.basis.paid (λ l r m. (x : StructSource) × IsSourceOf v x × CopiesContent (copy_source n v.basis.segments x) o (limited_words s l) r (limited_words u m)) old result new)
 
 -- The parts of a list that is read.
 pub record IsListSourceOf (v : ListView) (x : ListSource) (bytes : List ℕ) : Type 0 where
@@ -81,7 +81,7 @@ pub record IsListSourceOf (v : ListView) (x : ListSource) (bytes : List ℕ) : T
 abbrev pub SetsList : ListView → Segments → Segments → Place → Walk
 SetsList v s u p old result new =
     MatchOption v.levels (WithoutLevels s u old result new) (λ n.
-    Charged v.basis.paid (λ l r m. (x : ListSource) × (bytes : List ℕ) × IsListSourceOf v x bytes × CopiesList (copy_source n v.basis.segments) (list_parts x bytes) p (limited_words s l) r (limited_words u m)) old result new)
+    Charged v.basis.paid (λ l r m. (x : ListSource) × (bytes : List ℕ) × IsListSourceOf v x bytes × CopiesList (copy_source n v.basis.segments (list_parts x bytes)) p (limited_words s l) r (limited_words u m)) old result new)
 
 -- What a copy takes where there is room, and why it is refused, of which `told` tells what doesn't come of what is read.
 abbrev pub IsTold : {X : Type 0} → CopyOf X → Wanted X → ArenaState → ArenaState → (Error → Type 0) → Walk
@@ -93,19 +93,19 @@ abbrev pub PointerTold : PointerView → ArenaState → ArenaState → ℕ → (
 PointerTold v s u i told old result new =
     MatchOption v.levels (Unit {0}) (λ n.
     MatchOption v.place (Unit {0}) (λ q.
-    Charged v.basis.paid (IsTold (copy_of_value (copy_source n v.basis.segments) q) (wanted object_words (HasLongList v.basis.segments) i) s u told) old result new))
+    Charged v.basis.paid (IsTold (copy_of_value (copy_source n v.basis.segments q)) (wanted object_words (HasLongList v.basis.segments) i) s u told) old result new))
 
 abbrev pub StructTold : StructView → ArenaState → ArenaState → ℕ → (Error → Type 0) → Walk
 StructTold v s u i told old result new =
     MatchOption v.levels (Unit {0}) (λ n.
-    Charged v.basis.paid (λ l r m. (x : StructSource) × IsSourceOf v x × IsTold (copy_of_struct (copy_source n v.basis.segments) x) (wanted object_words (HasLongList v.basis.segments) i) s u told l r m) old result new)
+    Charged v.basis.paid (λ l r m. (x : StructSource) × IsSourceOf v x × IsTold (copy_of_struct (copy_source n v.basis.segments x)) (wanted object_words (HasLongList v.basis.segments) i) s u told l r m) old result new)
 
 abbrev pub ContentTold : StructView → ArenaState → ArenaState → StructPlace → (Error → Type 0) → Walk
 ContentTold v s u o told old result new =
     MatchOption v.levels (Unit {0}) (λ n.
-    Charged v.basis.paid (λ l r m. (x : StructSource) × IsSourceOf v x × IsTold (copy_of_row (copy_source n v.basis.segments) (place_view x.first) (min x.pointers o.pointers)) (wanted each_object_words (HasLongList v.basis.segments) o.start.segment) s u told l r m) old result new)
+    Charged v.basis.paid (λ l r m. (x : StructSource) × IsSourceOf v x × IsTold (copy_of_row (copy_source n v.basis.segments (place_view x.first)) (min x.pointers o.pointers)) (wanted each_object_words (HasLongList v.basis.segments) o.start.segment) s u told l r m) old result new)
 
 abbrev pub ListTold : ListView → ArenaState → ArenaState → ℕ → (Error → Type 0) → Walk
 ListTold v s u i told old result new =
     MatchOption v.levels (Unit {0}) (λ n.
-    Charged v.basis.paid (λ l r m. (x : ListSource) × (bytes : List ℕ) × IsListSourceOf v x bytes × IsTold (copy_of_list (copy_source n v.basis.segments) (list_parts x bytes)) (wanted object_words (IsLong v.basis.segments (listed_object x)) i) s u told l r m) old result new)
+    Charged v.basis.paid (λ l r m. (x : ListSource) × (bytes : List ℕ) × IsListSourceOf v x bytes × IsTold (copy_of_list (copy_source n v.basis.segments (list_parts x bytes))) (wanted object_words (IsLong v.basis.segments (listed_object x)) i) s u told l r m) old result new)

@@ -11,7 +11,7 @@ use Rattle.capnp_layout_builders.specs.Copied.{Walk, Charged, WithoutLevels, Bec
 -- The value of the pointer at q is put in place of that at p, trimmed, by way of lent words. Or it
 -- is refused, and all words stand.
 pub record CopiesThrough (n : ℕ) (from : Segments) (q : Place) (lent after : List (List ℕ)) (s u : Segments) (p : Place) (old : ReadLimiter) (result : Result ⊤ Error) (new : ReadLimiter) : Type 0 where
-  pub copy : CopiesCanonical (lent_copy (copy_source n from) q lent) p (limited_words s old) result (limited_words u new)
+  pub copy : CopiesCanonical (lent_copy (copy_source n from q) lent) p (limited_words s old) result (limited_words u new)
   pub few : FollowsFew old new
   pub written : WritesFew old new lent after
 

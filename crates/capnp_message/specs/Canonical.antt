@@ -93,7 +93,7 @@ pub record CopiesWordsToRoot (n : ℕ) (words : List ℕ) (t u : Segments) (resu
   pub start : ReadLimiter
   pub end : ReadLimiter
   pub free : IsFree start
-  pub copies : CopiesValue (copy_source n (words ∷ [])) root root (limited_words t start) result (limited_words u end)
+  pub copies : CopiesValue (copy_source n (words ∷ []) root) root (limited_words t start) result (limited_words u end)
 
 -- The value of words is copied in place of the root's, or there is no word for the root.
 abbrev pub ReplacesRoot : ℕ → List ℕ → Segments → Segments → Result ⊤ Error → Type 0

@@ -103,7 +103,7 @@ pub record ElementTakesPart (levels : ℕ) (from : Segments) (x : StructSource) 
 abbrev pub TakesFields : ℕ → Segments → StructSource → Segments → Segments → ListPlace → ℕ → Walk
 TakesFields levels from x s u o i old result new =
     let k = min x.pointers o.pointers in
-    CopyGives (copy_of_row (copy_source levels from) (place_view x.first) k) (λ ts. ElementWithin levels s u o (fitted_edit x.section ts) i) (ElementTakesPart levels from x s u o i) (limited_words s old) result (limited_words u new)
+    CopyGives (copy_of_row (copy_source levels from (place_view x.first)) k) (λ ts. ElementWithin levels s u o (fitted_edit x.section ts) i) (ElementTakesPart levels from x s u o i) (limited_words s old) result (limited_words u new)
 
 -- Its section becomes what fits of this one, and its children stay.
 abbrev pub data_edit : ℕ → ℕ → ℕ → Edit

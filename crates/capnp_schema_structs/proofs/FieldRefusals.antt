@@ -32,7 +32,7 @@ both (inl a) k = inl a
 both (inr b) (inl a) = inl a
 both (inr b) (inr c) = inr (b, c)
 
-pub copy_refused : (told : Error → Type 0) (levels : ℕ) (f s u : Segments) (q p : Place) (old new : ReadLimiter) (r : Result ⊤ Error) → left_of old ≡ None → CopiesValue (copy_source levels f) q p (limited_words s old) r (limited_words u new) → IsStoppedOr (visits levels f q) old new told r
+pub copy_refused : (told : Error → Type 0) (levels : ℕ) (f s u : Segments) (q p : Place) (old new : ReadLimiter) (r : Result ⊤ Error) → left_of old ≡ None → CopiesValue (copy_source levels f q) p (limited_words s old) r (limited_words u new) → IsStoppedOr (visits levels f q) old new told r
     → IfErr r (CopyRefused told levels f q u)
 copy_refused told levels f s u q p old new (Ok x) none h k = tt
 copy_refused told levels f s u q p old new (Err e) none h k = record { old = old; new = new; unlimited = none; why = both h.why k }

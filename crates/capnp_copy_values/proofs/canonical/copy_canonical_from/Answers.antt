@@ -64,7 +64,7 @@ returns-clause-copy g c =
     let is = ap (λ (x : Ground). x.segments) c.default_backing-copy.ensures ∙ c.segments_of_words.ensures ∙ ap (λ (ws : List ℕ). ws ∷ []) words in
     copied n from q c.args.lent.now s u p c.args.limiter.now c.write_canonical.new.limiter c.new-unlimited.result c.copy_from.new.limiter c.copy_from.result t (cost_at n (canonical_message t) root)
     (record { there_is = wrote.there_is; clean = wrote.clean; walked = wrote.walked }) means costs (record { endless = c.new-unlimited.ensures.limit; unused = c.new-unlimited.ensures.granted })
-    (subst (λ (f : Segments). CopiesValue (copy_source n f) root p (limited_words s c.new-unlimited.result) c.copy_from.result (limited_words u c.copy_from.new.limiter)) is c.copy_from.ensures.copy)
+    (subst (λ (f : Segments). CopiesValue (copy_source n f root) p (limited_words s c.new-unlimited.result) c.copy_from.result (limited_words u c.copy_from.new.limiter)) is c.copy_from.ensures.copy)
 
 pub returns-clause-told : goal.returns-clause-told
 returns-clause-told g c =

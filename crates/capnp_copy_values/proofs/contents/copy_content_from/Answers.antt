@@ -40,7 +40,7 @@ returns-in_err-fill_row-clause-content g c =
     let k = min c.args.pointers c.args.object.pointers in
     let r = err_from_is_err_and c.from_residual.result c.from_residual.ensures.1 in
     let e = c.in_err-fill_row.field-0.0 in
-    refused_is from (each (tree_at n from) (place_view c.args.first) (min c.args.pointers c.args.object.pointers)) (from_each (visits n from) (place_view c.args.first) (min c.args.pointers c.args.object.pointers)) (TakesContent n s u c.args.object (number_of 8 c.args.section.now)) (TakesPart (copy_source n from) (struct_source c.args.section.now c.args.first c.args.pointers) s u c.args.object) s u c.args.limiter.now c.fill_row.new.limiter c.from_residual.result r.0 e r.1 r.2
+    refused_is from (each (tree_at n from) (place_view c.args.first) (min c.args.pointers c.args.object.pointers)) (from_each (visits n from) (place_view c.args.first) (min c.args.pointers c.args.object.pointers)) (TakesContent n s u c.args.object (number_of 8 c.args.section.now)) (TakesPart (copy_source n from (struct_source c.args.section.now c.args.first c.args.pointers)) s u c.args.object) s u c.args.limiter.now c.fill_row.new.limiter c.from_residual.result r.0 e r.1 r.2
     (content_refused n from (struct_source c.args.section.now c.args.first c.args.pointers) s m u c.args.object c.min-shared.result c.args.limiter.now c.fill_row.new.limiter e c.min-shared.ensures c.copy_data_from.ensures.section c.copy_data_from.ensures.sizes c.in_err-fill_row.ensures.copy)
 
 pub returns-clause-content : goal.returns-clause-content

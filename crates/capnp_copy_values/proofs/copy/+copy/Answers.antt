@@ -403,7 +403,7 @@ fill_row-returns-in_err-copy_from-clause-copy g t c =
     let count = c.args.count in
     let r = err_from_is_err_and c.from_residual.result c.from_residual.ensures.1 in
     let e = c.in_err-copy_from.field-0.0 in
-    refused_is from (each (tree_at n from) p count) (from_each (visits n from) p count) (FillsRow n s w (sized_at q d count)) (LeavesRow (copy_source n from) p s w (sized_at q d count)) s w c.args.limiter.now c.copy_from.new.limiter c.from_residual.result r.0 e r.1 r.2
+    refused_is from (each (tree_at n from) p count) (from_each (visits n from) p count) (FillsRow n s w (sized_at q d count)) (LeavesRow (copy_source n from p) s w (sized_at q d count)) s w c.args.limiter.now c.copy_from.new.limiter c.from_residual.result r.0 e r.1 r.2
     (row_stopped n from p count s q d c.args.limiter.now c.loop-i.i u w c.loop-i.limiter c.copy_from.new.limiter c.loop-i-test.true c.loop-i.invariant.0 e c.in_err-copy_from.ensures.copy)
 
 pub fill_row-loop-i-preserved : goal.fill_row-loop-i-preserved

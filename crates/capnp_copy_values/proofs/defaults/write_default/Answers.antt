@@ -35,7 +35,7 @@ returns-clause-default g c =
         new = c.copy_from.new.limiter;
         endless = c.new-limiter.ensures.limit;
         unused = c.new-limiter.ensures.granted;
-        copies = subst (λ (f : Segments). CopiesValue (copy_source 64 f) root p (limited_words s c.new-limiter.result) c.copy_from.result (limited_words u c.copy_from.new.limiter)) is c.copy_from.ensures.copy;
+        copies = subst (λ (f : Segments). CopiesValue (copy_source 64 f root) p (limited_words s c.new-limiter.result) c.copy_from.result (limited_words u c.copy_from.new.limiter)) is c.copy_from.ensures.copy;
       };
       kept = λ e. absurd (both (is_null_or_absent s p) (is_null_or_absent (default_segments c.args.default.now) root) null_here some_here e);
     }
