@@ -17,7 +17,7 @@ use Rattle.capnp_model_writes.specs.Changes.{ReplacesObject}
 use Rattle.capnp_copy_arenas.specs.Structs.{object_of_struct}
 use Rattle.capnp_copy_arenas.specs.Values.{LeadsTo}
 use Rattle.capnp_copy_arenas.specs.declared.fields.StructPlace.{StructPlace}
-use Rattle.capnp_copy_values.specs.Copies.{StructSource}
+use Rattle.capnp_copy_values.specs.Copies.{StructSource, copy_source, limited_words}
 use Rattle.capnp_copy_values.specs.Contents.{CopiesContent, TakesContent}
 use Rattle.capnp_schema_structs.proofs.lemmas.Deeper.{object_owned_more}
 use Rattle.capnp_schema_structs.specs.Grown.{GrowsAround}
@@ -77,7 +77,7 @@ taken levels s u o w section kids ts few made same n own old owns =
     subst (λ x. ReplacesObject (n + 65) s u (object_of_struct o) (structure o.data_words (section % 2 ^ (64 * o.data_words)) x)) same (made (n + 65) own old (omega (arith, few)) more)
 
 module _ (levels : ℕ) (few : levels ≤ 65) (from : Segments) (p : Place) (x : StructSource) (s u : Segments) (o : StructPlace) (old new : ReadLimiter) where
-  pub struct_taken : (r : Result ⊤ Error) → CopiesContent levels from x s u o old r new → (q : Place) (d : ℕ) → LeadsTo from p (a_struct q d x.pointers) → x.section ≡ section_at from q d → place_view x.first ≡ after q d
+  pub struct_taken : (r : Result ⊤ Error) → CopiesContent (copy_source levels from x) o (limited_words s old) r (limited_words u new) → (q : Place) (d : ℕ) → LeadsTo from p (a_struct q d x.pointers) → x.section ≡ section_at from q d → place_view x.first ≡ after q d
       → (t : Tree) → tree_at (suc levels) from p ≡ Some t → OnOk r (TakesTree s u o (message_root t))
   struct_taken (Err e) h q d leads section first t reads = tt
   struct_taken (Ok y) h q d leads section first t reads =
@@ -88,7 +88,7 @@ module _ (levels : ℕ) (few : levels ≤ 65) (from : Segments) (p : Place) (x :
       let here : TakesTree s u o (structure d c.section c.kids) = subst (λ z. TakesTree s u o (structure d z c.kids)) (section ∙ c.section_is) all in
       subst (λ z. TakesTree s u o (message_root z)) (sym c.is) here
 
-  pub null_taken : (r : Result ⊤ Error) → CopiesContent levels from x s u o old r new → LeadsTo from p nothing → x.section ≡ 0 → x.pointers ≡ 0 → (t : Tree) → tree_at (suc levels) from p ≡ Some t → OnOk r (TakesTree s u o (message_root t))
+  pub null_taken : (r : Result ⊤ Error) → CopiesContent (copy_source levels from x) o (limited_words s old) r (limited_words u new) → LeadsTo from p nothing → x.section ≡ 0 → x.pointers ≡ 0 → (t : Tree) → tree_at (suc levels) from p ≡ Some t → OnOk r (TakesTree s u o (message_root t))
   null_taken (Err e) h leads section none_there t reads = tt
   null_taken (Ok y) h leads section none_there t reads =
       let zero_first : min x.pointers o.pointers ≡ 0 = omega (arith, none_there) in
@@ -98,7 +98,7 @@ module _ (levels : ℕ) (few : levels ≤ 65) (from : Segments) (p : Place) (x :
       let here : TakesTree s u o (structure 0 0 none) = subst (λ z. TakesTree s u o (structure 0 z none)) section all in
       subst (λ z. TakesTree s u o (message_root z)) (sym (null_content levels from p t leads reads)) here
 
-  pub content_grows : (r : Result ⊤ Error) → CopiesContent levels from x s u o old r new → GrowsAround s u o
+  pub content_grows : (r : Result ⊤ Error) → CopiesContent (copy_source levels from x) o (limited_words s old) r (limited_words u new) → GrowsAround s u o
   content_grows (Ok y) h n section kids owns = h.grows
   content_grows (Err e) h n section kids owns =
       (h.left.left (n + levels) section kids (omega arith) (object_owned_more n (n + levels) s (object_of_struct o) (structure o.data_words section kids) (omega arith) owns)).changes.grows

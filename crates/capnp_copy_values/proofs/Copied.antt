@@ -18,9 +18,9 @@ use Rattle.capnp_wire_canonical.specs.Copies.{copy_visits, Halted, Unwritten, Wr
 use Rattle.capnp_model.specs.Sizes.{object_words}
 use Rattle.capnp_units.specs.declared.kinds.ErrorKind.TheVariants.{SizeOverflow}
 use Rattle.capnp_copy_arenas.specs.States.{ArenaState}
-use Rattle.capnp_copy_values.specs.Copies.{BecomesCopy, CopiesValue, FollowsFew, Unplaced, IsStoppedOr}
-use Rattle.capnp_copy_values.specs.Fits.{HasRoomIn, TakesIn, HasLongList, FitsWhereRoom}
-use Rattle.capnp_copy_values.specs.Canonical.{IsReadForCopy, IsTooShort, canonical_message, CopiesCanonical, CanonicalTold, HasNoRoomForCanonical}
+use Rattle.capnp_copy_values.specs.Copies.{BecomesCopy, CopiesValue, FollowsFew, Unplaced, IsStoppedOr, copy_source, limited_words}
+use Rattle.capnp_copy_values.specs.Fits.{HasRoomIn, TakesIn, HasLongList, FitsWhereRoom, limited_arena, wanted}
+use Rattle.capnp_copy_values.specs.Canonical.{IsReadForCopy, IsTooShort, canonical_message, CopiesCanonical, CanonicalTold, HasNoRoomForCanonical, lent_copy}
 use Rattle.capnp_wire_objects.proofs.lemmas.Walks.{free_left, unstopped}
 
 -- ---- what is written
@@ -44,16 +44,16 @@ module _ (path : List Visit) (begun : (before rest : List Visit) (paid : ℕ) �
 
 -- ---- the copy
 
-pub halted : (n : ℕ) (from : Segments) (q : Place) (lent : List (List ℕ)) (s : Segments) (p : Place) (old : ReadLimiter) (e : Error) (into : List (List ℕ)) (new : ReadLimiter) (r : Result ⊤ Error) (d : Error) → r ≡ Err d → d ≡ e → Unwritten (tree_at n from q) (λ t words. canonical_words (trim t)) (copy_visits n from q) 1 1 lent old e into new → CopiesCanonical n from q lent s s p old r new
+pub halted : (n : ℕ) (from : Segments) (q : Place) (lent : List (List ℕ)) (s : Segments) (p : Place) (old : ReadLimiter) (e : Error) (into : List (List ℕ)) (new : ReadLimiter) (r : Result ⊤ Error) (d : Error) → r ≡ Err d → d ≡ e → Unwritten (tree_at n from q) (λ t words. canonical_words (trim t)) (copy_visits n from q) 1 1 lent old e into new → CopiesCanonical (lent_copy (copy_source n from q) lent) p (limited_words s old) r (limited_words s new)
 halted n from q lent s p old e into new r d is same h =
-    subst (λ (y : Result ⊤ Error). CopiesCanonical n from q lent s s p old y new) (sym (is ∙ ap (λ (y : Error). Err y) same)) (record { left = changes_nothing s (λ q. 0); why = inl (refl, by h.halted.why) })
+    subst (λ (y : Result ⊤ Error). CopiesCanonical (lent_copy (copy_source n from q) lent) p (limited_words s old) y (limited_words s new)) (sym (is ∙ ap (λ (y : Error). Err y) same)) (record { left = changes_nothing s (λ q. 0); why = inl (refl, by h.halted.why) })
   where
-    by : Stopped (copy_visits n from q) old e new ⊎ Filled (copy_visits n from q) (room_of lent) 1 old e new → Stopped (copy_visits n from q) old e new ⊎ IsTooShort n from q lent old e new
+    by : Stopped (copy_visits n from q) old e new ⊎ Filled (copy_visits n from q) (room_of lent) 1 old e new → Stopped (copy_visits n from q) old e new ⊎ IsTooShort (lent_copy (copy_source n from q) lent) old e new
     by (inl stop) = inl stop
     by (inr few) = inr (few, h.full few.why)
 
-pub copied : (n : ℕ) (from : Segments) (q : Place) (lent : List (List ℕ)) (s u : Segments) (p : Place) (old new start stop : ReadLimiter) (r : Result ⊤ Error) (t : Tree) (cost : ℕ) → IsReadForCopy n from q t old new → tree_at n (canonical_message t) root ≡ Some (trim t) → visits_cost (visits n (canonical_message t) root) ≡ Some cost → IsFree start
-    → CopiesValue n (canonical_message t) root s u p start r stop → CopiesCanonical n from q lent s u p old r new
+pub copied : (n : ℕ) (from : Segments) (q : Place) (lent : List (List ℕ)) (s u : Segments) (p : Place) (old new start stop : ReadLimiter) (r : Result ⊤ Error) (t : Tree) (cost : ℕ) → IsReadForCopy (copy_source n from q) t old new → tree_at n (canonical_message t) root ≡ Some (trim t) → visits_cost (visits n (canonical_message t) root) ≡ Some cost → IsFree start
+    → CopiesValue (copy_source n (canonical_message t) root) p (limited_words s start) r (limited_words u stop) → CopiesCanonical (lent_copy (copy_source n from q) lent) p (limited_words s old) r (limited_words u new)
 copied n from q lent s u p old new start stop (Ok x) t cost read means costs free g =
     record {
       value = t;
@@ -64,22 +64,22 @@ copied n from q lent s u p old new start stop (Ok x) t cost read means costs fre
     }
 copied n from q lent s u p old new start stop (Err e) t cost read means costs free g = record { left = g.left; why = inr (by g.why) }
   where
-    by : Stopped (visits n (canonical_message t) root) start e stop ⊎ Unplaced (canonical_message t) (visits n (canonical_message t) root) u start e stop → HasNoRoomForCanonical n from q s u old e new
+    by : Stopped (visits n (canonical_message t) root) start e stop ⊎ Unplaced (canonical_message t) (visits n (canonical_message t) root) u start e stop → HasNoRoomForCanonical (copy_source n from q) (limited_words s old) e (limited_words u new)
     by (inl x) = absurd (unstopped (visits n (canonical_message t) root) cost start stop e costs (free_left start free) x)
     by (inr x) = record { value = t; read = read; start = start; end = stop; free = free; unplaced = x; takes = g.takes }
 
 -- ---- what it takes, and why it is refused
 
-pub halted_told : (n : ℕ) (from : Segments) (q : Place) (lent : List (List ℕ)) (s u : ArenaState) (i : ℕ) (told : Error → Type 0) (old : ReadLimiter) (e : Error) (into : List (List ℕ)) (new : ReadLimiter) (r : Result ⊤ Error) (d : Error) → r ≡ Err d → d ≡ e → Unwritten (tree_at n from q) (λ t words. canonical_words (trim t)) (copy_visits n from q) 1 1 lent old e into new → CanonicalTold n from q lent s u i told old r new
+pub halted_told : (n : ℕ) (from : Segments) (q : Place) (lent : List (List ℕ)) (s u : ArenaState) (i : ℕ) (told : Error → Type 0) (old : ReadLimiter) (e : Error) (into : List (List ℕ)) (new : ReadLimiter) (r : Result ⊤ Error) (d : Error) → r ≡ Err d → d ≡ e → Unwritten (tree_at n from q) (λ t words. canonical_words (trim t)) (copy_visits n from q) 1 1 lent old e into new → CanonicalTold (lent_copy (copy_source n from q) lent) i told (limited_arena s old) r (limited_arena u new)
 halted_told n from q lent s u i told old e into new r d is same h =
-    subst (λ (y : Result ⊤ Error). CanonicalTold n from q lent s u i told old y new) (sym (is ∙ ap (λ (y : Error). Err y) same)) (inl (by h.halted.why))
+    subst (λ (y : Result ⊤ Error). CanonicalTold (lent_copy (copy_source n from q) lent) i told (limited_arena s old) y (limited_arena u new)) (sym (is ∙ ap (λ (y : Error). Err y) same)) (inl (by h.halted.why))
   where
-    by : Stopped (copy_visits n from q) old e new ⊎ Filled (copy_visits n from q) (room_of lent) 1 old e new → Stopped (copy_visits n from q) old e new ⊎ IsTooShort n from q lent old e new
+    by : Stopped (copy_visits n from q) old e new ⊎ Filled (copy_visits n from q) (room_of lent) 1 old e new → Stopped (copy_visits n from q) old e new ⊎ IsTooShort (lent_copy (copy_source n from q) lent) old e new
     by (inl stop) = inl stop
     by (inr few) = inr (few, h.full few.why)
 
 pub copied_told : (n : ℕ) (from : Segments) (q : Place) (lent : List (List ℕ)) (s u : ArenaState) (i : ℕ) (told : Error → Type 0) (old new start stop : ReadLimiter) (r : Result ⊤ Error) (t : Tree) (cost : ℕ) → tree_at n from q ≡ Some t → tree_at n (canonical_message t) root ≡ Some (trim t) → visits_cost (visits n (canonical_message t) root) ≡ Some cost → IsFree start
-    → FitsWhereRoom object_words (tree_at n (canonical_message t) root) (visits n (canonical_message t) root) (HasLongList (canonical_message t)) i s u start r stop → IsStoppedOr (visits n (canonical_message t) root) start stop told r → CanonicalTold n from q lent s u i told old r new
+    → FitsWhereRoom (tree_at n (canonical_message t) root) (visits n (canonical_message t) root) (wanted object_words (HasLongList (canonical_message t)) i) (limited_arena s start) r (limited_arena u stop) → IsStoppedOr (visits n (canonical_message t) root) start stop told r → CanonicalTold (lent_copy (copy_source n from q) lent) i told (limited_arena s old) r (limited_arena u new)
 copied_told n from q lent s u i told old new start stop (Ok x) t cost there means costs free fits why = λ v is h. (
     let same : t ≡ v = some_is _ _ (sym there ∙ is) in
     subst (λ (y : Tree). TakesIn s u i (object_words (trim y))) same (fits (trim t) means (subst (λ (y : Tree). HasRoomIn s i (object_words (trim y))) (sym same) h))

@@ -1,17 +1,16 @@
 -- How many pointers a copy follows.
 use Rattle.std.specs.Bool.{⊤}
-use Rattle.std.proofs.Common.{◌≡◌, ◌⊎◌, ℕ, ◌+◌, ◌≤◌, List, [], ◌∷◌, ◌++◌, length, Some, Result, Ok, Err, refl, ap, sym, ◌∙◌, inl, inr, arith}
+use Rattle.std.proofs.Common.{◌≡◌, ◌⊎◌, ℕ, ◌+◌, List, [], ◌∷◌, ◌++◌, length, Some, Result, Ok, Err, ap, sym, ◌∙◌, inl, inr, arith}
 use Rattle.std.proofs.lemmas.List.{length-append, append_assoc, append-nil}
 use Rattle.capnp_model.specs.Segments.{Segments, Place}
 use Rattle.capnp_model.specs.Visits.{Visit, visits, visits_cost}
-use Rattle.capnp_model.proofs.lemmas.Chaining.{bind_some, some_is}
 use Rattle.capnp_model.proofs.lemmas.Visits.{follows_few, cost_front}
 use Rattle.capnp_units.specs.declared.errors.Error.{Error}
 use Rattle.capnp_units.specs.declared.limiter.ReadLimiter.{ReadLimiter}
 use Rattle.capnp_wire_objects.specs.Follow.{follow_cost}
 use Rattle.capnp_wire_objects.specs.Walks.{Walked, Stopped}
 use Rattle.capnp_model.proofs.lemmas.Lists.{last_of}
-use Rattle.capnp_copy_values.specs.Copies.{Unplaced, CopiesValue, FollowsFew}
+use Rattle.capnp_copy_values.specs.Copies.{Unplaced, CopiesValue, FollowsFew, copy_source, limited_words}
 
 walked_few : (n : ℕ) (s : Segments) (p : Place) (path rest : List Visit) (old new : ReadLimiter) → visits n s p ≡ path ++ rest → Walked path old new → FollowsFew old new
 walked_few n s p [] rest old new is w = record { granted = w.cost; followed = 0; spends = w.spends; follows = w.follows; few = omega arith }
@@ -37,7 +36,7 @@ unplaced_few n s p u old new e x =
     let last : Visit = Ok (follow_cost x.found) in
     walked_few n s p (x.before ++ last ∷ []) x.rest old new (x.path_is ∙ sym (append_assoc x.before (last ∷ []) x.rest)) x.walked
 
-pub copy_few : (n : ℕ) (from : Segments) (q : Place) (s u : Segments) (p : Place) (old new : ReadLimiter) (r : Result ⊤ Error) → CopiesValue n from q s u p old r new → FollowsFew old new
+pub copy_few : (n : ℕ) (from : Segments) (q : Place) (s u : Segments) (p : Place) (old new : ReadLimiter) (r : Result ⊤ Error) → CopiesValue (copy_source n from q) p (limited_words s old) r (limited_words u new) → FollowsFew old new
 copy_few n from q s u p old new (Ok x) g = walked_few n from q (visits n from q) [] old new (sym (append-nil (visits n from q))) g.walked
 copy_few n from q s u p old new (Err e) g = by g.why
   where

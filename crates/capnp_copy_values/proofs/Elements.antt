@@ -23,19 +23,19 @@ use Rattle.capnp_model_writes.specs.Children.{with_first_elements}
 use Rattle.capnp_model_writes.specs.Elements.{element_at, with_element}
 use Rattle.capnp_model_writes.specs.Footprints.{behind, object_footprint, OwnsObject}
 use Rattle.capnp_model_writes.specs.Changes.{ReplacesObject}
-use Rattle.capnp_model_writes.specs.Writes.{with_words, spliced}
+use Rattle.capnp_model_writes.specs.Writes.{with_words}
 use Rattle.capnp_model_writes.proofs.lemmas.Algebra.{changes_nothing}
 use Rattle.capnp_model_writes.proofs.lemmas.Cells.{ElementParts, element_parts, list_of_parts, tag_alike, list_of_element}
 use Rattle.capnp_model_writes.proofs.lemmas.Lift.{object_replaced_owned, object_replaced_then}
 use Rattle.capnp_model_writes.proofs.lemmas.Rows.{after_none}
 use Rattle.capnp_model_writes.proofs.lemmas.Spans.{held, held_is, grows_same, grows_then}
-use Rattle.capnp_model_writes.proofs.lemmas.Splices.{Rewrites, splice_rewrites, splice_words, splice_grows, spliced_whole}
+use Rattle.capnp_model_writes.proofs.lemmas.Splices.{Rewrites, splice_rewrites, splice_words, splice_grows}
 use Rattle.capnp_model_writes.proofs.lemmas.Turns.{structs_here, structs_next, elements_done, element_shape, elements_counted}
 use Rattle.capnp_model_writes.proofs.lemmas.Writing.{wider, changes_inside}
 use Rattle.capnp_model_writes.proofs.lemmas.Prepared.{behind_first}
 use Rattle.capnp_model.proofs.lemmas.ReadFits.{words_length}
 use Rattle.capnp_model.proofs.lemmas.Counts.{each_element_count}
-use Rattle.capnp_copy_values.specs.Copies.{TakesFew, Copied, Refused, FillsStruct, LeavesStruct, FillsElements, LeavesElements}
+use Rattle.capnp_copy_values.specs.Copies.{TakesFew, Copied, Refused, FillsStruct, LeavesStruct, FillsElements, LeavesElements, limited_words, sized_at}
 use Rattle.capnp_copy_values.proofs.Parts.{there_length, part_is}
 use Rattle.capnp_copy_values.proofs.Refusals.{why_later}
 use Rattle.capnp_copy_arenas.specs.Allocations.{total_words}
@@ -119,7 +119,7 @@ module _ (levels : ℕ) (from : Segments) (p : Place) (ws : List ℕ) (d k count
 
   module _ (i : ℕ) (u w : Segments) (m m' : ReadLimiter) (in_row : i < count) (so : ElementsSoFar levels from p ws d k count i s u r l m) where
     pub elements_next : (section : ℕ) → section ≡ section_of (take d (drop (i * (d + k)) ws))
-        → Copied (each (tree_at levels from) (after (after p (i * (d + k))) d) k) (from_each (visits levels from) (after (after p (i * (d + k))) d) k) (FillsStruct levels u w (after (after r 1) (i * (d + k))) d k section) u w m m'
+        → Copied (each (tree_at levels from) (after (after p (i * (d + k))) d) k) (from_each (visits levels from) (after (after p (i * (d + k))) d) k) (FillsStruct levels u w (sized_at (after (after r 1) (i * (d + k))) d k) section) (limited_words u m) (limited_words w m')
         → ElementsSoFar levels from p ws d k count (i + 1) s w r l m'
     elements_next section is x = record {
       first = chained so.first (element section x.value no_elements);
@@ -151,8 +151,8 @@ module _ (levels : ℕ) (from : Segments) (p : Place) (ws : List ℕ) (d k count
             → (each (tree_at levels from) (after (after p (i * (d + k))) d) k >>= λ ts. each_element (tree_at levels from) (after p ((i + 1) * (d + k))) (drop ((i + 1) * (d + k)) ws) d k (count - (i + 1)) >>= λ es. Some (element (section_of (take d (drop (i * (d + k)) ws))) ts es)) ≡ Some (element (section_of (take d (drop (i * (d + k)) ws))) ts es)
         found ts es e g = rw (e, g) refl
 
-    pub elements_stopped : (e : Error) → Refused from (from_each (visits levels from) (after (after p (i * (d + k))) d) k) (LeavesStruct levels u w (after (after r 1) (i * (d + k))) d k) u w m e m'
-        → Refused from (from_elements (visits levels from) p d k count) (LeavesElements levels s w r d k count) s w l e m'
+    pub elements_stopped : (e : Error) → Refused from (from_each (visits levels from) (after (after p (i * (d + k))) d) k) (LeavesStruct levels u w (sized_at (after (after r 1) (i * (d + k))) d k)) (limited_words u m) e (limited_words w m')
+        → Refused from (from_elements (visits levels from) p d k count) (LeavesElements levels s w (sized_at r d k) count) (limited_words s l) e (limited_words w m')
     elements_stopped e x = record {
       left = λ n fs h c o. (
           let now = so.made n fs h c o in
@@ -173,7 +173,7 @@ module _ (levels : ℕ) (from : Segments) (p : Place) (ws : List ℕ) (d k count
     }
 
   pub elements_ended : (i : ℕ) (u : Segments) (m : ReadLimiter) → i ≡ count → ElementsSoFar levels from p ws d k count i s u r l m
-      → Copied (each_element (tree_at levels from) p ws d k count) (from_elements (visits levels from) p d k count) (FillsElements levels s u r d k count) s u l m
+      → Copied (each_element (tree_at levels from) p ws d k count) (from_elements (visits levels from) p d k count) (FillsElements levels s u (sized_at r d k) count) (limited_words s l) (limited_words u m)
   elements_ended i u m all so =
       let past : count ≤ i = omega (arith, all) in
       let at = after p (i * (d + k)) in
@@ -250,7 +250,7 @@ plain_replaced n s u r m d fs es vs long number now read o =
         })
 
 words_at_once : (levels : ℕ) (from : Segments) (p : Place) (ws : List ℕ) (d count : ℕ) (s u : Segments) (r : Place) (l : ReadLimiter) → count * d ≤ length ws → u ≡ with_words s (after r 1) (take (count * d) ws)
-    → Copied (each_element (tree_at levels from) p ws d 0 count) (from_elements (visits levels from) p d 0 count) (FillsElements levels s u r d 0 count) s u l l
+    → Copied (each_element (tree_at levels from) p ws d 0 count) (from_elements (visits levels from) p d 0 count) (FillsElements levels s u (sized_at r d 0) count) (limited_words s l) (limited_words u l)
 words_at_once levels from p ws d count s u r l fit now =
     let read = plain_elements_read (tree_at levels from) p ws d count in
     let number : element_count read.0 ≡ count = each_element_count (tree_at levels from) p ws d 0 count read.0 read.1 in
@@ -270,29 +270,29 @@ words_at_once levels from p ws d count s u r l fit now =
 
 -- the same, of a list of structs that are told to have no pointers
 pub all_at_once : (levels : ℕ) (from : Segments) (p : Place) (ws : List ℕ) (d k count : ℕ) (s u : Segments) (r : Place) (l : ReadLimiter) → k ≡ 0 → length ws ≡ count * (d + k) → u ≡ with_words s (after r 1) ws
-    → Copied (each_element (tree_at levels from) p ws d k count) (from_elements (visits levels from) p d k count) (FillsElements levels s u r d k count) s u l l
+    → Copied (each_element (tree_at levels from) p ws d k count) (from_elements (visits levels from) p d k count) (FillsElements levels s u (sized_at r d k) count) (limited_words s l) (limited_words u l)
 all_at_once levels from p ws d k count s u r l nil long now =
     let same : count * (d + k) ≡ count * d = ap (λ (j : ℕ). count * (d + j)) nil ∙ ap (λ (w : ℕ). count * w) (no_more d) in
     let few : length ws ≤ count * d = omega (arith, long, same) in
     let whole : u ≡ with_words s (after r 1) (take (count * d) ws) = now ∙ ap (with_words s (after r 1)) (sym (take_all (count * d) ws few)) in
-    subst (λ (j : ℕ). Copied (each_element (tree_at levels from) p ws d j count) (from_elements (visits levels from) p d j count) (FillsElements levels s u r d j count) s u l l) (sym nil)
+    subst (λ (j : ℕ). Copied (each_element (tree_at levels from) p ws d j count) (from_elements (visits levels from) p d j count) (FillsElements levels s u (sized_at r d j) count) (limited_words s l) (limited_words u l)) (sym nil)
     (words_at_once levels from p ws d count s u r l (omega (arith, long, same)) whole)
   where
     no_more : (d : ℕ) → d + 0 ≡ d
     no_more d = omega arith
 
 plain_at_once : (levels : ℕ) (from : Segments) (p : Place) (words d count : ℕ) (s u : Segments) (r : Place) (l : ReadLimiter) → is_some (words_at from p words) ≡ true → count * d ≤ words → u ≡ with_words s (after r 1) (words_there from p (count * d))
-    → Copied (each_element (tree_at levels from) p (words_there from p words) d 0 count) (from_elements (visits levels from) p d 0 count) (FillsElements levels s u r d 0 count) s u l l
+    → Copied (each_element (tree_at levels from) p (words_there from p words) d 0 count) (from_elements (visits levels from) p d 0 count) (FillsElements levels s u (sized_at r d 0) count) (limited_words s l) (limited_words u l)
 plain_at_once levels from p words d count s u r l there fit now =
     let front : words_there from p (count * d) ≡ take (count * d) (words_there from p words) = ap (λ (q : Place). words_there from q (count * d)) (sym (after_none p)) ∙ part_is from p words there 0 (count * d) (omega (arith, fit)) in
     let long = there_length from p words there in
     words_at_once levels from p (words_there from p words) d count s u r l (omega (arith, long, fit)) (now ∙ ap (with_words s (after r 1)) front)
 
 pub elements_at_once : (levels : ℕ) (from : Segments) (p : Place) (words d k count : ℕ) (s u : Segments) (r : Place) (l : ReadLimiter) → k ≡ 0 → is_some (words_at from p words) ≡ true → count * (d + k) ≤ words → u ≡ with_words s (after r 1) (words_there from p (count * d))
-    → Copied (each_element (tree_at levels from) p (words_there from p words) d k count) (from_elements (visits levels from) p d k count) (FillsElements levels s u r d k count) s u l l
+    → Copied (each_element (tree_at levels from) p (words_there from p words) d k count) (from_elements (visits levels from) p d k count) (FillsElements levels s u (sized_at r d k) count) (limited_words s l) (limited_words u l)
 elements_at_once levels from p words d k count s u r l nil there fit now =
     let less : count * d ≤ words = (let e : count * (d + k) ≡ count * d = ap (λ (j : ℕ). count * (d + j)) nil ∙ ap (λ (w : ℕ). count * w) (no_more d) in omega (arith, e, fit)) in
-    subst (λ (j : ℕ). Copied (each_element (tree_at levels from) p (words_there from p words) d j count) (from_elements (visits levels from) p d j count) (FillsElements levels s u r d j count) s u l l) (sym nil)
+    subst (λ (j : ℕ). Copied (each_element (tree_at levels from) p (words_there from p words) d j count) (from_elements (visits levels from) p d j count) (FillsElements levels s u (sized_at r d j) count) (limited_words s l) (limited_words u l)) (sym nil)
     (plain_at_once levels from p words d count s u r l there less now)
   where
     no_more : (d : ℕ) → d + 0 ≡ d

@@ -1,15 +1,14 @@
 -- What is taken where there is room near the pointer.
 use Rattle.std.specs.Bool.{⊤}
-use Rattle.std.proofs.Common.{◌≡◌, ◌⊎◌, ◌↔◌, inl, inr, ℕ, zero, suc, ◌+◌, ◌-◌, ◌*◌, ◌^◌, ◌<◌, ◌≤◌, true, List, [], ◌∷◌, ◌++◌, drop, length, map, get_or, replicate, Option, Some, Result, Ok, Err, refl, ap, sym, ◌∙◌, subst, arith}
+use Rattle.std.proofs.Common.{◌≡◌, ◌⊎◌, ◌↔◌, inl, inr, ℕ, zero, suc, ◌+◌, ◌*◌, ◌^◌, ◌<◌, ◌≤◌, true, List, [], ◌∷◌, drop, length, map, get_or, replicate, Option, Some, Result, Ok, Err, refl, ap, sym, ◌∙◌, subst, arith}
 use Rattle.std.proofs.lemmas.List.{length-map, length-append, length-replicate}
 use Rattle.capnp_model.specs.Chains.{◌>>=◌}
 use Rattle.capnp_model.specs.Segments.{Segments, Place, after}
-use Rattle.capnp_model.specs.Sizes.{object_words, each_object_words, element_object_words}
+use Rattle.capnp_model.specs.Sizes.{object_words, element_object_words}
 use Rattle.capnp_model.specs.Pointers as model
 use Rattle.capnp_model.specs.Sections.{words_for, words_of}
-use Rattle.capnp_model.specs.Trees.{Tree, null, capability, structure, plain_list, pointer_list, struct_list, Trees, none, ◌▸◌, Elements, no_elements, element, size_bits, tree_count}
+use Rattle.capnp_model.specs.Trees.{Tree, structure, plain_list, Elements, size_bits}
 use Rattle.capnp_model.specs.Traversal.{tree_at, each, each_element, leaf_of}
-use Rattle.capnp_model.specs.Coverage.{from_each, from_elements}
 use Rattle.capnp_model.specs.Visits.{Visit, visits}
 use Rattle.capnp_model.proofs.lemmas.Chaining.{bind_some, bind_found, some_is}
 use Rattle.capnp_model.proofs.lemmas.Counts.{each_count}
@@ -34,14 +33,13 @@ use Rattle.capnp_wire_objects.specs.Walks.{Stopped}
 use Rattle.capnp_wire_objects.proofs.lemmas.LevelLaws.{trees}
 use Rattle.capnp_wire_objects.proofs.lemmas.Measuring.{data_bits_plain}
 use Rattle.capnp_model_writes.specs.Writes.{with_zeros}
-use Rattle.capnp_copy_arenas.specs.Allocations.{total_words, HasRoom, UsesRoom, NoRoom}
+use Rattle.capnp_copy_arenas.specs.Allocations.{total_words, UsesRoom, NoRoom}
 use Rattle.capnp_copy_arenas.specs.States.{ArenaState}
 use Rattle.capnp_copy_arenas.specs.declared.room.Room.{Room}
 use Rattle.capnp_copy_arenas.specs.declared.room.Room.TheVariants.{Here, Near, Far}
 use Rattle.capnp_copy_arenas.specs.Rooms.{RoomFor, IsNearWhereRoom, UsesRoomNear, begin_of}
 use Rattle.capnp_copy_arenas.proofs.lemmas.Taken.{room_takes, longer_total, same_total}
-use Rattle.capnp_copy_values.specs.Copies.{IsStoppedOr}
-use Rattle.capnp_copy_values.specs.Fits.{elements_behind, words_behind, HasRoomIn, TakesIn, HasLongList, IsLong, FitsWhereRoom}
+use Rattle.capnp_copy_values.specs.Fits.{elements_behind, words_behind, HasRoomIn, TakesIn, HasLongList, IsLong, FitsWhereRoom, limited_arena, wanted}
 use Rattle.capnp_copy_values.specs.Objects.{copied_words, most_counted, is_leaf, leaf_value, IsTooLarge}
 use Rattle.capnp_copy_values.proofs.Following.{leaf_inside}
 use Rattle.capnp_copy_values.proofs.Told.{deep_told}
@@ -127,13 +125,13 @@ takes_on s m u i n l a b = let none : 0 + n ≡ n = omega arith in subst (λ (k 
 -- ---- how a copy goes on
 
 pub fits_err : {X : Type 0} (words : X → ℕ) (there : Option X) (path : List Visit) (Long : Type 0) (i : ℕ) (s u : ArenaState) (old new : ReadLimiter) (r : Result ⊤ Error) (d e : Error) → r ≡ Err d → d ≡ e
-    → ((x : X) → there ≡ Some x → HasRoomIn s i (words x) → Stopped path old e new ⊎ ((e.kind ≡ SizeOverflow) × Long)) → FitsWhereRoom words there path Long i s u old r new
+    → ((x : X) → there ≡ Some x → HasRoomIn s i (words x) → Stopped path old e new ⊎ ((e.kind ≡ SizeOverflow) × Long)) → FitsWhereRoom there path (wanted words Long i) (limited_arena s old) r (limited_arena u new)
 fits_err words there path Long i s u old new r d e is same h =
-    subst (λ (y : Result ⊤ Error). FitsWhereRoom words there path Long i s u old y new) (sym (is ∙ ap (λ (y : Error). Err y) same)) h
+    subst (λ (y : Result ⊤ Error). FitsWhereRoom there path (wanted words Long i) (limited_arena s old) y (limited_arena u new)) (sym (is ∙ ap (λ (y : Error). Err y) same)) h
 
 -- from words that were written before
 pub fits_after : {X : Type 0} (words : X → ℕ) (there : Option X) (path : List Visit) (Long : Type 0) (i : ℕ) (s m u : ArenaState) (old new : ReadLimiter) (r : Result ⊤ Error) → map length (words_in m.segments) ≡ map length (words_in s.segments) → m.room ≡ s.room
-    → FitsWhereRoom words there path Long i m u old r new → FitsWhereRoom words there path Long i s u old r new
+    → FitsWhereRoom there path (wanted words Long i) (limited_arena m old) r (limited_arena u new) → FitsWhereRoom there path (wanted words Long i) (limited_arena s old) r (limited_arena u new)
 fits_after words there path Long i s m u old new (Ok y) sizes room f = λ x is h. (
     let t = takes_stays s m i h.0 sizes room in
     takes_on s m u i (words x) h.0 t (f x is (room_stays s m i (words x) h t))
@@ -142,7 +140,7 @@ fits_after words there path Long i s m u old new (Err e) sizes room f = λ x is 
 
 -- of what is made of it
 pub fits_made : {X Y : Type 0} (words : X → ℕ) (counts : Y → ℕ) (make : X → Y) (there : Option X) (path : List Visit) (Long : Type 0) (i : ℕ) (s u : ArenaState) (old new : ReadLimiter) (r : Result ⊤ Error) → ((x : X) → counts (make x) ≡ words x)
-    → FitsWhereRoom words there path Long i s u old r new → FitsWhereRoom counts (there >>= λ x. Some (make x)) path Long i s u old r new
+    → FitsWhereRoom there path (wanted words Long i) (limited_arena s old) r (limited_arena u new) → FitsWhereRoom (there >>= λ x. Some (make x)) path (wanted counts Long i) (limited_arena s old) r (limited_arena u new)
 fits_made words counts make there path Long i s u old new (Ok z) alike f = λ y is h. (
     let x = bind_some there (λ x. Some (make x)) y is in
     let n : words x.0 ≡ counts y = sym (alike x.0) ∙ ap counts (some_is _ _ x.2) in
@@ -272,7 +270,7 @@ own_segment s p k (Far pad) near h = absurd (near h)
 -- what is behind it is taken behind it
 pub object_fits : {X : Type 0} (words behind : X → ℕ) (k : ℕ) (there : Option X) (path : List Visit) (Long : Type 0) (p : Place) (room : Room) (j : ℕ) (s m u : ArenaState) (old new : ReadLimiter) (r : Result ⊤ Error) → ((x : X) → there ≡ Some x → words x ≡ k + behind x)
     → RoomFor (words_in s.segments) (words_in m.segments) p k room → IsNearWhereRoom (words_in s.segments) s.room p.segment k room → UsesRoomNear s.room m.room p.segment k room → j ≡ (begin_of p room).segment
-    → FitsWhereRoom behind there path Long j m u old r new → FitsWhereRoom words there path Long p.segment s u old r new
+    → FitsWhereRoom there path (wanted behind Long j) (limited_arena m old) r (limited_arena u new) → FitsWhereRoom there path (wanted words Long p.segment) (limited_arena s old) r (limited_arena u new)
 object_fits words behind k there path Long p room j s m u old new (Ok y) own r near left at f = λ x is h. (
     let n = own x is in
     let all = subst (λ (c : ℕ). HasRoomIn s p.segment c) n h in
@@ -293,12 +291,12 @@ object_fits words behind k there path Long p room j s m u old new (Err e) own r 
 
 -- what is written then takes nothing
 pub fits_kept : {X : Type 0} (words : X → ℕ) (there : Option X) (path : List Visit) (Long : Type 0) (i : ℕ) (s m u : ArenaState) (old new : ReadLimiter) → map length (words_in u.segments) ≡ map length (words_in m.segments) → u.room ≡ m.room
-    → FitsWhereRoom words there path Long i s m old (Ok tt) new → FitsWhereRoom words there path Long i s u old (Ok tt) new
+    → FitsWhereRoom there path (wanted words Long i) (limited_arena s old) (Ok tt) (limited_arena m new) → FitsWhereRoom there path (wanted words Long i) (limited_arena s old) (Ok tt) (limited_arena u new)
 fits_kept words there path Long i s m u old new sizes room f = λ x is h. takes_kept s m u i (words x) sizes room (f x is h)
 
 -- a longer list among what may be too long
 pub fits_long : {X : Type 0} (words : X → ℕ) (there : Option X) (path : List Visit) (Long More : Type 0) (i : ℕ) (s u : ArenaState) (old new : ReadLimiter) (r : Result ⊤ Error) → (Long → More)
-    → FitsWhereRoom words there path Long i s u old r new → FitsWhereRoom words there path More i s u old r new
+    → FitsWhereRoom there path (wanted words Long i) (limited_arena s old) r (limited_arena u new) → FitsWhereRoom there path (wanted words More i) (limited_arena s old) r (limited_arena u new)
 fits_long words there path Long More i s u old new (Ok y) up f = f
 fits_long words there path Long More i s u old new (Err e) up f = λ x is h. by (f x is h)
   where
@@ -315,8 +313,8 @@ object_lacks words there path More o i s old new e own kind (inr full) x is h = 
 -- ---- at a place
 
 pub deep_fits : (n m : ℕ) (from : Segments) (p : Place) (o : Object) (i : ℕ) (old mid new : ReadLimiter) (s u : ArenaState) (r : Result ⊤ Error) → n ≡ suc m → (x : Pays from p old o mid)
-    → FitsWhereRoom object_words (tree_in from (tree_at m from) o) (met_in (visits m from) o) (IsLong from o) i s u mid r new
-    → FitsWhereRoom object_words (tree_at n from p) (visits n from p) (HasLongList from) i s u old r new
+    → FitsWhereRoom (tree_in from (tree_at m from) o) (met_in (visits m from) o) (wanted object_words (IsLong from o) i) (limited_arena s mid) r (limited_arena u new)
+    → FitsWhereRoom (tree_at n from p) (visits n from p) (wanted object_words (HasLongList from) i) (limited_arena s old) r (limited_arena u new)
 deep_fits n m from p o i old mid new s u r z x f = by r f
   where
     read : (t : Tree) → tree_at n from p ≡ Some t → tree_in from (tree_at m from) o ≡ Some t
@@ -327,7 +325,7 @@ deep_fits n m from p o i old mid new s u r z x f = by r f
     far e (inr (k, inl long)) = inr (k, (p, record { pads = x.pads; object = o }, x.is, long))
     far e (inr (k, inr more)) = inr (k, more)
 
-    by : (y : Result ⊤ Error) → FitsWhereRoom object_words (tree_in from (tree_at m from) o) (met_in (visits m from) o) (IsLong from o) i s u mid y new → FitsWhereRoom object_words (tree_at n from p) (visits n from p) (HasLongList from) i s u old y new
+    by : (y : Result ⊤ Error) → FitsWhereRoom (tree_in from (tree_at m from) o) (met_in (visits m from) o) (wanted object_words (IsLong from o) i) (limited_arena s mid) y (limited_arena u new) → FitsWhereRoom (tree_at n from p) (visits n from p) (wanted object_words (HasLongList from) i) (limited_arena s old) y (limited_arena u new)
     by (Ok y) g = λ t e h. g t (read t e) h
     by (Err e) g = λ t is h. deep_told n m from p o old mid new (λ d. (d.kind ≡ SizeOverflow) × HasLongList from) (Err e) z x (far e (g t (read t is) h))
 

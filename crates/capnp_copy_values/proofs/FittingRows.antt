@@ -1,7 +1,5 @@
 -- Pointers in a row, and the structs of a list, where there is room for all behind them.
-use Rattle.std.specs.Bool.{⊤}
-use Rattle.std.proofs.Common.{◌≡◌, ◌⊎◌, inl, inr, ℕ, zero, suc, ◌+◌, ◌-◌, ◌*◌, ◌<◌, ◌≤◌, List, drop, take, length, map, Option, Some, Result, Ok, Err, refl, ap, sym, ◌∙◌, subst, arith}
-use Rattle.capnp_model.specs.Chains.{◌>>=◌}
+use Rattle.std.proofs.Common.{◌≡◌, ◌⊎◌, ℕ, zero, suc, ◌+◌, ◌-◌, ◌*◌, ◌<◌, ◌≤◌, List, drop, take, length, map, Option, Some, Ok, Err, refl, ap, sym, ◌∙◌, subst, arith}
 use Rattle.capnp_model.specs.Sections.{section_of}
 use Rattle.capnp_model.specs.Segments.{Segments, Place, after}
 use Rattle.capnp_model.specs.Sizes.{object_words, each_object_words}
@@ -17,7 +15,7 @@ use Rattle.capnp_units.specs.Segments.{words_in}
 use Rattle.capnp_wire_objects.specs.Walks.{Stopped}
 use Rattle.capnp_wire_objects.proofs.lemmas.Rows.{each_next, element_next, row_start, row_end, elements_start}
 use Rattle.capnp_copy_arenas.specs.States.{ArenaState}
-use Rattle.capnp_copy_values.specs.Fits.{elements_behind, HasRoomIn, TakesIn, HasLongList, FitsWhereRoom}
+use Rattle.capnp_copy_values.specs.Fits.{elements_behind, HasRoomIn, TakesIn, HasLongList, FitsWhereRoom, limited_arena, wanted}
 use Rattle.capnp_copy_values.proofs.Fitting.{takes_stays, takes_more, room_less, room_left}
 use Rattle.capnp_copy_values.proofs.Rows.{RowSoFar}
 use Rattle.capnp_copy_values.proofs.Elements.{ElementsSoFar}
@@ -77,7 +75,7 @@ module _ (levels : ℕ) (from : Segments) (p : Place) (k : ℕ) (s : ArenaState)
         room = room_left s u at x.taken (object_words y.0) (room_less s at all (x.taken + object_words y.0) (omega (arith, total, words)) h) x.takes;
       }
 
-  pub row_fits_next : (i : ℕ) (u w : ArenaState) (m m' : ReadLimiter) → i < k → RowFits levels from p k i s u at → FitsWhereRoom object_words (tree_at levels from (after p i)) (visits levels from (after p i)) (HasLongList from) at u w m (Ok tt) m' → RowFits levels from p k (i + 1) s w at
+  pub row_fits_next : (i : ℕ) (u w : ArenaState) (m m' : ReadLimiter) → i < k → RowFits levels from p k i s u at → FitsWhereRoom (tree_at levels from (after p i)) (visits levels from (after p i)) (wanted object_words (HasLongList from) at) (limited_arena u m) (Ok tt) (limited_arena w m') → RowFits levels from p k (i + 1) s w at
   row_fits_next i u w m m' in_row so f = λ ts e h. (
       let x = next_left i u (each_object_words ts) in_row h (so ts e h) in
       let total = x.sum in
@@ -90,13 +88,13 @@ module _ (levels : ℕ) (from : Segments) (p : Place) (k : ℕ) (s : ArenaState)
       }
       )
 
-  pub row_fits_stopped : (i : ℕ) (r : Place) (d : ℕ) (v : Segments) (u w : ArenaState) (l m m' : ReadLimiter) (e : Error) → i < k → RowSoFar levels from p k i v (words_in u.segments) r d l m → RowFits levels from p k i s u at → FitsWhereRoom object_words (tree_at levels from (after p i)) (visits levels from (after p i)) (HasLongList from) at u w m (Err e) m'
+  pub row_fits_stopped : (i : ℕ) (r : Place) (d : ℕ) (v : Segments) (u w : ArenaState) (l m m' : ReadLimiter) (e : Error) → i < k → RowSoFar levels from p k i v (words_in u.segments) r d l m → RowFits levels from p k i s u at → FitsWhereRoom (tree_at levels from (after p i)) (visits levels from (after p i)) (wanted object_words (HasLongList from) at) (limited_arena u m) (Err e) (limited_arena w m')
       → (ts : Trees) → each (tree_at levels from) p k ≡ Some ts → HasRoomIn s at (each_object_words ts) → Stopped (from_each (visits levels from) p k) l e m' ⊎ ((e.kind ≡ SizeOverflow) × HasLongList from)
   row_fits_stopped i r d v u w l m m' e in_row past so f ts is h =
       let x = next_left i u (each_object_words ts) in_row h (so ts is h) in
       row_told levels from p k v r d l i (words_in u.segments) m m' (λ (y : Error). (y.kind ≡ SizeOverflow) × HasLongList from) e in_row past (f x.tree x.tree_is x.room)
 
-  pub row_fits_ended : (i : ℕ) (u : ArenaState) (l m : ReadLimiter) → k ≤ i → RowFits levels from p k i s u at → FitsWhereRoom each_object_words (each (tree_at levels from) p k) (from_each (visits levels from) p k) (HasLongList from) at s u l (Ok tt) m
+  pub row_fits_ended : (i : ℕ) (u : ArenaState) (l m : ReadLimiter) → k ≤ i → RowFits levels from p k i s u at → FitsWhereRoom (each (tree_at levels from) p k) (from_each (visits levels from) p k) (wanted each_object_words (HasLongList from) at) (limited_arena s l) (Ok tt) (limited_arena u m)
   unfolding object_words
   row_fits_ended i u l m all so = λ ts e h. (
       let x = so ts e h in
@@ -165,7 +163,7 @@ module _ (levels : ℕ) (from : Segments) (p : Place) (ws : List ℕ) (d k count
       }
 
   pub elements_fit_next : (i : ℕ) (u w : ArenaState) (m m' : ReadLimiter) → i < count → ElementsFit levels from p ws d k count i s u at
-      → FitsWhereRoom each_object_words (each (tree_at levels from) (after (after p (i * (d + k))) d) k) (from_each (visits levels from) (after (after p (i * (d + k))) d) k) (HasLongList from) at u w m (Ok tt) m' → ElementsFit levels from p ws d k count (i + 1) s w at
+      → FitsWhereRoom (each (tree_at levels from) (after (after p (i * (d + k))) d) k) (from_each (visits levels from) (after (after p (i * (d + k))) d) k) (wanted each_object_words (HasLongList from) at) (limited_arena u m) (Ok tt) (limited_arena w m') → ElementsFit levels from p ws d k count (i + 1) s w at
   elements_fit_next i u w m m' in_list so f = λ es e h. (
       let x = next_element i u (elements_behind es) in_list h (so es e h) in
       let total = x.sum in
@@ -179,13 +177,13 @@ module _ (levels : ℕ) (from : Segments) (p : Place) (ws : List ℕ) (d k count
       )
 
   pub elements_fit_stopped : (i : ℕ) (r : Place) (v : Segments) (u w : ArenaState) (l m m' : ReadLimiter) (e : Error) → i < count → ElementsSoFar levels from p ws d k count i v (words_in u.segments) r l m → ElementsFit levels from p ws d k count i s u at
-      → FitsWhereRoom each_object_words (each (tree_at levels from) (after (after p (i * (d + k))) d) k) (from_each (visits levels from) (after (after p (i * (d + k))) d) k) (HasLongList from) at u w m (Err e) m'
+      → FitsWhereRoom (each (tree_at levels from) (after (after p (i * (d + k))) d) k) (from_each (visits levels from) (after (after p (i * (d + k))) d) k) (wanted each_object_words (HasLongList from) at) (limited_arena u m) (Err e) (limited_arena w m')
       → (es : Elements) → each_element (tree_at levels from) p ws d k count ≡ Some es → HasRoomIn s at (elements_behind es) → Stopped (from_elements (visits levels from) p d k count) l e m' ⊎ ((e.kind ≡ SizeOverflow) × HasLongList from)
   elements_fit_stopped i r v u w l m m' e in_list past so f es is h =
       let x = next_element i u (elements_behind es) in_list h (so es is h) in
       elements_told levels from p ws d k count v r l i (words_in u.segments) m m' (λ (y : Error). (y.kind ≡ SizeOverflow) × HasLongList from) e in_list past (f x.kids x.kids_are x.room)
 
-  pub elements_fit_ended : (i : ℕ) (u : ArenaState) (l m : ReadLimiter) → count ≤ i → ElementsFit levels from p ws d k count i s u at → FitsWhereRoom elements_behind (each_element (tree_at levels from) p ws d k count) (from_elements (visits levels from) p d k count) (HasLongList from) at s u l (Ok tt) m
+  pub elements_fit_ended : (i : ℕ) (u : ArenaState) (l m : ReadLimiter) → count ≤ i → ElementsFit levels from p ws d k count i s u at → FitsWhereRoom (each_element (tree_at levels from) p ws d k count) (from_elements (visits levels from) p d k count) (wanted elements_behind (HasLongList from) at) (limited_arena s l) (Ok tt) (limited_arena u m)
   unfolding elements_behind
   elements_fit_ended i u l m all so = λ es e h. (
       let x = so es e h in

@@ -26,7 +26,7 @@ use Rattle.capnp_wire_objects.proofs.lemmas.Walks.{walked_none, walked_one}
 use Rattle.capnp_copy_arenas.specs.Allocations.{total_words}
 use Rattle.capnp_copy_values.proofs.Taking.{none_taken, object_untaken}
 use Rattle.capnp_copy_values.specs.Objects.{copied_words, is_leaf, leaf_value}
-use Rattle.capnp_copy_values.specs.Copies.{BecomesCopy, Copied, CopyGives, GrowsByZeros, ObjectCopied}
+use Rattle.capnp_copy_values.specs.Copies.{BecomesCopy, Copied, CopyGives, GrowsByZeros, ObjectCopied, copy_of, limited_words, object_put}
 use Rattle.capnp_copy_values.proofs.Refusals.{gives_is}
 
 pub stopped_at : (n : ℕ) (s : Segments) (p : Place) (old new : ReadLimiter) (e : Error) → FollowsWithin n s p old (Err e) new → Stopped (visits n s p) old e new
@@ -65,11 +65,11 @@ leaf_there n s p o old new z x h =
     (leaf_read s p g.0 g.0.object o g.1 refl g.2 (subst (λ (m : ℕ). levels_suffice m o ≡ true) z h)).2
 
 pub leaf_copied : (n : ℕ) (from : Segments) (p : Place) (o : Object) (old new : ReadLimiter) (s u : Segments) (r : Place) → n ≡ 0 → Pays from p old o new → levels_suffice n o ≡ true → BecomesCopy 0 s u r (leaf_value o) → Grows s u → total_words u ≡ total_words s
-    → Copied (tree_at n from p) (visits n from p) (BecomesCopy n s u r) s u old new
+    → Copied (tree_at n from p) (visits n from p) (BecomesCopy n s u r) (limited_words s old) (limited_words u new)
 leaf_copied n from p o old new s u r z x h b grows same =
-    subst (λ (m : ℕ). Copied (tree_at m from p) (visits m from p) (BecomesCopy m s u r) s u old new) (sym z) at_zero
+    subst (λ (m : ℕ). Copied (tree_at m from p) (visits m from p) (BecomesCopy m s u r) (limited_words s old) (limited_words u new)) (sym z) at_zero
   where
-    at_zero : Copied (tree_at 0 from p) (visits 0 from p) (BecomesCopy 0 s u r) s u old new
+    at_zero : Copied (tree_at 0 from p) (visits 0 from p) (BecomesCopy 0 s u r) (limited_words s old) (limited_words u new)
     at_zero =
         let g = object_found from p (record { pads = x.pads; object = o }) x.is in
         let l = leaf_read from p g.0 g.0.object o g.1 refl g.2 (subst (λ (m : ℕ). levels_suffice m o ≡ true) z h) in
@@ -86,10 +86,10 @@ leaf_copied n from p o old new s u r z x h b grows same =
 -- ---- at a place
 
 pub deep_at : (n m : ℕ) (from : Segments) (p : Place) (o : Object) (old mid new : ReadLimiter) (s u : Segments) (q : Place) (r : Result ⊤ Error) → n ≡ suc m → (x : Pays from p old o mid)
-    → CopyGives from (tree_in from (tree_at m from) o) (Ok (x.pads + own_cost o) ∷ met_in (visits m from) o) (BecomesCopy (suc m) s u q) (GrowsByZeros s u) s u old r new
-    → CopyGives from (tree_at n from p) (visits n from p) (BecomesCopy n s u q) (GrowsByZeros s u) s u old r new
+    → CopyGives (copy_of from (tree_in from (tree_at m from) o) (Ok (x.pads + own_cost o) ∷ met_in (visits m from) o)) (BecomesCopy (suc m) s u q) (GrowsByZeros s u) (limited_words s old) r (limited_words u new)
+    → CopyGives (copy_of from (tree_at n from p) (visits n from p)) (BecomesCopy n s u q) (GrowsByZeros s u) (limited_words s old) r (limited_words u new)
 deep_at n m from p o old mid new s u q r z x g =
-    subst (λ (k : ℕ). CopyGives from (tree_at k from p) (visits k from p) (BecomesCopy k s u q) (GrowsByZeros s u) s u old r new) (sym z)
+    subst (λ (k : ℕ). CopyGives (copy_of from (tree_at k from p) (visits k from p)) (BecomesCopy k s u q) (GrowsByZeros s u) (limited_words s old) r (limited_words u new)) (sym z)
     (gives_is from (tree_in from (tree_at m from) o) (tree_at (suc m) from p) (Ok (x.pads + own_cost o) ∷ met_in (visits m from) o) (visits (suc m) from p) (BecomesCopy (suc m) s u q) (GrowsByZeros s u) s u old new r
     (sym (trees m from p (record { pads = x.pads; object = o }) x.is)) (sym (visited m from p (record { pads = x.pads; object = o }) x.is)) g)
 
@@ -103,7 +103,7 @@ leaf_inside f v from (object.PointerList q n) l = absurd cc
 leaf_inside f v from (object.StructList q words n d k) l = absurd cc
 
 pub leaf_put : (levels : ℕ) (f : Place → Option Tree) (v : Place → List Visit) (from : Segments) (o : Object) (l : ReadLimiter) (s u : Segments) (q : Place) → is_leaf o ≡ true → BecomesCopy 0 s u q (leaf_value o) → Grows s u → total_words u ≡ total_words s
-    → ObjectCopied levels o (tree_in from f o) (met_in v o) s u q l l
+    → ObjectCopied (tree_in from f o) (met_in v o) (object_put levels o q) (limited_words s l) (limited_words u l)
 leaf_put levels f v from o l s u q leaf b grows same =
     let y = leaf_inside f v from o leaf in
     record {

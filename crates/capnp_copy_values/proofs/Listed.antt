@@ -8,7 +8,7 @@ use Rattle.capnp_model.specs.Sections.{number_of, section_of, words_for, words_o
 use Rattle.capnp_model.specs.Segments.{Segments, Place, after, words_at}
 use Rattle.capnp_model.specs.Pointers.{a_list}
 use Rattle.capnp_model.proofs.lemmas.Numbers.{number_of_lt, section_of-words_of}
-use Rattle.capnp_copy_values.specs.Copies.{Fills, Copied}
+use Rattle.capnp_copy_values.specs.Copies.{Fills, Copied, limited_words}
 use Rattle.capnp_copy_values.specs.Objects.{copied_words, copied_at}
 use Rattle.capnp_model.specs.Traversal.{tree_at}
 use Rattle.capnp_model.specs.Visits.{visits}
@@ -33,6 +33,7 @@ use Rattle.capnp_copy_values.specs.declared.lists.ListSource.{ListSource}
 use Rattle.capnp_copy_values.specs.Lists.{object_of_size, tree_of_size, listed_object}
 use Rattle.capnp_copy_arenas.specs.Blobs.{whole_of, last_of, front_of, with_bytes}
 use Rattle.capnp_copy_arenas.proofs.lemmas.BlobNumbers.{front_words_length, front_section, all_words, number_fits}
+use Rattle.capnp_model.specs.Coverage.{span}
 
 -- ---- words one behind the other
 
@@ -108,10 +109,10 @@ all_section n bytes long small =
 
 -- plain elements, written over as many zeros
 pub written_elements : (n : ℕ) (s u : Segments) (r : Place) (size count k : ℕ) (bytes : List ℕ) → size < 6 → k ≡ words_for (data_bits size * count) → AreBytes bytes → data_bits size * count ≤ 8 * length bytes → 8 * length bytes < data_bits size * count + 8 → words_at s r k ≡ Some (replicate k 0) → u ≡ with_bytes s r k bytes
-    → Fills n s u r k (a_list r size count) (plain_list size count (number_of 8 bytes % 2 ^ (data_bits size * count)))
+    → Fills n s u (span r k) (a_list r size count) (plain_list size count (number_of 8 bytes % 2 ^ (data_bits size * count)))
 written_elements n s u r size count k bytes plain is small low high z now =
     let x = as_words s r k bytes small (is ∙ omega (arith, low, high)) in
-    subst (λ (a : ℕ). Fills n s u r k (a_list r size count) (plain_list size count (a % 2 ^ (data_bits size * count)))) x.section (words_fill n s u r size count k x.words plain is x.long z (now ∙ x.is))
+    subst (λ (a : ℕ). Fills n s u (span r k) (a_list r size count) (plain_list size count (a % 2 ^ (data_bits size * count)))) x.section (words_fill n s u r size count k x.words plain is x.long z (now ∙ x.is))
 
 -- structs have so many bits
 pub bits_of_structs : (count d k : ℕ) → 8 * (8 * (count * (d + k))) ≡ 64 * (d + k) * count
@@ -145,10 +146,10 @@ plain_elements Pointer x section a b = absurd (a refl)
 plain_elements InlineComposite x section a b = absurd (b refl)
 
 pub plain_copied : (levels : ℕ) (from : Segments) (x : ListSource) (section : ℕ) (s u : Segments) (r : Place) (l : ReadLimiter) → Plain x.size x section
-    → ((n : ℕ) → Fills n s u r (words_for (data_bits (size_number x.size) * x.count)) (a_list r (size_number x.size) x.count) (plain_list (size_number x.size) x.count section)) → map length u ≡ map length s
-    → Copied (tree_of_size x.size (tree_at levels from) x section) (met_in (visits levels from) (listed_object x)) (λ v. (n : ℕ) → levels ≤ n → Fills n s u r (copied_words (listed_object x)) (copied_at r (listed_object x)) v) s u l l
+    → ((n : ℕ) → Fills n s u (span r (words_for (data_bits (size_number x.size) * x.count))) (a_list r (size_number x.size) x.count) (plain_list (size_number x.size) x.count section)) → map length u ≡ map length s
+    → Copied (tree_of_size x.size (tree_at levels from) x section) (met_in (visits levels from) (listed_object x)) (λ v. (n : ℕ) → levels ≤ n → Fills n s u (span r (copied_words (listed_object x))) (copied_at r (listed_object x)) v) (limited_words s l) (limited_words u l)
 plain_copied levels from x section s u r l y fills sizes =
-    let made : Copied (tree_of_size x.size (tree_at levels from) x section) [] (λ v. (n : ℕ) → levels ≤ n → Fills n s u r (words_for (data_bits (size_number x.size) * x.count)) (a_list r (size_number x.size) x.count) v) s u l l = record {
+    let made : Copied (tree_of_size x.size (tree_at levels from) x section) [] (λ v. (n : ℕ) → levels ≤ n → Fills n s u (span r (words_for (data_bits (size_number x.size) * x.count))) (a_list r (size_number x.size) x.count) v) (limited_words s l) (limited_words u l) = record {
       value = plain_list (size_number x.size) x.count section;
       there_is = y.tree (tree_at levels from);
       walked = walked_none l;
@@ -156,4 +157,4 @@ plain_copied levels from x section s u r l y fills sizes =
       takes = takes_none s u l (sym (total_alike s u sizes));
       made = λ n h. fills n;
     } in
-    subst (λ (o : Object). Copied (tree_of_size x.size (tree_at levels from) x section) (met_in (visits levels from) o) (λ v. (n : ℕ) → levels ≤ n → Fills n s u r (copied_words o) (copied_at r o) v) s u l l) (sym y.object) made
+    subst (λ (o : Object). Copied (tree_of_size x.size (tree_at levels from) x section) (met_in (visits levels from) o) (λ v. (n : ℕ) → levels ≤ n → Fills n s u (span r (copied_words o)) (copied_at r o) v) (limited_words s l) (limited_words u l)) (sym y.object) made

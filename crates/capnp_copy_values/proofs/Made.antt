@@ -1,14 +1,13 @@
 -- Zero words that become the copy of an object, by its kind.
 use Rattle.std.specs.Bool.{⊤}
-use Rattle.std.proofs.Common.{◌≡◌, ℕ, zero, suc, ◌+◌, ◌*◌, ◌%◌, ◌^◌, ◌<◌, ◌≤◌, nat_lt, true, List, [], ◌∷◌, length, replicate, Option, Some, Result, Ok, Err, refl, ap, sym, ◌∙◌, subst, arith}
+use Rattle.std.proofs.Common.{◌≡◌, ℕ, ◌+◌, ◌*◌, ◌%◌, ◌^◌, ◌<◌, ◌≤◌, true, List, [], ◌∷◌, length, replicate, Option, Some, Result, Ok, Err, refl, ap, sym, ◌∙◌, subst, arith}
 use Rattle.std.specs.Option.{is_some}
-use Rattle.std.proofs.lemmas.Bool.Decides.{nat_tests}
 use Rattle.std.proofs.lemmas.List.{length-replicate}
 use Rattle.capnp_model.specs.Chains.{◌>>=◌}
 use Rattle.capnp_model.specs.Sections.{section_of, words_for}
 use Rattle.capnp_model.specs.Segments.{Segments, Place, after, words_at}
 use Rattle.capnp_model.specs.Pointers.{a_struct, a_list}
-use Rattle.capnp_model.specs.Trees.{Tree, structure, plain_list, pointer_list, struct_list, Trees, none, resized, Elements, element_count, size_bits}
+use Rattle.capnp_model.specs.Trees.{Tree, structure, plain_list, pointer_list, struct_list, Trees, none, resized, Elements, size_bits}
 use Rattle.capnp_model.specs.Traversal.{tree_of, tree_at, each}
 use Rattle.capnp_model.specs.Coverage.{span, times_held, Grows, from_each}
 use Rattle.capnp_model.specs.Encoding.{struct_pointer}
@@ -33,7 +32,7 @@ use Rattle.capnp_model_writes.proofs.lemmas.Splices.{Rewrites, splice_rewrites, 
 use Rattle.capnp_model_writes.proofs.lemmas.Writing.{wider, changes_inside, plain_is, plain_tree, struct_data}
 use Rattle.capnp_model_writes.proofs.lemmas.Zeros.{zero_struct, zero_struct_takes}
 use Rattle.capnp_wire_objects.proofs.lemmas.Measuring.{data_bits_plain}
-use Rattle.capnp_copy_values.specs.Copies.{CopyGives, Fills, FillsStruct, LeavesStruct, FillsRow, LeavesRow, FillsElements, LeavesElements}
+use Rattle.capnp_copy_values.specs.Copies.{CopyGives, Fills, FillsStruct, LeavesStruct, FillsRow, LeavesRow, FillsElements, LeavesElements, copy_of, copy_source, limited_words, sized_at}
 use Rattle.capnp_copy_arenas.specs.Allocations.{total_words}
 use Rattle.capnp_copy_values.proofs.Taking.{takes_none, takes_both, written_total}
 use Rattle.capnp_copy_values.proofs.lemmas.Filling.{fills_of, fills_replaced, held_owned}
@@ -50,8 +49,8 @@ written_all s r k ws vs e l m =
 -- ---- structs
 
 pub struct_fills : (levels : ℕ) (from : Segments) (there : Option Trees) (path : List Visit) (section : ℕ) (s u : Segments) (r : Place) (d k : ℕ) (old new : ReadLimiter) (x : Result ⊤ Error) → words_at s r (d + k) ≡ Some (replicate (d + k) 0)
-    → CopyGives from there path (FillsStruct levels s u r d k section) (LeavesStruct levels s u r d k) s u old x new
-    → CopyGives from (there >>= λ ts. Some (structure d section ts)) path (λ v. (n : ℕ) → levels ≤ n → Fills n s u r (d + k) (a_struct r d k) v) ((t : Tree) × Fills levels s u r (d + k) (a_struct r d k) t) s u old x new
+    → CopyGives (copy_of from there path) (FillsStruct levels s u (sized_at r d k) section) (LeavesStruct levels s u (sized_at r d k)) (limited_words s old) x (limited_words u new)
+    → CopyGives (copy_of from (there >>= λ ts. Some (structure d section ts)) path) (λ v. (n : ℕ) → levels ≤ n → Fills n s u (span r (d + k)) (a_struct r d k) v) ((t : Tree) × Fills levels s u (span r (d + k)) (a_struct r d k) t) (limited_words s old) x (limited_words u new)
 struct_fills levels from there path section s u r d k old new (Ok x) z g =
     record {
       value = structure d section g.value;
@@ -90,7 +89,7 @@ as_list n s r k own ts e =
     let kids : each (tree_at n s) r k ≡ Some ts = ap (λ (q : Place). each (tree_at n s) q k) (sym (after_none r)) ∙ x.kids_are in
     rw (there, kids) refl
 
-row_fills : (levels n : ℕ) (s u : Segments) (r : Place) (k : ℕ) (own : ℕ) (ts : Trees) → words_at s r k ≡ Some (replicate k 0) → ReplacesObject n s u (a_struct r 0 k) (structure 0 own ts) → Fills n s u r k (a_list r 6 k) (pointer_list ts)
+row_fills : (levels n : ℕ) (s u : Segments) (r : Place) (k : ℕ) (own : ℕ) (ts : Trees) → words_at s r k ≡ Some (replicate k 0) → ReplacesObject n s u (a_struct r 0 k) (structure 0 own ts) → Fills n s u (span r k) (a_list r 6 k) (pointer_list ts)
 row_fills levels n s u r k own ts z c =
     let sum : k ≡ 0 + k = omega arith in
     let z' : words_at s r (0 + k) ≡ Some (replicate (0 + k) 0) = subst (λ (m : ℕ). words_at s r m ≡ Some (replicate m 0)) sum z in
@@ -105,8 +104,8 @@ zero_row n s r k z =
     held_owned n s r (0 + k) (a_struct r 0 k) (structure 0 0 (resized k none)) (zero_struct n s r 0 k z') (λ q. zero_struct_takes n s r 0 k q z')
 
 pub pointers_fill : (levels : ℕ) (b : Segments) (p : Place) (from : Segments) (there : Option Trees) (path : List Visit) (s u : Segments) (r : Place) (k : ℕ) (old new : ReadLimiter) (x : Result ⊤ Error) → words_at s r k ≡ Some (replicate k 0)
-    → CopyGives from there path (FillsRow levels s u r 0 k) (LeavesRow levels b p s u r 0 k) s u old x new
-    → CopyGives from (there >>= λ ts. Some (pointer_list ts)) path (λ v. (n : ℕ) → levels ≤ n → Fills n s u r k (a_list r 6 k) v) ((t : Tree) × Fills levels s u r k (a_list r 6 k) t) s u old x new
+    → CopyGives (copy_of from there path) (FillsRow levels s u (sized_at r 0 k)) (LeavesRow (copy_source levels b p) s u (sized_at r 0 k)) (limited_words s old) x (limited_words u new)
+    → CopyGives (copy_of from (there >>= λ ts. Some (pointer_list ts)) path) (λ v. (n : ℕ) → levels ≤ n → Fills n s u (span r k) (a_list r 6 k) v) ((t : Tree) × Fills levels s u (span r k) (a_list r 6 k) t) (limited_words s old) x (limited_words u new)
 pointers_fill levels b p from there path s u r k old new (Ok x) z g =
     record {
       value = pointer_list g.value;
@@ -130,7 +129,7 @@ pointers_fill levels b p from there path s u r k old new (Err e) z g =
 
 -- any words that are written
 pub words_fill : (n : ℕ) (s u : Segments) (r : Place) (size count k : ℕ) (vs : List ℕ) → size < 6 → k ≡ words_for (data_bits size * count) → length vs ≡ k → words_at s r k ≡ Some (replicate k 0) → u ≡ with_words s r vs
-    → Fills n s u r k (a_list r size count) (plain_list size count (section_of vs % 2 ^ (data_bits size * count)))
+    → Fills n s u (span r k) (a_list r size count) (plain_list size count (section_of vs % 2 ^ (data_bits size * count)))
 words_fill n s u r size count k vs plain is long z now =
     let bits : size_bits size * count ≡ data_bits size * count = ap (λ (b : ℕ). b * count) (data_bits_plain size plain) in
     let kind = list_kind_small size plain in
@@ -142,15 +141,15 @@ words_fill n s u r size count k vs plain is long z now =
     let takes : (q : Place) → object_footprint n (with_words s r vs) (a_list r size count) q ≡ held r k q = λ q. plain_is n (with_words s r vs) r size count q kind ∙ ap (λ (m : ℕ). held r m q) all in
     let tree = plain_tree n (with_words s r vs) r size count vs kind written' in
     let section : section_of vs % 2 ^ (size_bits size * count) ≡ section_of vs % 2 ^ (data_bits size * count) = ap (λ (b : ℕ). section_of vs % 2 ^ b) bits in
-    subst (λ (v : Segments). Fills n s v r k (a_list r size count) (plain_list size count (section_of vs % 2 ^ (data_bits size * count)))) (sym now)
+    subst (λ (v : Segments). Fills n s v (span r k) (a_list r size count) (plain_list size count (section_of vs % 2 ^ (data_bits size * count)))) (sym now)
     (fills_of n s (with_words s r vs) r k (a_list r size count) (plain_list size count (section_of vs % 2 ^ (data_bits size * count)))
     (tree ∙ ap (λ (x : ℕ). Some (plain_list size count x)) section)
     (changes_alike s (with_words s r vs) (held r k) (held r k) (held r k) (object_footprint n (with_words s r vs) (a_list r size count)) c (λ q. refl) takes))
 
 pub list_fills : (n : ℕ) (from : Segments) (p : Place) (s u : Segments) (r : Place) (size count k : ℕ) → size < 6 → k ≡ words_for (data_bits size * count) → is_some (words_at from p k) ≡ true → words_at s r k ≡ Some (replicate k 0) → u ≡ with_words s r (words_there from p k)
-    → Fills n s u r k (a_list r size count) (plain_list size count (section_at from p k % 2 ^ (data_bits size * count)))
+    → Fills n s u (span r k) (a_list r size count) (plain_list size count (section_at from p k % 2 ^ (data_bits size * count)))
 list_fills n from p s u r size count k plain is there z now =
-    subst (λ (x : ℕ). Fills n s u r k (a_list r size count) (plain_list size count (x % 2 ^ (data_bits size * count)))) (sym (section_is from p k there))
+    subst (λ (x : ℕ). Fills n s u (span r k) (a_list r size count) (plain_list size count (x % 2 ^ (data_bits size * count)))) (sym (section_is from p k there))
     (words_fill n s u r size count k (words_there from p k) plain is (there_length from p k there) z now)
 
 -- ---- lists of structs
@@ -176,15 +175,15 @@ tagged n s u r d k count fits z now =
       changes = changes_inside s (with_words s r (struct_pointer count d k ∷ [])) r (1 + count * (d + k)) (held r (1 + count * (d + k))) (held r (1 + count * (d + k))) y (λ q. refl) (λ q. omega arith);
     })
 
-elements_fill : (n : ℕ) (s m u : Segments) (r : Place) (d k count : ℕ) (es : Elements) → Tagged n s m r d k count → ReplacesObject n m u (a_list r 7 (count * (d + k))) (struct_list d k es) → Fills n s u r (1 + count * (d + k)) (a_list r 7 (count * (d + k))) (struct_list d k es)
+elements_fill : (n : ℕ) (s m u : Segments) (r : Place) (d k count : ℕ) (es : Elements) → Tagged n s m r d k count → ReplacesObject n m u (a_list r 7 (count * (d + k))) (struct_list d k es) → Fills n s u (span r (1 + count * (d + k))) (a_list r 7 (count * (d + k))) (struct_list d k es)
 elements_fill n s m u r d k count es t c =
     let first : Changes s m (held r (1 + count * (d + k))) (object_footprint n m (a_list r 7 (count * (d + k)))) = changes_alike s m (held r (1 + count * (d + k))) (held r (1 + count * (d + k))) (held r (1 + count * (d + k))) (object_footprint n m (a_list r 7 (count * (d + k)))) t.changes (λ q. refl) t.takes in
     fills_of n s u r (1 + count * (d + k)) (a_list r 7 (count * (d + k))) (struct_list d k es) c.means
     (changes_then s m u (held r (1 + count * (d + k))) (object_footprint n m (a_list r 7 (count * (d + k)))) (object_footprint n u (a_list r 7 (count * (d + k)))) first c.changes (object_on n m (a_list r 7 (count * (d + k))) (struct_list d k (zero_elements count k)) t.owned.means))
 
 pub structs_fill : (levels : ℕ) (from : Segments) (there : Option Elements) (path : List Visit) (s m u : Segments) (r : Place) (d k count : ℕ) (old new : ReadLimiter) (x : Result ⊤ Error) → Fits (new_structs count d k) → words_at s r (1 + count * (d + k)) ≡ Some (replicate (1 + count * (d + k)) 0) → m ≡ with_words s r (struct_pointer count d k ∷ [])
-    → CopyGives from there path (FillsElements levels m u r d k count) (LeavesElements levels m u r d k count) m u old x new
-    → CopyGives from (there >>= λ es. Some (struct_list d k es)) path (λ v. (n : ℕ) → levels ≤ n → Fills n s u r (1 + count * (d + k)) (a_list r 7 (count * (d + k))) v) ((t : Tree) × Fills levels s u r (1 + count * (d + k)) (a_list r 7 (count * (d + k))) t) s u old x new
+    → CopyGives (copy_of from there path) (FillsElements levels m u (sized_at r d k) count) (LeavesElements levels m u (sized_at r d k) count) (limited_words m old) x (limited_words u new)
+    → CopyGives (copy_of from (there >>= λ es. Some (struct_list d k es)) path) (λ v. (n : ℕ) → levels ≤ n → Fills n s u (span r (1 + count * (d + k))) (a_list r 7 (count * (d + k))) v) ((t : Tree) × Fills levels s u (span r (1 + count * (d + k))) (a_list r 7 (count * (d + k))) t) (limited_words s old) x (limited_words u new)
 structs_fill levels from there path s m u r d k count old new (Ok x) fits z now g =
     record {
       value = struct_list d k g.value;
@@ -222,8 +221,8 @@ data_copied n from p s m r d k own kids there here now o =
 -- whatever was written of the data: the row is filled then
 pub section_copied : (levels : ℕ) (b : Segments) (q : Place) (from : Segments) (there : Option Trees) (path : List Visit) (section : ℕ) (s m u : Segments) (r : Place) (d k : ℕ) (old new : ReadLimiter) (x : Result ⊤ Error) → Grows s m → total_words m ≡ total_words s
     → ((n own : ℕ) (kids : Trees) → OwnsObject n s (a_struct r d k) (structure d own kids) → ReplacesObject n s m (a_struct r d k) (structure d section kids))
-    → CopyGives from there path (FillsRow levels m u r d k) (LeavesRow levels b q m u r d k) m u old x new
-    → CopyGives from there path (FillsStruct levels s u r d k section) (LeavesStruct levels s u r d k) s u old x new
+    → CopyGives (copy_of from there path) (FillsRow levels m u (sized_at r d k)) (LeavesRow (copy_source levels b q) m u (sized_at r d k)) (limited_words m old) x (limited_words u new)
+    → CopyGives (copy_of from there path) (FillsStruct levels s u (sized_at r d k) section) (LeavesStruct levels s u (sized_at r d k)) (limited_words s old) x (limited_words u new)
 section_copied levels b q from there path section s m u r d k old new (Ok x) grows same write g =
     record {
       value = g.value;
@@ -250,8 +249,8 @@ section_copied levels b q from there path section s m u r d k old new (Err x) gr
     }
 
 pub struct_copied : (levels : ℕ) (b : Segments) (q : Place) (from : Segments) (there : Option Trees) (path : List Visit) (p : Place) (s m u : Segments) (r : Place) (d k : ℕ) (old new : ReadLimiter) (x : Result ⊤ Error) → is_some (words_at from p d) ≡ true → is_some (words_at s r (d + k)) ≡ true → m ≡ with_words s r (words_there from p d)
-    → CopyGives from there path (FillsRow levels m u r d k) (LeavesRow levels b q m u r d k) m u old x new
-    → CopyGives from there path (FillsStruct levels s u r d k (section_at from p d)) (LeavesStruct levels s u r d k) s u old x new
+    → CopyGives (copy_of from there path) (FillsRow levels m u (sized_at r d k)) (LeavesRow (copy_source levels b q) m u (sized_at r d k)) (limited_words m old) x (limited_words u new)
+    → CopyGives (copy_of from there path) (FillsStruct levels s u (sized_at r d k) (section_at from p d)) (LeavesStruct levels s u (sized_at r d k)) (limited_words s old) x (limited_words u new)
 struct_copied levels b q from there path p s m u r d k old new x e f now g =
     section_copied levels b q from there path (section_at from p d) s m u r d k old new x (subst (λ (v : Segments). Grows s v) (sym now) (splice_grows s r (words_there from p d))) (ap total_words now ∙ written_total s r (words_there from p d))
     (λ n own kids o. data_copied n from p s m r d k own kids e f now o) g

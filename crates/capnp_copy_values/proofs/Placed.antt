@@ -38,7 +38,7 @@ use Rattle.capnp_copy_arenas.specs.declared.room.Room.TheVariants.{Here, Near, F
 use Rattle.capnp_copy_arenas.specs.Rooms.{RoomFor, begin_of, slot_word, with_pad, linked}
 use Rattle.capnp_copy_arenas.proofs.lemmas.RoomLaws.{sizes_grow, room_grows}
 use Rattle.capnp_copy_values.specs.Objects.{copied_words, copied_at, copied_pointer, IsTooLarge, IsSpelled, is_leaf}
-use Rattle.capnp_copy_values.specs.Copies.{BecomesCopy, GrowsByZeros, Copied, Refused, Unplaced, CopyGives, Fills, ObjectCopied, HasNoPlace, ObjectRefused, ObjectGives}
+use Rattle.capnp_copy_values.specs.Copies.{BecomesCopy, GrowsByZeros, Copied, Refused, Unplaced, CopyGives, Fills, ObjectCopied, HasNoPlace, ObjectRefused, ObjectGives, copy_of, limited_words, object_put}
 use Rattle.capnp_units.specs.declared.sizes.ElementSize.{ElementSize}
 use Rattle.capnp_units.specs.declared.sizes.ElementSize.TheVariants.{Void, Bit, Byte, TwoBytes, FourBytes, EightBytes, Pointer, InlineComposite}
 use Rattle.capnp_copy_values.specs.declared.lists.ListSource.{ListSource}
@@ -140,7 +140,7 @@ linked_total s p room w = written_total (with_pad s room w) p (slot_word room w 
     padded s (Far pad) w = written_total s (place_view pad) (w ∷ [])
 
 becomes : (levels n : ℕ) (s m u y : Segments) (p : Place) (o : Object) (room : Room) (t v : Tree) → suc levels ≤ n → is_some (words_at s p 1) ≡ true → is_leaf o ≡ false → RoomFor s m p (copied_words o) room → Fits (new_of o)
-    → ((j : ℕ) → levels ≤ j → Fills j m u (begin_of p room) (copied_words o) (copied_at (begin_of p room) o) v) → ClearsValue u y p → Owns n s p t → Replaces n s (linked y p room (copied_pointer o)) p v
+    → ((j : ℕ) → levels ≤ j → Fills j m u (span (begin_of p room) (copied_words o)) (copied_at (begin_of p room) o) v) → ClearsValue u y p → Owns n s p t → Replaces n s (linked y p room (copied_pointer o)) p v
 becomes levels zero s m u y p o room t v h e l r fits fill c own = absurd (omega (arith, h))
 becomes levels (suc n) s m u y p o room t v h e l r fits fill c own =
     let r0 = begin_of p room in
@@ -152,8 +152,8 @@ becomes levels (suc n) s m u y p o room t v h e l r fits fill c own =
     subst (λ (w : ℕ). Replaces (suc n) s (linked y p room w) p v) (sym (pointer_is o l)) (linked_value n s m y p (copied_words o) room (new_of o) v r (new_some o l) fits d3)
 
 pub copied_object : (levels : ℕ) (s m u y z : Segments) (p : Place) (o : Object) (room : Room) (there : Option Tree) (path : List Visit) (old new : ReadLimiter) → is_some (words_at s p 1) ≡ true → is_leaf o ≡ false → RoomFor s m p (copied_words o) room → Fits (new_of o)
-    → Copied there path (λ v. (n : ℕ) → levels ≤ n → Fills n m u (begin_of p room) (copied_words o) (copied_at (begin_of p room) o) v) m u old new → ClearsValue u y p → map length y ≡ map length u → z ≡ linked y p room (copied_pointer o)
-    → ObjectCopied levels o there path s z p old new
+    → Copied there path (λ v. (n : ℕ) → levels ≤ n → Fills n m u (span (begin_of p room) (copied_words o)) (copied_at (begin_of p room) o) v) (limited_words m old) (limited_words u new) → ClearsValue u y p → map length y ≡ map length u → z ≡ linked y p room (copied_pointer o)
+    → ObjectCopied there path (object_put levels o p) (limited_words s old) (limited_words z new)
 copied_object levels s m u y z p o room there path old new e l r fits g c sizes now = record {
   value = g.value;
   there_is = g.there_is;
@@ -166,8 +166,8 @@ copied_object levels s m u y z p o room there path old new e l r fits g c sizes 
 -- ---- given up
 
 pub refused_object : (levels : ℕ) (from s m u y : Segments) (p : Place) (o : Object) (room : Room) (path : List Visit) (old new : ReadLimiter) (e : Error) → is_some (words_at s p 1) ≡ true → RoomFor s m p (copied_words o) room
-    → Refused from path ((t : Tree) × Fills levels m u (begin_of p room) (copied_words o) (copied_at (begin_of p room) o) t) m u old e new → ClearsObject u y (copied_at (begin_of p room) o) → map length y ≡ map length u
-    → ObjectRefused from o path s y old e new
+    → Refused from path ((t : Tree) × Fills levels m u (span (begin_of p room) (copied_words o)) (copied_at (begin_of p room) o) t) (limited_words m old) e (limited_words u new) → ClearsObject u y (copied_at (begin_of p room) o) → map length y ≡ map length u
+    → ObjectRefused from o path (limited_words s old) e (limited_words y new)
 refused_object levels from s m u y p o room path old new e there r g clears sizes = record {
   left = given_up levels s m u y (begin_of p room) (copied_words o) (copied_at (begin_of p room) o) g.left.0 (room_new s m p (copied_words o) room there r) g.left.1 clears;
   takes = object_same (copied_words o) s u y old new (sym (total_alike u y sizes)) (object_taken s m u p (copied_words o) room old new r g.takes);
@@ -175,7 +175,7 @@ refused_object levels from s m u y p o room path old new e there r g clears size
 }
 
 pub no_room : (from s u : Segments) (o : Object) (path : List Visit) (l : ReadLimiter) (e : Error) → u ≡ s → (e.kind ≡ SizeOverflow) ↔ IsTooLarge o (total_words s)
-    → ObjectRefused from o path s u l e l
+    → ObjectRefused from o path (limited_words s l) e (limited_words u l)
 no_room from s u o path l e now kind = record {
   left = subst (λ (v : Segments). GrowsByZeros s v) (sym now) (changes_nothing s (λ q. 0));
   takes = object_untaken (copied_words o) s u l (ap total_words now);
@@ -183,14 +183,14 @@ no_room from s u o path l e now kind = record {
 }
 
 -- a refusal that is passed on
-pub object_refused : (levels : ℕ) (from : Segments) (o : Object) (there : Option Tree) (path : List Visit) (s u : Segments) (p : Place) (old new : ReadLimiter) (r : Result ⊤ Error) (d e : Error) → r ≡ Err d → d ≡ e → ObjectRefused from o path s u old e new → ObjectGives levels from o there path s u p old r new
+pub object_refused : (levels : ℕ) (from : Segments) (o : Object) (there : Option Tree) (path : List Visit) (s u : Segments) (p : Place) (old new : ReadLimiter) (r : Result ⊤ Error) (d e : Error) → r ≡ Err d → d ≡ e → ObjectRefused from o path (limited_words s old) e (limited_words u new) → ObjectGives (copy_of from there path) (object_put levels o p) (limited_words s old) r (limited_words u new)
 object_refused levels from o there path s u p old new r d e is same x =
-    subst (λ (y : Result ⊤ Error). ObjectGives levels from o there path s u p old y new) (sym (is ∙ ap (λ (y : Error). Err y) same)) x
+    subst (λ (y : Result ⊤ Error). ObjectGives (copy_of from there path) (object_put levels o p) (limited_words s old) y (limited_words u new)) (sym (is ∙ ap (λ (y : Error). Err y) same)) x
 
 -- ---- behind the visit of the object's own pointer
 
 pub with_visit : (levels : ℕ) (from s u : Segments) (p q : Place) (o : Object) (there : Option Tree) (path : List Visit) (old mid new : ReadLimiter) (r : Result ⊤ Error) → (x : Pays from q old o mid)
-    → ObjectGives levels from o there path s u p mid r new → CopyGives from there (Ok (x.pads + own_cost o) ∷ path) (BecomesCopy (suc levels) s u p) (GrowsByZeros s u) s u old r new
+    → ObjectGives (copy_of from there path) (object_put levels o p) (limited_words s mid) r (limited_words u new) → CopyGives (copy_of from there (Ok (x.pads + own_cost o) ∷ path)) (BecomesCopy (suc levels) s u p) (GrowsByZeros s u) (limited_words s old) r (limited_words u new)
 with_visit levels from s u p q o there path old mid new (Ok y) x g = record {
   value = g.value;
   there_is = g.there_is;
@@ -205,7 +205,7 @@ with_visit levels from s u p q o there path old mid new (Err e) x g = record {
   why = by g.why;
 }
   where
-    by : HasNoPlace o s u mid e new ⊎ (Stopped path mid e new ⊎ Unplaced from path u mid e new) → Stopped (Ok (x.pads + own_cost o) ∷ path) old e new ⊎ Unplaced from (Ok (x.pads + own_cost o) ∷ path) u old e new
+    by : HasNoPlace o (limited_words s mid) e (limited_words u new) ⊎ (Stopped path mid e new ⊎ Unplaced from path u mid e new) → Stopped (Ok (x.pads + own_cost o) ∷ path) old e new ⊎ Unplaced from (Ok (x.pads + own_cost o) ∷ path) u old e new
     by (inl y) = inr (record {
       before = [];
       rest = path;
@@ -233,7 +233,7 @@ no_leaf (object.PointerList p n) a b = refl
 no_leaf (object.StructList p words n d k) a b = refl
 
 pub leaf_filled : (levels : ℕ) (from s : Segments) (r : Place) (o : Object) (l : ReadLimiter) → is_leaf o ≡ true
-    → Copied (tree_in from (tree_at levels from) o) (met_in (visits levels from) o) (λ v. (n : ℕ) → levels ≤ n → Fills n s s r (copied_words o) (copied_at r o) v) s s l l
+    → Copied (tree_in from (tree_at levels from) o) (met_in (visits levels from) o) (λ v. (n : ℕ) → levels ≤ n → Fills n s s (span r (copied_words o)) (copied_at r o) v) (limited_words s l) (limited_words s l)
 leaf_filled levels from s r object.Null l h = record {
   value = null;
   there_is = refl;
@@ -257,9 +257,9 @@ leaf_filled levels from s r (object.StructList p words n d k) l h = absurd cc
 
 -- what is made of zero words
 abbrev pub FillGives : ℕ → Segments → Segments → Segments → Place → Object → ReadLimiter → Result ⊤ Error → ReadLimiter → Type 0
-FillGives levels from s u r o old x new = CopyGives from (tree_in from (tree_at levels from) o) (met_in (visits levels from) o) (λ v. (n : ℕ) → levels ≤ n → Fills n s u r (copied_words o) (copied_at r o) v) ((t : Tree) × Fills levels s u r (copied_words o) (copied_at r o) t) s u old x new
+FillGives levels from s u r o old x new = CopyGives (copy_of from (tree_in from (tree_at levels from) o) (met_in (visits levels from) o)) (λ v. (n : ℕ) → levels ≤ n → Fills n s u (span r (copied_words o)) (copied_at r o) v) ((t : Tree) × Fills levels s u (span r (copied_words o)) (copied_at r o) t) (limited_words s old) x (limited_words u new)
 
 -- ---- a walk that is stopped at once
 
-pub stopped_gives : (n : ℕ) (from : Segments) (p : Place) (s : Segments) (old new : ReadLimiter) (e : Error) → Stopped (visits n from p) old e new → Refused from (visits n from p) (GrowsByZeros s s) s s old e new
+pub stopped_gives : (n : ℕ) (from : Segments) (p : Place) (s : Segments) (old new : ReadLimiter) (e : Error) → Stopped (visits n from p) old e new → Refused from (visits n from p) (GrowsByZeros s s) (limited_words s old) e (limited_words s new)
 stopped_gives n from p s old new e x = record { left = changes_nothing s (λ q. 0); takes = record { granted = x.paid; spends = x.spends; few = omega arith }; why = inl x }

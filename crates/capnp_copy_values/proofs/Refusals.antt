@@ -12,7 +12,7 @@ use Rattle.capnp_wire_objects.specs.Walks.{Walked, Stopped}
 use Rattle.capnp_wire_objects.proofs.lemmas.Walks.{walked_both, stopped_later}
 use Rattle.capnp_copy_arenas.specs.Allocations.{total_words}
 use Rattle.capnp_copy_values.specs.Objects.{IsTooLarge}
-use Rattle.capnp_copy_values.specs.Copies.{Unplaced, Refused, CopyGives}
+use Rattle.capnp_copy_values.specs.Copies.{Unplaced, Refused, CopyGives, copy_of, limited_words}
 
 -- behind visits that were made
 pub unplaced_later : (from : Segments) (a b path more : List Visit) (u v : Segments) (old mid new : ReadLimiter) (e : Error) → path ≡ a ++ (b ++ more) → total_words u ≡ total_words v → Walked a old mid → Unplaced from b u mid e new → Unplaced from path v old e new
@@ -36,10 +36,10 @@ why_later from a b path more u v old mid new e is same w (inl x) = inl (stopped_
 why_later from a b path more u v old mid new e is same w (inr x) = inr (unplaced_later from a b path more u v old mid new e is same w x)
 
 -- a refusal that is passed on
-pub refused_is : {X : Type 0} (from : Segments) (there : Option X) (path : List Visit) (Made : X → Type 0) (Left : Type 0) (s u : Segments) (old new : ReadLimiter) (r : Result ⊤ Error) (d e : Error) → r ≡ Err d → d ≡ e → Refused from path Left s u old e new → CopyGives from there path Made Left s u old r new
+pub refused_is : {X : Type 0} (from : Segments) (there : Option X) (path : List Visit) (Made : X → Type 0) (Left : Type 0) (s u : Segments) (old new : ReadLimiter) (r : Result ⊤ Error) (d e : Error) → r ≡ Err d → d ≡ e → Refused from path Left (limited_words s old) e (limited_words u new) → CopyGives (copy_of from there path) Made Left (limited_words s old) r (limited_words u new)
 refused_is from there path Made Left s u old new r d e is same x =
-    subst (λ (y : Result ⊤ Error). CopyGives from there path Made Left s u old y new) (sym (is ∙ ap (λ (y : Error). Err y) same)) x
+    subst (λ (y : Result ⊤ Error). CopyGives (copy_of from there path) Made Left (limited_words s old) y (limited_words u new)) (sym (is ∙ ap (λ (y : Error). Err y) same)) x
 
-pub gives_is : {X : Type 0} (from : Segments) (there there' : Option X) (path path' : List Visit) (Made : X → Type 0) (Left : Type 0) (s u : Segments) (old new : ReadLimiter) (r : Result ⊤ Error) → there ≡ there' → path ≡ path' → CopyGives from there path Made Left s u old r new → CopyGives from there' path' Made Left s u old r new
+pub gives_is : {X : Type 0} (from : Segments) (there there' : Option X) (path path' : List Visit) (Made : X → Type 0) (Left : Type 0) (s u : Segments) (old new : ReadLimiter) (r : Result ⊤ Error) → there ≡ there' → path ≡ path' → CopyGives (copy_of from there path) Made Left (limited_words s old) r (limited_words u new) → CopyGives (copy_of from there' path') Made Left (limited_words s old) r (limited_words u new)
 gives_is from there there' path path' Made Left s u old new r e f g =
-    subst (λ (x : Option _). CopyGives from x path' Made Left s u old r new) e (subst (λ (vs : List Visit). CopyGives from there vs Made Left s u old r new) f g)
+    subst (λ (x : Option _). CopyGives (copy_of from x path') Made Left (limited_words s old) r (limited_words u new)) e (subst (λ (vs : List Visit). CopyGives (copy_of from there vs) Made Left (limited_words s old) r (limited_words u new)) f g)

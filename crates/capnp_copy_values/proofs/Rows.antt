@@ -4,7 +4,7 @@ use Rattle.std.proofs.lemmas.List.{append_assoc, append-nil}
 use Rattle.capnp_model.specs.Chains.{◌>>=◌}
 use Rattle.capnp_model.specs.Segments.{Segments, Place, after}
 use Rattle.capnp_model.specs.Pointers.{a_struct}
-use Rattle.capnp_model.specs.Trees.{Tree, structure, Trees, none, ◌▸◌, tree_count, child, with_child, resized}
+use Rattle.capnp_model.specs.Trees.{Tree, structure, Trees, none, ◌▸◌, tree_count, child, with_child}
 use Rattle.capnp_model.specs.Traversal.{tree_at, each}
 use Rattle.capnp_model.specs.Coverage.{Grows, from_each}
 use Rattle.capnp_model.specs.Visits.{Visit, visits}
@@ -24,7 +24,7 @@ use Rattle.capnp_model_writes.proofs.lemmas.Rows.{after_none, after_sum}
 use Rattle.capnp_model_writes.proofs.lemmas.Turns.{struct_here, struct_next, struct_done}
 use Rattle.capnp_model.proofs.lemmas.Counts.{each_count}
 use Rattle.capnp_model.proofs.lemmas.Stripping.{resized_all}
-use Rattle.capnp_copy_values.specs.Copies.{TakesFew, BecomesCopy, GrowsByZeros, Copied, Refused, FillsRow, LeavesRow}
+use Rattle.capnp_copy_values.specs.Copies.{TakesFew, BecomesCopy, GrowsByZeros, Copied, Refused, FillsRow, LeavesRow, copy_source, limited_words, sized_at}
 use Rattle.capnp_copy_values.proofs.lemmas.Filling.{value_stands}
 use Rattle.capnp_copy_values.proofs.Refusals.{why_later}
 use Rattle.capnp_copy_values.proofs.Taking.{takes_none, takes_both}
@@ -135,7 +135,7 @@ module _ (levels : ℕ) (from : Segments) (p : Place) (k : ℕ) (s : Segments) (
   }
 
   module _ (i : ℕ) (u w : Segments) (m m' : ReadLimiter) (in_row : i < k) (so : RowSoFar levels from p k i s u r d l m) where
-    pub row_next : Copied (tree_at levels from (after p i)) (visits levels from (after p i)) (BecomesCopy levels u w (after (after r d) i)) u w m m' → RowSoFar levels from p k (i + 1) s w r d l m'
+    pub row_next : Copied (tree_at levels from (after p i)) (visits levels from (after p i)) (BecomesCopy levels u w (after (after r d) i)) (limited_words u m) (limited_words w m') → RowSoFar levels from p k (i + 1) s w r d l m'
     row_next x = record {
       first = joined so.first (x.value ▸ none);
       count = joined_count so.first x.value i so.count;
@@ -168,7 +168,7 @@ module _ (levels : ℕ) (from : Segments) (p : Place) (k : ℕ) (s : Segments) (
         more t ts = joined_next so.first t ts
 
     -- a child that is refused leaves the row as it was
-    pub row_stopped : (e : Error) → Refused from (visits levels from (after p i)) (GrowsByZeros u w) u w m e m' → Refused from (from_each (visits levels from) p k) (LeavesRow levels from p s w r d k) s w l e m'
+    pub row_stopped : (e : Error) → Refused from (visits levels from (after p i)) (GrowsByZeros u w) (limited_words u m) e (limited_words w m') → Refused from (from_each (visits levels from) p k) (LeavesRow (copy_source levels from p) s w (sized_at r d k)) (limited_words s l) e (limited_words w m')
     row_stopped e x = record {
       left = record {
         grows = grows_then s u w so.grows x.left.grows;
@@ -193,7 +193,7 @@ module _ (levels : ℕ) (from : Segments) (p : Place) (k : ℕ) (s : Segments) (
           (so.path_is ∙ ap (λ (vs : List Visit). so.past ++ vs) (met_next p i k in_row (visits levels from))) refl so.walked x.why;
     }
 
-  pub row_ended : (i : ℕ) (u : Segments) (m : ReadLimiter) → i ≡ k → RowSoFar levels from p k i s u r d l m → Copied (each (tree_at levels from) p k) (from_each (visits levels from) p k) (FillsRow levels s u r d k) s u l m
+  pub row_ended : (i : ℕ) (u : Segments) (m : ReadLimiter) → i ≡ k → RowSoFar levels from p k i s u r d l m → Copied (each (tree_at levels from) p k) (from_each (visits levels from) p k) (FillsRow levels s u (sized_at r d k)) (limited_words s l) (limited_words u m)
   row_ended i u m all so =
       let past : k ≤ i = omega (arith, all) in
       let nothing : each (tree_at levels from) (after p i) (k - i) ≡ Some none = row_end k i (each (tree_at levels from) (after p i)) past in

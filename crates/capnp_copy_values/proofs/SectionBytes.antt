@@ -9,7 +9,7 @@ use Rattle.capnp_model.specs.Segments.{Segments, Place, after, words_at}
 use Rattle.capnp_model.specs.Pointers.{a_struct}
 use Rattle.capnp_model.specs.Chains.{◌>>=◌}
 use Rattle.capnp_model.specs.Trees.{Tree, structure, Trees}
-use Rattle.capnp_model.specs.Coverage.{Grows}
+use Rattle.capnp_model.specs.Coverage.{Grows, span}
 use Rattle.capnp_model.specs.Visits.{Visit}
 use Rattle.capnp_units.specs.declared.errors.Error.{Error}
 use Rattle.capnp_units.specs.declared.limiter.ReadLimiter.{ReadLimiter}
@@ -27,7 +27,7 @@ use Rattle.capnp_copy_arenas.proofs.lemmas.RoomLaws.{some_of}
 use Rattle.capnp_copy_arenas.proofs.lemmas.BlobNumbers.{front_words_length, front_section, all_words, number_fits, filled}
 use Rattle.capnp_copy_arenas.proofs.lemmas.BlobValues.{front_there}
 use Rattle.capnp_model.proofs.lemmas.ReadFits.{words_length}
-use Rattle.capnp_copy_values.specs.Copies.{CopyGives, Fills, FillsRow, LeavesRow}
+use Rattle.capnp_copy_values.specs.Copies.{CopyGives, Fills, FillsRow, LeavesRow, copy_of, copy_source, limited_words, sized_at}
 use Rattle.capnp_copy_values.proofs.Made.{struct_fills, section_copied}
 use Rattle.capnp_copy_values.proofs.Parts as parts
 use Rattle.capnp_copy_values.proofs.Taking.{written_total}
@@ -91,8 +91,8 @@ section_written n m r d k own kids bytes small fit there o = by_cases (ltb (whol
 
 -- zero words that become a struct of these bytes, and of the pointers that are copied
 pub section_fills : (levels : ℕ) (b : Segments) (p : Place) (from : Segments) (there : Option Trees) (path : List Visit) (bytes : List ℕ) (m w u : Segments) (r : Place) (d k : ℕ) (old new : ReadLimiter) (x : Result ⊤ Error) → AreBytes bytes → d ≡ words_for (8 * length bytes) → words_at m r (d + k) ≡ Some (replicate (d + k) 0) → w ≡ with_bytes m r d bytes
-    → CopyGives from there path (FillsRow levels w u r d k) (LeavesRow levels b p w u r d k) w u old x new
-    → CopyGives from (there >>= λ ts. Some (structure d (number_of 8 bytes) ts)) path (λ v. (n : ℕ) → levels ≤ n → Fills n m u r (d + k) (a_struct r d k) v) ((t : Tree) × Fills levels m u r (d + k) (a_struct r d k) t) m u old x new
+    → CopyGives (copy_of from there path) (FillsRow levels w u (sized_at r d k)) (LeavesRow (copy_source levels b p) w u (sized_at r d k)) (limited_words w old) x (limited_words u new)
+    → CopyGives (copy_of from (there >>= λ ts. Some (structure d (number_of 8 bytes) ts)) path) (λ v. (n : ℕ) → levels ≤ n → Fills n m u (span r (d + k)) (a_struct r d k) v) ((t : Tree) × Fills levels m u (span r (d + k)) (a_struct r d k) t) (limited_words m old) x (limited_words u new)
 section_fills levels b p from there path bytes m w u r d k old new x small fit zeros now g =
     let front : is_some (words_at m r d) ≡ true = parts.front_there m r (d + k) (ap is_some zeros) d (omega arith) in
     struct_fills levels from there path (number_of 8 bytes) m u r d k old new x zeros

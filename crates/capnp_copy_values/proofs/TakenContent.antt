@@ -35,7 +35,7 @@ use Rattle.capnp_copy_arenas.proofs.lemmas.BlobNumbers.{front_words_length, fron
 use Rattle.capnp_copy_arenas.proofs.lemmas.RoomLaws.{some_of, sizes_grow}
 use Rattle.capnp_wire_objects.specs.Walks.{Stopped}
 use Rattle.capnp_model.proofs.lemmas.ReadFits.{words_length}
-use Rattle.capnp_copy_values.specs.Copies.{Copied, Refused, Unplaced, FillsRow, LeavesRow, StructSource}
+use Rattle.capnp_copy_values.specs.Copies.{Copied, Refused, Unplaced, FillsRow, LeavesRow, StructSource, copy_source, limited_words, sized_at}
 use Rattle.capnp_copy_values.specs.Contents.{fitting, TakesContent, TakesPart, ClearsRest, SetsSection}
 use Rattle.capnp_copy_values.proofs.Taking.{total_alike, takes_none, takes_same, takes_both}
 
@@ -195,8 +195,8 @@ written_first : (s m : Segments) (o : StructPlace) (section : ℕ) → SetsSecti
 written_first s m o section w n own kids h = let first = w n own kids h in (first, object_replaced_owned n s m (object_of_struct o) _ _ h first)
 
 pub content_refused : (levels : ℕ) (from : Segments) (x : StructSource) (s m u : Segments) (o : StructPlace) (k : ℕ) (old new : ReadLimiter) (e : Error) → k ≡ min x.pointers o.pointers → SetsSection s m o (fitting o.data_words x.section) → map length m ≡ map length s
-    → Refused from (from_each (visits levels from) (place_view x.first) k) (LeavesRow levels from (place_view x.first) m u (place_view o.start) o.data_words k) m u old e new
-    → Refused from (from_each (visits levels from) (place_view x.first) (min x.pointers o.pointers)) (TakesPart levels from x s u o) s u old e new
+    → Refused from (from_each (visits levels from) (place_view x.first) k) (LeavesRow (copy_source levels from (place_view x.first)) m u (sized_at (place_view o.start) o.data_words k)) (limited_words m old) e (limited_words u new)
+    → Refused from (from_each (visits levels from) (place_view x.first) (min x.pointers o.pointers)) (TakesPart (copy_source levels from x) s u o) (limited_words s old) e (limited_words u new)
 content_refused levels from x s m u o k old new e shared w sizes g = record {
   left = record {
     grows = grows_then s m u (sizes_grow s m sizes) g.left.grows;
@@ -215,10 +215,10 @@ content_refused levels from x s m u o k old new e shared w sizes g = record {
 }
 
 pub content_copied : (levels : ℕ) (from : Segments) (x : StructSource) (s m u v : Segments) (o : StructPlace) (k : ℕ) (old new : ReadLimiter) → k ≡ min x.pointers o.pointers → SetsSection s m o (fitting o.data_words x.section) → map length m ≡ map length s
-    → Copied (each (tree_at levels from) (place_view x.first) k) (from_each (visits levels from) (place_view x.first) k) (FillsRow levels m u (place_view o.start) o.data_words k) m u old new → ClearsRest u v o k → map length v ≡ map length u
-    → Copied (each (tree_at levels from) (place_view x.first) (min x.pointers o.pointers)) (from_each (visits levels from) (place_view x.first) (min x.pointers o.pointers)) (TakesContent levels s v o x.section) s v old new
+    → Copied (each (tree_at levels from) (place_view x.first) k) (from_each (visits levels from) (place_view x.first) k) (FillsRow levels m u (sized_at (place_view o.start) o.data_words k)) (limited_words m old) (limited_words u new) → ClearsRest u v o k → map length v ≡ map length u
+    → Copied (each (tree_at levels from) (place_view x.first) (min x.pointers o.pointers)) (from_each (visits levels from) (place_view x.first) (min x.pointers o.pointers)) (TakesContent levels s v o x.section) (limited_words s old) (limited_words v new)
 content_copied levels from x s m u v o k old new shared w sizes g c same =
-    subst (λ (j : ℕ). Copied (each (tree_at levels from) (place_view x.first) j) (from_each (visits levels from) (place_view x.first) j) (TakesContent levels s v o x.section) s v old new) shared (record {
+    subst (λ (j : ℕ). Copied (each (tree_at levels from) (place_view x.first) j) (from_each (visits levels from) (place_view x.first) j) (TakesContent levels s v o x.section) (limited_words s old) (limited_words v new)) shared (record {
       value = g.value;
       there_is = g.there_is;
       walked = g.walked;

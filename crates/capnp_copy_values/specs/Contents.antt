@@ -3,17 +3,15 @@ use Rattle.std.specs.Prelude.{◌≡◌, ⊤, ℕ, ◌*◌, ◌%◌, ◌^◌, �
 use Rattle.capnp_model.specs.Segments.{Segments}
 use Rattle.capnp_model.specs.Trees.{structure, Trees, resized}
 use Rattle.capnp_model.specs.Traversal.{tree_at, each}
-use Rattle.capnp_model.specs.Coverage.{Grows, from_each}
-use Rattle.capnp_model.specs.Visits.{visits}
+use Rattle.capnp_model.specs.Coverage.{Grows}
 use Rattle.capnp_units.specs.declared.errors.Error.{Error}
-use Rattle.capnp_units.specs.declared.limiter.ReadLimiter.{ReadLimiter}
 use Rattle.capnp_wire_objects.specs.Places.{place_view}
 use Rattle.capnp_model_writes.specs.Children.{with_first}
 use Rattle.capnp_model_writes.specs.Footprints.{OwnsObject}
 use Rattle.capnp_model_writes.specs.Changes.{ReplacesObject}
 use Rattle.capnp_copy_arenas.specs.declared.fields.StructPlace.{StructPlace}
 use Rattle.capnp_copy_arenas.specs.Structs.{object_of_struct}
-use Rattle.capnp_copy_values.specs.Copies.{CopyGives, StructSource}
+use Rattle.capnp_copy_values.specs.Copies.{CopySource, copy_source, LimitedWords, CopyGives, copy_of_row, StructSource}
 
 -- What fits of a section into n words.
 abbrev pub fitting : ℕ → ℕ → ℕ
@@ -27,19 +25,19 @@ TakesContent levels s u o section ts =
 
 -- Its section is what fits of the source's, its first n children those that were read, and the
 -- others stay.
-pub record TakesPart (levels : ℕ) (from : Segments) (x : StructSource) (s u : Segments) (o : StructPlace) : Type 0 where
+pub record TakesPart (x : CopySource StructSource) (s u : Segments) (o : StructPlace) : Type 0 where
   pub grows : Grows s u
   pub copied : ℕ
-  pub few : copied ≤ min x.pointers o.pointers
+  pub few : copied ≤ min x.what.pointers o.pointers
   pub read : Trees
-  pub read_is : each (tree_at levels from) (place_view x.first) copied ≡ Some read
-  pub left : (n own : ℕ) (kids : Trees) → levels ≤ n → OwnsObject n s (object_of_struct o) (structure o.data_words own kids) → ReplacesObject n s u (object_of_struct o) (structure o.data_words (fitting o.data_words x.section) (with_first copied read kids))
+  pub read_is : each (tree_at x.levels x.segments) (place_view x.what.first) copied ≡ Some read
+  pub left : (n own : ℕ) (kids : Trees) → x.levels ≤ n → OwnsObject n s (object_of_struct o) (structure o.data_words own kids) → ReplacesObject n s u (object_of_struct o) (structure o.data_words (fitting o.data_words x.what.section) (with_first copied read kids))
 
 -- A struct takes over the content of one that is read, as far as it fits; the pointers that it has no place for aren't followed.
-abbrev pub CopiesContent : ℕ → Segments → StructSource → Segments → Segments → StructPlace → ReadLimiter → Result ⊤ Error → ReadLimiter → Type 0
-CopiesContent levels from x s u o old result new =
-    let there = each (tree_at levels from) (place_view x.first) (min x.pointers o.pointers) in
-    CopyGives from there (from_each (visits levels from) (place_view x.first) (min x.pointers o.pointers)) (TakesContent levels s u o x.section) (TakesPart levels from x s u o) s u old result new
+abbrev pub CopiesContent : CopySource StructSource → StructPlace → LimitedWords → Result ⊤ Error → LimitedWords → Type 0
+CopiesContent x o old result new =
+    let first = copy_source x.levels x.segments (place_view x.what.first) in
+    CopyGives (copy_of_row first (min x.what.pointers o.pointers)) (TakesContent x.levels old.segments new.segments o x.what.section) (TakesPart x old.segments new.segments o) old result new
 
 -- Whatever struct is there: its children behind the first n become null.
 abbrev pub ClearsRest : Segments → Segments → StructPlace → ℕ → Type 0

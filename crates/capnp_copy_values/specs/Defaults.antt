@@ -7,11 +7,10 @@ use Rattle.capnp_units.specs.declared.limiter.ReadLimiter.{ReadLimiter}
 use Rattle.capnp_units.specs.Limits.{limit_of, granted_of}
 use Rattle.capnp_units.specs.Segments.{words_in}
 use Rattle.capnp_model.specs.Sizes.{object_words}
-use Rattle.capnp_model.specs.Traversal.{tree_at}
 use Rattle.capnp_model.specs.Visits.{visits}
 use Rattle.capnp_copy_arenas.specs.States.{ArenaState}
-use Rattle.capnp_copy_values.specs.Copies.{CopiesValue, IsStoppedOr}
-use Rattle.capnp_copy_values.specs.Fits.{FitsWhereRoom, HasLongList}
+use Rattle.capnp_copy_values.specs.Copies.{copy_source, limited_words, copy_of_value, CopiesValue, IsStoppedOr}
+use Rattle.capnp_copy_values.specs.Fits.{limited_arena, wanted, FitsCopy, HasLongList}
 
 -- The one segment that has these words.
 abbrev pub default_segments : List (List ℕ) → Segments
@@ -27,7 +26,7 @@ pub record CopiesDefault (default s u : Segments) (p : Place) (result : Result �
   pub new : ReadLimiter
   pub endless : limit_of old ≡ None
   pub unused : granted_of old ≡ 0
-  pub copies : CopiesValue 64 default root s u p old result new
+  pub copies : CopiesValue (copy_source 64 default root) p (limited_words s old) result (limited_words u new)
 
 -- It was written exactly where there was null, and the default's root isn't; else all stands as it
 -- was.
@@ -41,7 +40,7 @@ pub record DefaultFits (default : Segments) (i : ℕ) (s u : ArenaState) (result
   pub old : ReadLimiter
   pub new : ReadLimiter
   pub endless : limit_of old ≡ None
-  pub fits : FitsWhereRoom object_words (tree_at 64 default root) (visits 64 default root) (HasLongList default) i s u old result new
+  pub fits : FitsCopy (copy_of_value (copy_source 64 default root)) (wanted object_words (HasLongList default) i) (limited_arena s old) result (limited_arena u new)
   pub cause : IsStoppedOr (visits 64 default root) old new told result
 
 -- It is made exactly where there was null, and the default's root isn't; else all stands, and

@@ -15,11 +15,8 @@ use Rattle.capnp_wire_objects.specs.Objects.{object_at}
 use Rattle.capnp_wire_objects.specs.Walks.{Stopped}
 use Rattle.capnp_model_writes.specs.Writes.{with_zeros}
 use Rattle.capnp_copy_arenas.specs.Allocations.{HasRoom, UsesRoom}
-use Rattle.capnp_copy_arenas.specs.States.{ArenaState}
-use Rattle.capnp_model.specs.Chains.{◌>>=◌}
-use Rattle.capnp_model.specs.Traversal.{each}
-use Rattle.capnp_wire_objects.specs.Places.{place_view}
-use Rattle.capnp_copy_values.specs.Copies.{StructSource}
+use Rattle.capnp_copy_arenas.specs.States.{ArenaState, state_in}
+use Rattle.capnp_copy_values.specs.Copies.{CopyOf}
 use Rattle.capnp_copy_values.specs.Objects.{most_counted}
 
 -- The words behind the objects of elements, at every depth.
@@ -53,13 +50,33 @@ HasLongList from = (at : model.Place) × (found : Found) × (object_at from at �
 abbrev pub IsLong : Segments → wire.Object → Type 0
 IsLong from o = (2 ^ 29 ≤ most_counted o) ⊎ HasLongList from
 
--- Where the ith segment has room for the words of what is read, exactly these are taken, in it.
--- Then the copy is refused only where the walk is stopped, or with `SizeOverflow` since a list is
--- too long.
-abbrev pub FitsWhereRoom : {X : Type 0} → (X → ℕ) → Option X → List Visit → Type 0 → ℕ → ArenaState → ArenaState → ReadLimiter → Result ⊤ Error → ReadLimiter → Type 0
-FitsWhereRoom {X = X} words there path Long i s u old (Ok _) new = (x : X) → there ≡ Some x → HasRoomIn s i (words x) → TakesIn s u i (words x)
-FitsWhereRoom {X = X} words there path Long i s u old (Err e) new = (x : X) → there ≡ Some x → HasRoomIn s i (words x) → Stopped path old e new ⊎ ((e.kind ≡ SizeOverflow) × Long)
+-- An arena that is copied into, and what may still be read for it.
+pub record LimitedArena : Type 0 where
+  pub arena : ArenaState
+  pub limiter : ReadLimiter
 
--- The tree of a struct that is copied by its sections.
-abbrev pub struct_tree : (model.Place → Option Tree) → StructSource → Option Tree
-struct_tree below x = each below (place_view x.first) x.pointers >>= λ ts. Some (structure x.data_words x.section ts)
+abbrev pub limited_arena : ArenaState → ReadLimiter → LimitedArena
+limited_arena s limiter = record { arena = s; limiter = limiter }
+
+-- By the members that tell the arena.
+abbrev pub limited_in : {X : Type 0} → (X → List (List ℕ)) → (X → List ℕ) → (X → List (List ℕ)) → X → ReadLimiter → LimitedArena
+limited_in segments room books arena limiter = limited_arena (state_in segments room books arena) limiter
+
+-- What a copy takes: so many words of what is read, in the ith segment; and whether a list is too long for it.
+pub record Wanted (X : Type 0) : Type 1 where
+  pub words : X → ℕ
+  pub Long : Type 0
+  pub segment : ℕ
+
+abbrev pub wanted : {X : Type 0} → (X → ℕ) → Type 0 → ℕ → Wanted X
+wanted words Long i = record { words = words; Long = Long; segment = i }
+
+-- Where its segment has room for the words of what is read, exactly these are taken, in it. Then
+-- the copy is refused only where the walk is stopped, or with `SizeOverflow` since a list is too
+-- long.
+abbrev pub FitsWhereRoom : {X : Type 0} → Option X → List Visit → Wanted X → LimitedArena → Result ⊤ Error → LimitedArena → Type 0
+FitsWhereRoom {X = X} there path w old (Ok _) new = (x : X) → there ≡ Some x → HasRoomIn old.arena w.segment (w.words x) → TakesIn old.arena new.arena w.segment (w.words x)
+FitsWhereRoom {X = X} there path w old (Err e) new = (x : X) → there ≡ Some x → HasRoomIn old.arena w.segment (w.words x) → Stopped path old.limiter e new.limiter ⊎ ((e.kind ≡ SizeOverflow) × w.Long)
+
+abbrev pub FitsCopy : {X : Type 0} → CopyOf X → Wanted X → LimitedArena → Result ⊤ Error → LimitedArena → Type 0
+FitsCopy x = FitsWhereRoom x.there x.path

@@ -2,19 +2,14 @@
 use Rattle.std.specs.Prelude.{⊤, ℕ, ◌+◌, ◌*◌, ◌≤◌, ◌<◌, ◌^◌, List, length, Result}
 use Rattle.capnp_model.specs.Sections.{number_of, words_of}
 use Rattle.capnp_model.specs.Sizes.{object_words}
-use Rattle.capnp_model.specs.Traversal.{tree_at, each_element}
 use Rattle.capnp_units.specs.declared.errors.Error.{Error}
-use Rattle.capnp_units.specs.declared.limiter.ReadLimiter.{ReadLimiter}
-use Rattle.capnp_units.specs.Segments.{words_in}
 use Rattle.capnp_wire_objects.specs.declared.place.Place as location
 use Rattle.capnp_wire_objects.specs.Places.{place_view}
-use Rattle.capnp_copy_arenas.specs.States.{ArenaState}
 use Rattle.capnp_copy_arenas.specs.declared.fields.StructPlace.{StructPlace}
 use Rattle.capnp_copy_values.specs.declared.lists.ListSource.{ListSource}
-use Rattle.capnp_copy_values.specs.Copies.{FillsObject, CopiesOverStruct, CopiesOverElements}
-use Rattle.capnp_copy_values.specs.Fits.{FitsWhereRoom, HasLongList, IsLong, words_behind, elements_behind}
-use Rattle.capnp_copy_values.specs.Lists.{CopiesList, listed_bits, listed_object, listed_tree, listed_words}
-use Rattle.capnp_copy_values.specs.Sources.{visits_in_object, visits_in_structs}
+use Rattle.capnp_copy_values.specs.Copies.{CopySource, copy_source, LimitedWords, StructSource, StructsSource, copy_of_structs, object_put, FillsObject, CopiesOverElements}
+use Rattle.capnp_copy_values.specs.Fits.{LimitedArena, wanted, FitsCopy, HasLongList, IsLong, words_behind, elements_behind}
+use Rattle.capnp_copy_values.specs.Lists.{ListParts, copy_of_list, listed_bits, listed_object, listed_words}
 
 -- The words of its structs, without their tag.
 abbrev pub structs_words : ListSource → ℕ
@@ -31,36 +26,31 @@ HaveBits bytes bits = (bits ≤ 8 * length bytes) × (8 * length bytes < bits + 
 -- ---- what is made
 
 -- The list, over zeros.
-abbrev pub FillsListed : ℕ → List (List ℕ) → ListSource → List ℕ → List (List ℕ) → List (List ℕ) → location.Place → ReadLimiter → Result ⊤ Error → ReadLimiter → Type 0
-FillsListed levels from x bytes s u start old result new =
-    FillsObject levels (words_in from) (listed_object x) (listed_tree (tree_at levels (words_in from)) x bytes) (words_in s) (words_in u) (place_view start) old result new
+abbrev pub FillsListed : CopySource ListParts → location.Place → LimitedWords → Result ⊤ Error → LimitedWords → Type 0
+FillsListed x start = FillsObject (copy_of_list x) (object_put x.levels (listed_object x.what.list) (place_view start))
 
--- The list, in place of a value.
-abbrev pub CopiesListed : ℕ → List (List ℕ) → ListSource → List ℕ → List (List ℕ) → List (List ℕ) → location.Place → ReadLimiter → Result ⊤ Error → ReadLimiter → Type 0
-CopiesListed levels from x bytes s u slot old result new = CopiesList levels (words_in from) x bytes (words_in s) (words_in u) (place_view slot) old result new
+-- Its structs; the bytes are their words.
+abbrev pub structs_of_list : ListParts → StructsSource
+structs_of_list x =
+    record { first = place_view x.list.start; words = words_of (structs_words x.list) (number_of 8 x.bytes); data_words = x.list.data_words; pointers = x.list.pointers; count = x.list.count }
 
--- Its structs, over as many of their size; the bytes are their words.
-abbrev pub CopiesListedStructs : ℕ → List (List ℕ) → ListSource → List ℕ → List (List ℕ) → List (List ℕ) → location.Place → ReadLimiter → Result ⊤ Error → ReadLimiter → Type 0
-CopiesListedStructs levels from x bytes s u start old result new =
-    CopiesOverElements levels (words_in from) (place_view x.start) (words_of (structs_words x) (number_of 8 bytes)) x.data_words x.pointers x.count (words_in s) (words_in u) (place_view start) old result new
+-- These, over as many of their size.
+abbrev pub CopiesListedStructs : CopySource ListParts → location.Place → LimitedWords → Result ⊤ Error → LimitedWords → Type 0
+CopiesListedStructs x start = CopiesOverElements (copy_source x.levels x.segments (structs_of_list x.what)) (place_view start)
 
--- The bytes over a struct's data, and copies of the values of as many pointers as it has, which stand in a row.
-abbrev pub CopiesSection : ℕ → List (List ℕ) → location.Place → List ℕ → List (List ℕ) → List (List ℕ) → StructPlace → ReadLimiter → Result ⊤ Error → ReadLimiter → Type 0
-CopiesSection levels from first section s u o old result new =
-    CopiesOverStruct levels (words_in from) (place_view first) (number_of 8 section) o.data_words o.pointers (words_in s) (words_in u) (place_view o.start) old result new
+-- A struct with the sizes of this one: these bytes are its data, and its pointers stand in a row.
+abbrev pub struct_by : StructPlace → List ℕ → location.Place → StructSource
+struct_by o section first = record { section = number_of 8 section; data_words = o.data_words; first = first; pointers = o.pointers }
 
 -- ---- what is taken where there is room
 
-abbrev pub FitsListed : ℕ → List (List ℕ) → ListSource → List ℕ → location.Place → ArenaState → ArenaState → ReadLimiter → Result ⊤ Error → ReadLimiter → Type 0
-FitsListed levels from x bytes slot s u old result new =
-    FitsWhereRoom object_words (listed_tree (tree_at levels (words_in from)) x bytes) (visits_in_object levels from (listed_object x)) (IsLong (words_in from) (listed_object x)) slot.segment s u old result new
+abbrev pub FitsListed : CopySource ListParts → location.Place → LimitedArena → Result ⊤ Error → LimitedArena → Type 0
+FitsListed x slot = FitsCopy (copy_of_list x) (wanted object_words (IsLong x.segments (listed_object x.what.list)) slot.segment)
 
 -- For what is behind the list, which lies at a place of the segment.
-abbrev pub FitsBehindListed : ℕ → List (List ℕ) → ListSource → List ℕ → location.Place → ArenaState → ArenaState → ReadLimiter → Result ⊤ Error → ReadLimiter → Type 0
-FitsBehindListed levels from x bytes start s u old result new =
-    FitsWhereRoom words_behind (listed_tree (tree_at levels (words_in from)) x bytes) (visits_in_object levels from (listed_object x)) (HasLongList (words_in from)) start.segment s u old result new
+abbrev pub FitsBehindListed : CopySource ListParts → location.Place → LimitedArena → Result ⊤ Error → LimitedArena → Type 0
+FitsBehindListed x start = FitsCopy (copy_of_list x) (wanted words_behind (HasLongList x.segments) start.segment)
 
 -- For what is behind its structs.
-abbrev pub FitsListedStructs : ℕ → List (List ℕ) → ListSource → List ℕ → location.Place → ArenaState → ArenaState → ReadLimiter → Result ⊤ Error → ReadLimiter → Type 0
-FitsListedStructs levels from x bytes start s u old result new =
-    FitsWhereRoom elements_behind (each_element (tree_at levels (words_in from)) (place_view x.start) (words_of (structs_words x) (number_of 8 bytes)) x.data_words x.pointers x.count) (visits_in_structs levels from x) (HasLongList (words_in from)) start.segment s u old result new
+abbrev pub FitsListedStructs : CopySource ListParts → location.Place → LimitedArena → Result ⊤ Error → LimitedArena → Type 0
+FitsListedStructs x start = FitsCopy (copy_of_structs (copy_source x.levels x.segments (structs_of_list x.what))) (wanted elements_behind (HasLongList x.segments) start.segment)

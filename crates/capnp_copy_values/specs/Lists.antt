@@ -2,12 +2,11 @@
 use Rattle.std.specs.Prelude.{⊤, ℕ, ◌+◌, ◌*◌, ◌%◌, ◌^◌, List, Option, Some, Result}
 use Rattle.capnp_model.specs.Chains.{◌>>=◌}
 use Rattle.capnp_model.specs.Sections.{number_of, words_of}
-use Rattle.capnp_model.specs.Segments.{Segments, Place}
+use Rattle.capnp_model.specs.Segments.{Place}
 use Rattle.capnp_model.specs.Trees.{Tree, plain_list, pointer_list, struct_list}
 use Rattle.capnp_model.specs.Traversal.{tree_at, each, each_element}
 use Rattle.capnp_model.specs.Visits.{visits}
 use Rattle.capnp_units.specs.declared.errors.Error.{Error}
-use Rattle.capnp_units.specs.declared.limiter.ReadLimiter.{ReadLimiter}
 use Rattle.capnp_units.specs.declared.sizes.ElementSize.{ElementSize}
 use Rattle.capnp_units.specs.declared.sizes.ElementSize.TheVariants.{Pointer, InlineComposite}
 use Rattle.capnp_units.specs.Sizes.{size_number}
@@ -16,7 +15,7 @@ use Rattle.capnp_wire_objects.specs.declared.object.Object.TheVariants as object
 use Rattle.capnp_wire_objects.specs.Places.{place_view}
 use Rattle.capnp_wire_objects.specs.Inside.{met_in}
 use Rattle.capnp_wire.specs.Elements.{step_bits, step_words}
-use Rattle.capnp_copy_values.specs.Copies.{ObjectGives}
+use Rattle.capnp_copy_values.specs.Copies.{CopySource, CopyOf, copy_of, LimitedWords, object_put, ObjectGives}
 use Rattle.capnp_copy_values.specs.declared.lists.ListSource.{ListSource}
 
 -- The bits of its elements, and the words of its pointers or structs.
@@ -50,8 +49,18 @@ listed_object x = object_of_size x.size x
 abbrev pub listed_tree : (Place → Option Tree) → ListSource → List ℕ → Option Tree
 listed_tree below x bytes = tree_of_size x.size below x (listed_section x bytes)
 
--- A list of its size is put in place of that value, as its whole tree; n levels may be followed
--- from each of its pointers.
-abbrev pub CopiesList : ℕ → Segments → ListSource → List ℕ → Segments → Segments → Place → ReadLimiter → Result ⊤ Error → ReadLimiter → Type 0
-CopiesList levels from x bytes s u p old result new =
-    ObjectGives levels from (listed_object x) (listed_tree (tree_at levels from) x bytes) (met_in (visits levels from) (listed_object x)) s u p old result new
+-- A list that is read by its parts: what its elements are, and the bytes that hold them.
+pub record ListParts : Type 0 where
+  pub list : ListSource
+  pub bytes : List ℕ
+
+abbrev pub list_parts : ListSource → List ℕ → ListParts
+list_parts list bytes = record { list = list; bytes = bytes }
+
+-- Its tree; n levels may be followed from each of its pointers.
+abbrev pub copy_of_list : CopySource ListParts → CopyOf Tree
+copy_of_list x = copy_of x.segments (listed_tree (tree_at x.levels x.segments) x.what.list x.what.bytes) (met_in (visits x.levels x.segments) (listed_object x.what.list))
+
+-- A list of its size is put in place of the value of the pointer at p, as its whole tree.
+abbrev pub CopiesList : CopySource ListParts → Place → LimitedWords → Result ⊤ Error → LimitedWords → Type 0
+CopiesList x p = ObjectGives (copy_of_list x) (object_put x.levels (listed_object x.what.list) p)

@@ -1,11 +1,11 @@
 //! The canonical copy of a value into an arena, in place of another.
 ghost use Rattle.std.specs.Prelude.{◌≡◌, ◌^◌, ◌<◌};
-ghost use Rattle.capnp_units.specs.Segments.{words_in};
 ghost use Rattle.capnp_wire_objects.specs.Places.{place_view};
-ghost use Rattle.capnp_copy_values.specs.Copies.{FollowsFew};
+ghost use Rattle.capnp_copy_values.specs.Copies.{source_in, limited, FollowsFew};
+ghost use Rattle.capnp_copy_values.specs.Fits.{limited_in};
 ghost use Rattle.capnp_copy_arenas.specs.Refusals.{IsSizeOrRefusal};
-ghost use Rattle.capnp_copy_arenas.specs.States.{HasWords, state_in};
-ghost use Rattle.capnp_copy_values.specs.Canonical.{CopiesCanonical, CanonicalTold, WritesFew};
+ghost use Rattle.capnp_copy_arenas.specs.States.{HasWords};
+ghost use Rattle.capnp_copy_values.specs.Canonical.{lent_copy, CopiesCanonical, CanonicalTold, WritesFew};
 
 use crate::copy::copy_from;
 use capnp_copy_arenas::arena::BuilderArena;
@@ -52,15 +52,14 @@ pub fn copy_canonical_from<A: BuilderArena, B: ReaderArena>(
 ) -> Result<()>
     requires there { HasWords (A.segments arena.old) slot 1 }
     requires near { slot.position < 2 ^ 61 }
-    ensures copy { CopiesCanonical levels (words_in (B.segments source.now)) (place_view place)
-        lent.old (words_in (A.segments arena.old)) (words_in (A.segments arena.new))
-        (place_view slot) limiter.old result limiter.new }
+    ensures copy { CopiesCanonical (lent_copy (source_in levels (B.segments source.now)
+        (place_view place)) lent.old) (place_view slot) (limited (A.segments arena.old) limiter.old)
+        result (limited (A.segments arena.new) limiter.new) }
     ensures few { FollowsFew limiter.old limiter.new }
     ensures lent { WritesFew limiter.old limiter.new lent.old lent.new }
-    ensures told { let at = state_in A.segments A.room A.books in
-        CanonicalTold levels (words_in (B.segments source.now)) (place_view place) lent.old
-        (at arena.old) (at arena.new) slot.segment (IsSizeOrRefusal A.refuses) limiter.old result
-        limiter.new }
+    ensures told { let at = limited_in A.segments A.room A.books in CanonicalTold (lent_copy
+        (source_in levels (B.segments source.now) (place_view place)) lent.old) slot.segment
+        (IsSizeOrRefusal A.refuses) (at arena.old limiter.old) result (at arena.new limiter.new) }
     ensures books { A.books arena.new ≡ A.books arena.old }
 {
     values_that_are_read();

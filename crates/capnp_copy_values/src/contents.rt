@@ -6,9 +6,9 @@ ghost use Rattle.capnp_model.specs.Segments.{words_at};
 ghost use Rattle.capnp_units.specs.Segments.{words_in};
 ghost use Rattle.capnp_wire_objects.specs.Places.{place_view};
 ghost use Rattle.capnp_copy_arenas.specs.Refusals.{IsSizeOrRefusal};
-ghost use Rattle.capnp_copy_arenas.specs.States.{state_in};
-ghost use Rattle.capnp_copy_values.specs.Copies.{IsStoppedOr, struct_source};
-ghost use Rattle.capnp_copy_values.specs.Sources.{HasStructWords, visits_in_row, FitsRow};
+ghost use Rattle.capnp_copy_values.specs.Copies.{source_in, limited, IsStoppedOr, struct_source};
+ghost use Rattle.capnp_copy_values.specs.Fits.{limited_in};
+ghost use Rattle.capnp_copy_values.specs.Sources.{HasStructWords, visits_in_row, pointer_row, FitsRow};
 ghost use Rattle.capnp_copy_values.specs.Contents.{CopiesContent, ClearsRest, SetsSection, fitting};
 
 use crate::copy::fill_row;
@@ -107,14 +107,14 @@ pub fn copy_content_from<A: BuilderArena, B: ReaderArena>(
     requires there { HasStructWords (A.segments arena.old) object }
     requires near { object.start.position + (object.data_words + object.pointers) < 2 ^ 61 }
     requires source_near { first.position + pointers < 2 ^ 62 }
-    ensures content { CopiesContent levels (words_in (B.segments source.now))
-        (struct_source section.now first pointers) (words_in (A.segments arena.old))
-        (words_in (A.segments arena.new)) object limiter.old result limiter.new }
+    ensures content { CopiesContent (source_in levels (B.segments source.now)
+        (struct_source section.now first pointers)) object (limited (A.segments arena.old)
+        limiter.old) result (limited (A.segments arena.new) limiter.new) }
     ensures cause { IsStoppedOr (visits_in_row levels (B.segments source.now) (place_view first)
         (min pointers object.pointers)) limiter.old limiter.new (IsSizeOrRefusal A.refuses) result }
-    ensures fits { let at = state_in A.segments A.room A.books in FitsRow levels
-        (B.segments source.now) (place_view first) (min pointers object.pointers) object.start
-        (at arena.old) (at arena.new) limiter.old result limiter.new }
+    ensures fits { let at = limited_in A.segments A.room A.books in FitsRow (source_in levels
+        (B.segments source.now) (pointer_row (place_view first) (min pointers object.pointers)))
+        object.start (at arena.old limiter.old) result (at arena.new limiter.new) }
     ensures books { A.books arena.new ≡ A.books arena.old }
 {
     copy_data_from(arena, object, section);

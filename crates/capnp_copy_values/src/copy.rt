@@ -5,10 +5,11 @@ ghost use Rattle.capnp_units.specs.Segments.{words_in};
 ghost use Rattle.capnp_wire_objects.specs.Places.{place_view};
 ghost use Rattle.capnp_wire_objects.specs.Objects.{IsInside};
 ghost use Rattle.capnp_copy_arenas.specs.Refusals.{IsSizeOrRefusal};
-ghost use Rattle.capnp_copy_arenas.specs.States.{HasWords, state_in};
-ghost use Rattle.capnp_copy_values.specs.Copies.{BecomesCopy, IsStoppedOr, CopiesValue, CopiesObject, FollowsFew, HasZeros};
+ghost use Rattle.capnp_copy_arenas.specs.States.{HasWords};
+ghost use Rattle.capnp_copy_values.specs.Copies.{source_in, limited, sized_at, BecomesCopy, IsStoppedOr, CopiesValue, CopiesObject, FollowsFew, HasZeros};
 ghost use Rattle.capnp_copy_values.specs.Objects.{copied_words, most_counted, is_leaf, leaf_value};
-ghost use Rattle.capnp_copy_values.specs.Sources.{LieThere, rows_words, visits_of_value, visits_in_object, visits_in_row, visits_in_rows, CopiesRow, FillsFrom, CopiesStructFrom, CopiesRows, FitsValue, FitsObject, FitsBehind, FitsRow, FitsRows};
+ghost use Rattle.capnp_copy_values.specs.Fits.{limited_in};
+ghost use Rattle.capnp_copy_values.specs.Sources.{LieThere, rows_words, visits_of_value, visits_in_object, visits_in_row, visits_in_rows, pointer_row, struct_place, CopiesRow, FillsFrom, CopiesStructFrom, CopiesRows, FitsValue, FitsObject, FitsBehind, FitsRow, FitsRows};
 
 use crate::objects::{copy_at, pointer_word, room_for, tag_word};
 use crate::words::copy_words;
@@ -62,15 +63,15 @@ pub fn copy_from<A: BuilderArena, B: ReaderArena>(
 ) -> Result<()>
     requires there { HasWords (A.segments arena.old) slot 1 }
     requires near { slot.position < 2 ^ 61 }
-    ensures copy { CopiesValue levels (words_in (B.segments source.now)) (place_view place)
-        (words_in (A.segments arena.old)) (words_in (A.segments arena.new)) (place_view slot)
-        limiter.old result limiter.new }
+    ensures copy { CopiesValue (source_in levels (B.segments source.now) (place_view place))
+        (place_view slot) (limited (A.segments arena.old) limiter.old) result
+        (limited (A.segments arena.new) limiter.new) }
     ensures few { FollowsFew limiter.old limiter.new }
     ensures cause { IsStoppedOr (visits_of_value levels (B.segments source.now) place) limiter.old
         limiter.new (IsSizeOrRefusal A.refuses) result }
-    ensures fits { let at = state_in A.segments A.room A.books in
-        FitsValue levels (B.segments source.now) place slot (at arena.old) (at arena.new)
-        limiter.old result limiter.new }
+    ensures fits { let at = limited_in A.segments A.room A.books in FitsValue
+        (source_in levels (B.segments source.now) (place_view place)) slot
+        (at arena.old limiter.old) result (at arena.new limiter.new) }
     ensures books { A.books arena.new ≡ A.books arena.old }
 {
     let object = follow_within(source, limiter, place, levels)?;
@@ -128,14 +129,14 @@ pub fn copy_object<A: BuilderArena, B: ReaderArena>(
     requires there { HasWords (A.segments arena.old) slot 1 }
     requires near { slot.position < 2 ^ 61 }
     requires inside { IsInside (words_in (B.segments source.now)) object }
-    ensures copy { CopiesObject levels (words_in (B.segments source.now)) object
-        (words_in (A.segments arena.old)) (words_in (A.segments arena.new)) (place_view slot)
-        limiter.old result limiter.new }
+    ensures copy { CopiesObject (source_in levels (B.segments source.now) object) (place_view slot)
+        (limited (A.segments arena.old) limiter.old) result
+        (limited (A.segments arena.new) limiter.new) }
     ensures cause { IsStoppedOr (visits_in_object levels (B.segments source.now) object) limiter.old
         limiter.new (IsSizeOrRefusal A.refuses) result }
-    ensures fits { let at = state_in A.segments A.room A.books in
-        FitsObject levels (B.segments source.now) object slot (at arena.old) (at arena.new)
-        limiter.old result limiter.new }
+    ensures fits { let at = limited_in A.segments A.room A.books in FitsObject
+        (source_in levels (B.segments source.now) object) slot (at arena.old limiter.old) result
+        (at arena.new limiter.new) }
     ensures books { A.books arena.new ≡ A.books arena.old }
 {
     if let Object::Null | Object::Capability { .. } = object {
@@ -171,13 +172,13 @@ fn fill<A: BuilderArena, B: ReaderArena>(
     requires near { start.position + copied_words object < 2 ^ 61 }
     requires few { most_counted object < 2 ^ 29 }
     requires inside { IsInside (words_in (B.segments source.now)) object }
-    ensures copy { FillsFrom levels (B.segments source.now) object (A.segments arena.old)
-        (A.segments arena.new) start limiter.old result limiter.new }
+    ensures copy { FillsFrom (source_in levels (B.segments source.now) object) start (limited
+        (A.segments arena.old) limiter.old) result (limited (A.segments arena.new) limiter.new) }
     ensures cause { IsStoppedOr (visits_in_object levels (B.segments source.now) object) limiter.old
         limiter.new (IsSizeOrRefusal A.refuses) result }
-    ensures fits { let at = state_in A.segments A.room A.books in
-        FitsBehind levels (B.segments source.now) object start (at arena.old) (at arena.new)
-        limiter.old result limiter.new }
+    ensures fits { let at = limited_in A.segments A.room A.books in FitsBehind
+        (source_in levels (B.segments source.now) object) start (at arena.old limiter.old) result
+        (at arena.new limiter.new) }
     ensures books { A.books arena.new ≡ A.books arena.old }
 {
     match object {
@@ -237,13 +238,14 @@ pub(crate) fn fill_row<A: BuilderArena, B: ReaderArena>(
     requires there { HasWords (A.segments arena.old) start (data_words + count) }
     requires near { (start.position + (data_words + count) < 2 ^ 61)
         × (first.position + count < 2 ^ 62) }
-    ensures copy { CopiesRow levels (B.segments source.now) first count (A.segments arena.old)
-        (A.segments arena.new) start data_words limiter.old result limiter.new }
+    ensures copy { CopiesRow (source_in levels (B.segments source.now) (place_view first))
+        (sized_at (place_view start) data_words count) (limited (A.segments arena.old) limiter.old)
+        result (limited (A.segments arena.new) limiter.new) }
     ensures cause { IsStoppedOr (visits_in_row levels (B.segments source.now) (place_view first)
         count) limiter.old limiter.new (IsSizeOrRefusal A.refuses) result }
-    ensures fits { let at = state_in A.segments A.room A.books in
-        FitsRow levels (B.segments source.now) (place_view first) count start (at arena.old)
-        (at arena.new) limiter.old result limiter.new }
+    ensures fits { let at = limited_in A.segments A.room A.books in FitsRow (source_in levels
+        (B.segments source.now) (pointer_row (place_view first) count)) start
+        (at arena.old limiter.old) result (at arena.new limiter.new) }
     ensures books { A.books arena.new ≡ A.books arena.old }
 {
     for i in 0..count {
@@ -275,14 +277,14 @@ fn fill_struct<A: BuilderArena, B: ReaderArena>(
     requires there { HasWords (A.segments arena.old) start (data_words + pointers) }
     requires near { start.position + (data_words + pointers) < 2 ^ 61 }
     requires inside { LieThere (B.segments source.now) from (data_words + pointers) }
-    ensures copy { CopiesStructFrom levels (B.segments source.now) from data_words pointers
-        (A.segments arena.old) (A.segments arena.new) start limiter.old result limiter.new }
-    ensures cause { IsStoppedOr (visits_in_row levels (B.segments source.now)
-        (after (place_view from) data_words) pointers) limiter.old limiter.new
-        (IsSizeOrRefusal A.refuses) result }
-    ensures fits { let at = state_in A.segments A.room A.books in
-        FitsRow levels (B.segments source.now) (after (place_view from) data_words) pointers start
-        (at arena.old) (at arena.new) limiter.old result limiter.new }
+    ensures copy { CopiesStructFrom (source_in levels (B.segments source.now)
+        (struct_place from data_words pointers)) start (limited (A.segments arena.old) limiter.old)
+        result (limited (A.segments arena.new) limiter.new) }
+    ensures cause { IsStoppedOr (visits_in_row levels (B.segments source.now) (after (place_view
+        from) data_words) pointers) limiter.old limiter.new (IsSizeOrRefusal A.refuses) result }
+    ensures fits { let at = limited_in A.segments A.room A.books in FitsRow (source_in levels
+        (B.segments source.now) (pointer_row (after (place_view from) data_words) pointers)) start
+        (at arena.old limiter.old) result (at arena.new limiter.new) }
     ensures books { A.books arena.new ≡ A.books arena.old }
 {
     copy_words(arena, start, source, from, data_words as usize);
@@ -317,13 +319,13 @@ fn fill_elements<A: BuilderArena, B: ReaderArena>(
     requires near { start.position + (1 + rows_words rows) < 2 ^ 61 }
     requires inside { LieThere (B.segments source.now) rows.start rows.words }
     requires fit { rows_words rows ≤ rows.words }
-    ensures copy { CopiesRows levels (B.segments source.now) rows (A.segments arena.old)
-        (A.segments arena.new) start limiter.old result limiter.new }
+    ensures copy { CopiesRows (source_in levels (B.segments source.now) rows) start (limited
+        (A.segments arena.old) limiter.old) result (limited (A.segments arena.new) limiter.new) }
     ensures cause { IsStoppedOr (visits_in_rows levels (B.segments source.now) rows) limiter.old
         limiter.new (IsSizeOrRefusal A.refuses) result }
-    ensures fits { let at = state_in A.segments A.room A.books in FitsRows levels
-        (B.segments source.now) rows start (at arena.old) (at arena.new) limiter.old result
-        limiter.new }
+    ensures fits { let at = limited_in A.segments A.room A.books in FitsRows
+        (source_in levels (B.segments source.now) rows) start (at arena.old limiter.old) result
+        (at arena.new limiter.new) }
     ensures books { A.books arena.new ≡ A.books arena.old }
 {
     if rows.pointers == 0 {

@@ -2,17 +2,19 @@
 ghost use Rattle.std.specs.Prelude.{◌≡◌, ℕ, ◌+◌, ◌*◌, ◌%◌, ◌^◌, ◌<◌, ◌≤◌, length};
 ghost use Rattle.capnp_model.specs.Sections.{number_of, words_for};
 ghost use Rattle.capnp_model.specs.Pointers.{a_list};
+ghost use Rattle.capnp_model.specs.Coverage.{span};
 ghost use Rattle.capnp_model.specs.Trees.{plain_list};
 ghost use Rattle.capnp_units.specs.Segments.{words_in};
 ghost use Rattle.capnp_units.specs.Sizes.{size_number, data_bits};
 ghost use Rattle.capnp_wire_objects.specs.Places.{place_view};
 ghost use Rattle.capnp_copy_arenas.specs.Refusals.{IsSizeOrRefusal};
-ghost use Rattle.capnp_copy_arenas.specs.States.{HasWords, KeepsSizes, state_in};
-ghost use Rattle.capnp_copy_values.specs.Copies.{IsStoppedOr, Fills, HasZeros};
+ghost use Rattle.capnp_copy_arenas.specs.States.{HasWords, KeepsSizes};
+ghost use Rattle.capnp_copy_values.specs.Copies.{source_in, limited, IsStoppedOr, CopiesOverStruct, Fills, HasZeros};
 ghost use Rattle.capnp_copy_values.specs.Objects.{copied_words, most_counted};
-ghost use Rattle.capnp_copy_values.specs.Lists.{listed_object, listed_bits, listed_words};
-ghost use Rattle.capnp_copy_values.specs.Sources.{HasStructWords, visits_in_object, visits_in_row, visits_in_structs, FitsRow};
-ghost use Rattle.capnp_copy_values.specs.ListSources.{structs_words, HaveBits, HoldListed, FillsListed, CopiesListed, CopiesListedStructs, CopiesSection, FitsListed, FitsBehindListed, FitsListedStructs};
+ghost use Rattle.capnp_copy_values.specs.Lists.{list_parts, listed_object, CopiesList};
+ghost use Rattle.capnp_copy_values.specs.Sources.{HasStructWords, visits_in_object, visits_in_row, visits_in_structs, pointer_row, FitsRow};
+ghost use Rattle.capnp_copy_values.specs.ListSources.{structs_words, HaveBits, HoldListed, struct_by, FillsListed, CopiesListedStructs, FitsListed, FitsBehindListed, FitsListedStructs};
+ghost use Rattle.capnp_copy_values.specs.Fits.{limited_in};
 
 use crate::copy::fill_row;
 use crate::objects::{copy_at, pointer_word, room_for, tag_word};
@@ -71,10 +73,10 @@ fn write_elements<A: BuilderArena>(
         (words_for (data_bits (size_number size) * count)) }
     requires near { start.position + words_for (data_bits (size_number size) * count) < 2 ^ 61 }
     requires all { HaveBits bytes.now (data_bits (size_number size) * count) }
-    ensures fills { let bits = data_bits (size_number size) * count in
-        (n : ℕ) → Fills n (words_in (A.segments arena.old)) (words_in (A.segments arena.new))
-        (place_view start) (words_for bits) (a_list (place_view start) (size_number size) count)
-        (plain_list (size_number size) count (number_of 8 bytes.now % 2 ^ bits)) }
+    ensures fills { let bits = data_bits (size_number size) * count in (n : ℕ)
+        → Fills n (words_in (A.segments arena.old)) (words_in (A.segments arena.new))
+        (span (place_view start) (words_for bits)) (a_list (place_view start) (size_number size)
+        count) (plain_list (size_number size) count (number_of 8 bytes.now % 2 ^ bits)) }
     ensures sizes { KeepsSizes (A.segments arena.old) (A.segments arena.new) }
     ensures room { A.room arena.new ≡ A.room arena.old }
     ensures books { A.books arena.new ≡ A.books arena.old }
@@ -98,13 +100,14 @@ fn fill_element<A: BuilderArena, B: ReaderArena>(
     requires near { (object.start.position + (object.data_words + object.pointers) < 2 ^ 61)
         × (first.position + object.pointers < 2 ^ 62) }
     requires all { length section.now ≡ 8 * object.data_words }
-    ensures copy { CopiesSection levels (B.segments source.now) first section.now
-        (A.segments arena.old) (A.segments arena.new) object limiter.old result limiter.new }
+    ensures copy { CopiesOverStruct (source_in levels (B.segments source.now)
+        (struct_by object section.now first)) (place_view object.start) (limited
+        (A.segments arena.old) limiter.old) result (limited (A.segments arena.new) limiter.new) }
     ensures cause { IsStoppedOr (visits_in_row levels (B.segments source.now) (place_view first)
         object.pointers) limiter.old limiter.new (IsSizeOrRefusal A.refuses) result }
-    ensures fits { let at = state_in A.segments A.room A.books in
-        FitsRow levels (B.segments source.now) (place_view first) object.pointers object.start
-        (at arena.old) (at arena.new) limiter.old result limiter.new }
+    ensures fits { let at = limited_in A.segments A.room A.books in FitsRow (source_in levels
+        (B.segments source.now) (pointer_row (place_view first) object.pointers)) object.start
+        (at arena.old limiter.old) result (at arena.new limiter.new) }
     ensures books { A.books arena.new ≡ A.books arena.old }
 {
     arena.write_words(object.start, section);
@@ -136,13 +139,14 @@ fn fill_structs<A: BuilderArena, B: ReaderArena>(
     requires near { start.position + (1 + structs_words list) < 2 ^ 61 }
     requires source_near { list.start.position + structs_words list < 2 ^ 61 }
     requires all { length bytes.now ≡ 8 * structs_words list }
-    ensures copy { CopiesListedStructs levels (B.segments source.now) list bytes.now
-        (A.segments arena.old) (A.segments arena.new) start limiter.old result limiter.new }
+    ensures copy { CopiesListedStructs (source_in levels (B.segments source.now)
+        (list_parts list bytes.now)) start (limited (A.segments arena.old) limiter.old) result
+        (limited (A.segments arena.new) limiter.new) }
     ensures cause { IsStoppedOr (visits_in_structs levels (B.segments source.now) list) limiter.old
         limiter.new (IsSizeOrRefusal A.refuses) result }
-    ensures fits { let at = state_in A.segments A.room A.books in
-        FitsListedStructs levels (B.segments source.now) list bytes.now start (at arena.old)
-        (at arena.new) limiter.old result limiter.new }
+    ensures fits { let at = limited_in A.segments A.room A.books in FitsListedStructs
+        (source_in levels (B.segments source.now) (list_parts list bytes.now)) start
+        (at arena.old limiter.old) result (at arena.new limiter.new) }
     ensures books { A.books arena.new ≡ A.books arena.old }
 {
     if list.pointers == 0 {
@@ -196,13 +200,14 @@ fn fill_list<A: BuilderArena, B: ReaderArena>(
     requires near { start.position + copied_words (listed_object list) < 2 ^ 61 }
     requires few { most_counted (listed_object list) < 2 ^ 29 }
     requires held { HoldListed list bytes.now }
-    ensures copy { FillsListed levels (B.segments source.now) list bytes.now (A.segments arena.old)
-        (A.segments arena.new) start limiter.old result limiter.new }
+    ensures copy { FillsListed (source_in levels (B.segments source.now)
+        (list_parts list bytes.now)) start (limited (A.segments arena.old) limiter.old) result
+        (limited (A.segments arena.new) limiter.new) }
     ensures cause { IsStoppedOr (visits_in_object levels (B.segments source.now)
         (listed_object list)) limiter.old limiter.new (IsSizeOrRefusal A.refuses) result }
-    ensures fits { let at = state_in A.segments A.room A.books in
-        FitsBehindListed levels (B.segments source.now) list bytes.now start (at arena.old)
-        (at arena.new) limiter.old result limiter.new }
+    ensures fits { let at = limited_in A.segments A.room A.books in FitsBehindListed
+        (source_in levels (B.segments source.now) (list_parts list bytes.now)) start
+        (at arena.old limiter.old) result (at arena.new limiter.new) }
     ensures books { A.books arena.new ≡ A.books arena.old }
 {
     match list.size {
@@ -252,15 +257,15 @@ pub fn set_list<A: BuilderArena, B: ReaderArena>(
 ) -> Result<()>
     requires there { HasWords (A.segments arena.old) slot 1 }
     requires near { slot.position < 2 ^ 61 }
-    requires inside { listed_bits list ≤ 8 * length bytes.now }
-    requires source_near { list.start.position + listed_words list < 2 ^ 61 }
-    ensures copy { CopiesListed levels (B.segments source.now) list bytes.now (A.segments arena.old)
-        (A.segments arena.new) slot limiter.old result limiter.new }
+    requires held { HoldListed list bytes.now }
+    ensures copy { CopiesList (source_in levels (B.segments source.now) (list_parts list bytes.now))
+        (place_view slot) (limited (A.segments arena.old) limiter.old) result
+        (limited (A.segments arena.new) limiter.new) }
     ensures cause { IsStoppedOr (visits_in_object levels (B.segments source.now)
         (listed_object list)) limiter.old limiter.new (IsSizeOrRefusal A.refuses) result }
-    ensures fits { let at = state_in A.segments A.room A.books in
-        FitsListed levels (B.segments source.now) list bytes.now slot (at arena.old) (at arena.new)
-        limiter.old result limiter.new }
+    ensures fits { let at = limited_in A.segments A.room A.books in FitsListed
+        (source_in levels (B.segments source.now) (list_parts list bytes.now)) slot
+        (at arena.old limiter.old) result (at arena.new limiter.new) }
     ensures books { A.books arena.new ≡ A.books arena.old }
 {
     let object = object_of(list);

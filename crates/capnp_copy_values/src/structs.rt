@@ -1,10 +1,10 @@
 //! Structs that are copied by their sections.
 ghost use Rattle.std.specs.Prelude.{◌≡◌, ◌+◌, ◌-◌, ◌*◌, ◌^◌, ◌<◌, ◌≤◌, length};
-ghost use Rattle.capnp_units.specs.Segments.{words_in};
 ghost use Rattle.capnp_wire_objects.specs.Places.{place_view};
 ghost use Rattle.capnp_copy_arenas.specs.Refusals.{IsSizeOrRefusal};
-ghost use Rattle.capnp_copy_arenas.specs.States.{HasWords, state_in};
-ghost use Rattle.capnp_copy_values.specs.Copies.{CopiesStruct, IsStoppedOr, struct_source};
+ghost use Rattle.capnp_copy_arenas.specs.States.{HasWords};
+ghost use Rattle.capnp_copy_values.specs.Copies.{source_in, limited, CopiesStruct, IsStoppedOr, struct_source};
+ghost use Rattle.capnp_copy_values.specs.Fits.{limited_in};
 ghost use Rattle.capnp_copy_values.specs.Sources.{visits_in_row, FitsStruct};
 
 use crate::copy::fill_row;
@@ -46,14 +46,14 @@ pub fn set_struct<A: BuilderArena, B: ReaderArena>(
     requires there { HasWords (A.segments arena.old) slot 1 }
     requires near { (slot.position < 2 ^ 61) × (first.position + pointers < 2 ^ 62) }
     requires few { length section.now ≤ 8 * (2 ^ 16 - 1) }
-    ensures copy { CopiesStruct levels (words_in (B.segments source.now))
-        (struct_source section.now first pointers) (words_in (A.segments arena.old))
-        (words_in (A.segments arena.new)) (place_view slot) limiter.old result limiter.new }
+    ensures copy { CopiesStruct (source_in levels (B.segments source.now)
+        (struct_source section.now first pointers)) (place_view slot) (limited
+        (A.segments arena.old) limiter.old) result (limited (A.segments arena.new) limiter.new) }
     ensures cause { IsStoppedOr (visits_in_row levels (B.segments source.now) (place_view first)
         pointers) limiter.old limiter.new (IsSizeOrRefusal A.refuses) result }
-    ensures fits { let at = state_in A.segments A.room A.books in FitsStruct levels
-        (B.segments source.now) (struct_source section.now first pointers) slot (at arena.old)
-        (at arena.new) limiter.old result limiter.new }
+    ensures fits { let at = limited_in A.segments A.room A.books in FitsStruct (source_in levels
+        (B.segments source.now) (struct_source section.now first pointers)) slot
+        (at arena.old limiter.old) result (at arena.new limiter.new) }
     ensures books { A.books arena.new ≡ A.books arena.old }
 {
     let data_words = ((section.len() + 7) / 8) as u16;

@@ -1,5 +1,5 @@
 -- Copies of what readers stand at.
-use Rattle.std.specs.Prelude.{◌≡◌, ⊤, ℕ, Bool, true, false, min, List, Option, None, MatchOption, map, length, Result, Ok, Err}
+use Rattle.std.specs.Prelude.{◌≡◌, ⊤, ℕ, Bool, true, false, min, List, None, MatchOption, map, length, Result, Ok, Err}
 use Rattle.capnp_model.specs.Sections.{words_for}
 use Rattle.capnp_model.specs.Segments.{Segments, Place}
 use Rattle.capnp_units.specs.declared.errors.Error.{Error}
@@ -11,16 +11,12 @@ use Rattle.capnp_wire.specs.Views.{PointerView, StructView, ListView}
 use Rattle.capnp_copy_arenas.specs.Clearing.{ClearsValue}
 use Rattle.capnp_copy_arenas.specs.declared.fields.StructPlace.{StructPlace}
 use Rattle.capnp_copy_values.specs.declared.lists.ListSource.{ListSource}
-use Rattle.capnp_model.specs.Coverage.{from_each}
 use Rattle.capnp_model.specs.Sizes.{object_words, each_object_words}
-use Rattle.capnp_model.specs.Traversal.{tree_at, each}
-use Rattle.capnp_model.specs.Visits.{Visit, visits}
-use Rattle.capnp_wire_objects.specs.Inside.{met_in}
 use Rattle.capnp_copy_arenas.specs.States.{ArenaState}
-use Rattle.capnp_copy_values.specs.Fits.{FitsWhereRoom, HasLongList, IsLong, struct_tree}
-use Rattle.capnp_copy_values.specs.Copies.{CopiesValue, CopiesStruct, StructSource, IsStoppedOr}
+use Rattle.capnp_copy_values.specs.Fits.{Wanted, wanted, limited_arena, FitsCopy, HasLongList, IsLong}
+use Rattle.capnp_copy_values.specs.Copies.{CopyOf, copy_source, copy_of_value, copy_of_row, copy_of_struct, limited_words, CopiesValue, CopiesStruct, StructSource, IsStoppedOr}
 use Rattle.capnp_copy_values.specs.Contents.{CopiesContent, SetsSection, fitting}
-use Rattle.capnp_copy_values.specs.Lists.{CopiesList, listed_section, listed_object, listed_tree}
+use Rattle.capnp_copy_values.specs.Lists.{list_parts, copy_of_list, CopiesList, listed_section, listed_object}
 
 -- What is done under a limit of words, by what it returns and what it took.
 abbrev pub Walk : Type 1
@@ -44,7 +40,7 @@ abbrev pub CopiesPointer : PointerView → Segments → Segments → Place → W
 CopiesPointer v s u p old result new =
     MatchOption v.levels (WithoutLevels s u old result new) (λ n.
     MatchOption v.place (BecomesNull s u p old result new) (λ q.
-    Charged v.basis.paid (CopiesValue n v.basis.segments q s u p) old result new))
+    Charged v.basis.paid (λ l r m. CopiesValue (copy_source n v.basis.segments q) p (limited_words s l) r (limited_words u m)) old result new))
 
 -- The parts of a struct that is read.
 pub record IsSourceOf (v : StructView) (x : StructSource) : Type 0 where
@@ -57,7 +53,7 @@ pub record IsSourceOf (v : StructView) (x : StructSource) : Type 0 where
 abbrev pub SetsStruct : StructView → Segments → Segments → Place → Walk
 SetsStruct v s u p old result new =
     MatchOption v.levels (WithoutLevels s u old result new) (λ n.
-    Charged v.basis.paid (λ l r m. (x : StructSource) × IsSourceOf v x × CopiesStruct n v.basis.segments x s u p l r m) old result new)
+    Charged v.basis.paid (λ l r m. (x : StructSource) × IsSourceOf v x × CopiesStruct (copy_source n v.basis.segments x) p (limited_words s l) r (limited_words u m)) old result new)
 
 -- Nothing has levels: the copy is refused, but what fits of the data is taken over before. The pointers and all else stand.
 pub record TakesDataAlone (v : StructView) (s u : Segments) (o : StructPlace) (old : ReadLimiter) (result : Result ⊤ Error) (new : ReadLimiter) : Type 0 where
@@ -70,7 +66,7 @@ pub record TakesDataAlone (v : StructView) (s u : Segments) (o : StructPlace) (o
 abbrev pub TakesOver : StructView → Segments → Segments → StructPlace → Walk
 TakesOver v s u o old result new =
     MatchOption v.levels (TakesDataAlone v s u o old result new) (λ n.
-    Charged v.basis.paid (λ l r m. (x : StructSource) × IsSourceOf v x × CopiesContent n v.basis.segments x s u o l r m) old result new)
+    Charged v.basis.paid (λ l r m. (x : StructSource) × IsSourceOf v x × CopiesContent (copy_source n v.basis.segments x) o (limited_words s l) r (limited_words u m)) old result new)
 
 -- The parts of a list that is read.
 pub record IsListSourceOf (v : ListView) (x : ListSource) (bytes : List ℕ) : Type 0 where
@@ -85,11 +81,11 @@ pub record IsListSourceOf (v : ListView) (x : ListSource) (bytes : List ℕ) : T
 abbrev pub SetsList : ListView → Segments → Segments → Place → Walk
 SetsList v s u p old result new =
     MatchOption v.levels (WithoutLevels s u old result new) (λ n.
-    Charged v.basis.paid (λ l r m. (x : ListSource) × (bytes : List ℕ) × IsListSourceOf v x bytes × CopiesList n v.basis.segments x bytes s u p l r m) old result new)
+    Charged v.basis.paid (λ l r m. (x : ListSource) × (bytes : List ℕ) × IsListSourceOf v x bytes × CopiesList (copy_source n v.basis.segments (list_parts x bytes)) p (limited_words s l) r (limited_words u m)) old result new)
 
--- What a copy takes in the ith segment where that has room, and why it is refused, of which `told` tells what doesn't come of what is read.
-abbrev pub IsTold : {X : Type 0} → (X → ℕ) → Option X → List Visit → Type 0 → ℕ → ArenaState → ArenaState → (Error → Type 0) → Walk
-IsTold words there path Long i s u told old result new = FitsWhereRoom words there path Long i s u old result new × IsStoppedOr path old new told result
+-- What a copy takes where there is room, and why it is refused, of which `told` tells what doesn't come of what is read.
+abbrev pub IsTold : {X : Type 0} → CopyOf X → Wanted X → ArenaState → ArenaState → (Error → Type 0) → Walk
+IsTold x w s u told old result new = FitsCopy x w (limited_arena s old) result (limited_arena u new) × IsStoppedOr x.path old new told result
 
 -- What the copy of a pointer's value, a struct, the content of one, or a list takes, and why it is
 -- refused.
@@ -97,19 +93,19 @@ abbrev pub PointerTold : PointerView → ArenaState → ArenaState → ℕ → (
 PointerTold v s u i told old result new =
     MatchOption v.levels (Unit {0}) (λ n.
     MatchOption v.place (Unit {0}) (λ q.
-    Charged v.basis.paid (IsTold object_words (tree_at n v.basis.segments q) (visits n v.basis.segments q) (HasLongList v.basis.segments) i s u told) old result new))
+    Charged v.basis.paid (IsTold (copy_of_value (copy_source n v.basis.segments q)) (wanted object_words (HasLongList v.basis.segments) i) s u told) old result new))
 
 abbrev pub StructTold : StructView → ArenaState → ArenaState → ℕ → (Error → Type 0) → Walk
 StructTold v s u i told old result new =
     MatchOption v.levels (Unit {0}) (λ n.
-    Charged v.basis.paid (λ l r m. (x : StructSource) × IsSourceOf v x × IsTold object_words (struct_tree (tree_at n v.basis.segments) x) (from_each (visits n v.basis.segments) (place_view x.first) x.pointers) (HasLongList v.basis.segments) i s u told l r m) old result new)
+    Charged v.basis.paid (λ l r m. (x : StructSource) × IsSourceOf v x × IsTold (copy_of_struct (copy_source n v.basis.segments x)) (wanted object_words (HasLongList v.basis.segments) i) s u told l r m) old result new)
 
 abbrev pub ContentTold : StructView → ArenaState → ArenaState → StructPlace → (Error → Type 0) → Walk
 ContentTold v s u o told old result new =
     MatchOption v.levels (Unit {0}) (λ n.
-    Charged v.basis.paid (λ l r m. (x : StructSource) × IsSourceOf v x × IsTold each_object_words (each (tree_at n v.basis.segments) (place_view x.first) (min x.pointers o.pointers)) (from_each (visits n v.basis.segments) (place_view x.first) (min x.pointers o.pointers)) (HasLongList v.basis.segments) o.start.segment s u told l r m) old result new)
+    Charged v.basis.paid (λ l r m. (x : StructSource) × IsSourceOf v x × IsTold (copy_of_row (copy_source n v.basis.segments (place_view x.first)) (min x.pointers o.pointers)) (wanted each_object_words (HasLongList v.basis.segments) o.start.segment) s u told l r m) old result new)
 
 abbrev pub ListTold : ListView → ArenaState → ArenaState → ℕ → (Error → Type 0) → Walk
 ListTold v s u i told old result new =
     MatchOption v.levels (Unit {0}) (λ n.
-    Charged v.basis.paid (λ l r m. (x : ListSource) × (bytes : List ℕ) × IsListSourceOf v x bytes × IsTold object_words (listed_tree (tree_at n v.basis.segments) x bytes) (met_in (visits n v.basis.segments) (listed_object x)) (IsLong v.basis.segments (listed_object x)) i s u told l r m) old result new)
+    Charged v.basis.paid (λ l r m. (x : ListSource) × (bytes : List ℕ) × IsListSourceOf v x bytes × IsTold (copy_of_list (copy_source n v.basis.segments (list_parts x bytes))) (wanted object_words (IsLong v.basis.segments (listed_object x)) i) s u told l r m) old result new)

@@ -10,8 +10,8 @@ use Rattle.capnp_units.specs.declared.limiter.ReadLimiter.{ReadLimiter}
 use Rattle.capnp_model_writes.specs.Footprints.{Owns}
 use Rattle.capnp_model_writes.specs.Changes.{Replaces}
 use Rattle.capnp_wire.specs.Views.{StructView, ListView}
-use Rattle.capnp_copy_values.specs.Copies.{BecomesCopy, StructSource, CopiesStruct}
-use Rattle.capnp_copy_values.specs.Lists.{CopiesList, listed_tree}
+use Rattle.capnp_copy_values.specs.Copies.{BecomesCopy, StructSource, CopiesStruct, copy_source, limited_words}
+use Rattle.capnp_copy_values.specs.Lists.{CopiesList, listed_tree, list_parts}
 use Rattle.capnp_copy_values.specs.declared.lists.ListSource.{ListSource}
 use Rattle.capnp_copy_values.specs.Canonical.{Canonical}
 use Rattle.capnp_layout_builders.specs.Copied.{Walk, Charged, WithoutLevels, IsSourceOf, IsListSourceOf, SetsStruct, SetsList}
@@ -42,7 +42,7 @@ module _ (one : (n m : ℕ) (s : Segments) (p : Place) (t v : Tree) → tree_at 
   puts : (there : Option Tree) (levels n m : ℕ) (b d : Segments) (k : Place) (t value : Tree) (lent after : List (List ℕ)) (s u : Segments) (p : Place)
       → there ≡ Some value → BecomesCopy levels b d k value → Owns n b k t → CopiesScratch m d k lent after s u p (Ok tt) → PutsTrimmed there m s u p
   puts there levels n m b d k t value lent after s u p is becomes owns x =
-      let made : Canonical m d k s u p x.start x.end = x.through.copy in
+      let made : Canonical (copy_source m d k) p (limited_words s x.start) (limited_words u x.end) = x.through.copy in
       let r = copied levels n b d k t value becomes owns in
       let same : value ≡ made.value = one (n + levels) m d k value made.value r.means made.read.there_is in
       record { value = made.value; there_is = is ∙ (ap (λ (y : Tree). Some y) same); clean = made.read.clean; becomes = made.becomes }
@@ -54,7 +54,7 @@ module _ (one : (n m : ℕ) (s : Segments) (p : Place) (t v : Tree) → tree_at 
       (never b d old new) by both.0
     where
       W : ℕ → Walk
-      W i l r m = (x : StructSource) × IsSourceOf v x × CopiesStruct i v.basis.segments x b d k l r m
+      W i l r m = (x : StructSource) × IsSourceOf v x × CopiesStruct (copy_source i v.basis.segments x) k (limited_words b l) r (limited_words d m)
 
       both : SetsStruct v b d k old (Ok tt) new × CopiesScratch (level_above v.levels) d k lent after s u p (Ok tt)
       both = passed (SetsStruct v b d k) (level_above v.levels) d k lent after s u p old new h
@@ -72,7 +72,7 @@ module _ (one : (n m : ℕ) (s : Segments) (p : Place) (t v : Tree) → tree_at 
       (never b d old new) by both.0
     where
       W : ℕ → Walk
-      W i l r m = (x : ListSource) × (bytes : List ℕ) × IsListSourceOf v x bytes × CopiesList i v.basis.segments x bytes b d k l r m
+      W i l r m = (x : ListSource) × (bytes : List ℕ) × IsListSourceOf v x bytes × CopiesList (copy_source i v.basis.segments (list_parts x bytes)) k (limited_words b l) r (limited_words d m)
 
       both : SetsList v b d k old (Ok tt) new × CopiesScratch (level_above v.levels) d k lent after s u p (Ok tt)
       both = passed (SetsList v b d k) (level_above v.levels) d k lent after s u p old new h

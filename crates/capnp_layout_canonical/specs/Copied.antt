@@ -4,14 +4,14 @@ use Rattle.capnp_model.specs.Segments.{Segments, Place}
 use Rattle.capnp_units.specs.declared.errors.Error.{Error}
 use Rattle.capnp_units.specs.declared.limiter.ReadLimiter.{ReadLimiter}
 use Rattle.capnp_wire.specs.Views.{PointerView}
-use Rattle.capnp_copy_values.specs.Copies.{FollowsFew}
-use Rattle.capnp_copy_values.specs.Canonical.{CopiesCanonical, WritesFew}
+use Rattle.capnp_copy_values.specs.Copies.{copy_source, limited_words, FollowsFew}
+use Rattle.capnp_copy_values.specs.Canonical.{lent_copy, CopiesCanonical, WritesFew}
 use Rattle.capnp_layout_builders.specs.Copied.{Walk, Charged, WithoutLevels, BecomesNull}
 
 -- The value of the pointer at q is put in place of that at p, trimmed, by way of lent words. Or it
 -- is refused, and all words stand.
 pub record CopiesThrough (n : ℕ) (from : Segments) (q : Place) (lent after : List (List ℕ)) (s u : Segments) (p : Place) (old : ReadLimiter) (result : Result ⊤ Error) (new : ReadLimiter) : Type 0 where
-  pub copy : CopiesCanonical n from q lent s u p old result new
+  pub copy : CopiesCanonical (lent_copy (copy_source n from q) lent) p (limited_words s old) result (limited_words u new)
   pub few : FollowsFew old new
   pub written : WritesFew old new lent after
 

@@ -29,7 +29,7 @@ use Rattle.capnp_model.specs.Visits.{visits, visits_cost}
 use Rattle.capnp_model.proofs.lemmas.Chaining.{some_is}
 use Rattle.capnp_units.specs.Limits.{IsFree}
 use Rattle.capnp_wire_objects.specs.Walks.{Stopped}
-use Rattle.capnp_copy_values.specs.Copies.{BecomesCopy, CopiesValue, Unplaced}
+use Rattle.capnp_copy_values.specs.Copies.{BecomesCopy, CopiesValue, Unplaced, copy_source, limited_words}
 use Rattle.capnp_copy_values.proofs.lemmas.Filling.{value_stands}
 use Rattle.capnp_message.specs.Canonical.{GivesCanonical, HasNoRoot, CopiesWordsToRoot, ReplacesRoot, IsReplaced, HasNoRoomForWords, SetsCanonical}
 use Rattle.capnp_units.specs.Segments.{words_in}
@@ -200,10 +200,10 @@ one_segment bytes ws flat long eight =
     ap (λ (ns : List ℕ). ns ∷ []) view
 
 -- a copy of the root of one segment
-pub copied_root : (n : ℕ) (from s u : Segments) (ws : List ℕ) (old new : ReadLimiter) (r : Result ⊤ Error) → from ≡ ws ∷ [] → IsFree old → CopiesValue n from root s u root old r new → ReplacesRoot n ws s u r
-copied_root n from s u ws old new r is free c = by r (subst (λ (f : Segments). CopiesValue n f root s u root old r new) is c)
+pub copied_root : (n : ℕ) (from s u : Segments) (ws : List ℕ) (old new : ReadLimiter) (r : Result ⊤ Error) → from ≡ ws ∷ [] → IsFree old → CopiesValue (copy_source n from root) root (limited_words s old) r (limited_words u new) → ReplacesRoot n ws s u r
+copied_root n from s u ws old new r is free c = by r (subst (λ (f : Segments). CopiesValue (copy_source n f root) root (limited_words s old) r (limited_words u new)) is c)
   where
-    by : (x : Result ⊤ Error) → CopiesValue n (ws ∷ []) root s u root old x new → ReplacesRoot n ws s u x
+    by : (x : Result ⊤ Error) → CopiesValue (copy_source n (ws ∷ []) root) root (limited_words s old) x (limited_words u new) → ReplacesRoot n ws s u x
     by (Ok y) d = record { start = old; end = new; free = free; copies = d }
     by (Err e) d = inr (record { start = old; end = new; free = free; copies = d })
 

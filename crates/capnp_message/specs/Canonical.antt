@@ -19,7 +19,7 @@ use Rattle.capnp_wire_canonical.specs.Copies.{copy_visits}
 use Rattle.capnp_wire_canonical.specs.Writes.{words_view}
 use Rattle.capnp_model_writes.specs.Footprints.{Owns}
 use Rattle.capnp_model_writes.specs.Changes.{Replaces}
-use Rattle.capnp_copy_values.specs.Copies.{BecomesCopy, CopiesValue, GrowsByZeros, TakesFew, Unplaced}
+use Rattle.capnp_copy_values.specs.Copies.{copy_source, limited_words, BecomesCopy, CopiesValue, GrowsByZeros, TakesFew, Unplaced}
 use Rattle.capnp_units.specs.Limits.{IsFree}
 
 -- Nothing has levels, so that every value is refused, at no cost.
@@ -93,7 +93,7 @@ pub record CopiesWordsToRoot (n : ℕ) (words : List ℕ) (t u : Segments) (resu
   pub start : ReadLimiter
   pub end : ReadLimiter
   pub free : IsFree start
-  pub copies : CopiesValue n (words ∷ []) root t u root start result end
+  pub copies : CopiesValue (copy_source n (words ∷ []) root) root (limited_words t start) result (limited_words u end)
 
 -- The value of words is copied in place of the root's, or there is no word for the root.
 abbrev pub ReplacesRoot : ℕ → List ℕ → Segments → Segments → Result ⊤ Error → Type 0

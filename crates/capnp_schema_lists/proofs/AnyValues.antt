@@ -19,7 +19,7 @@ use Rattle.capnp_wire.specs.Views.{StructView}
 use Rattle.capnp_copy_arenas.specs.declared.fields.StructPlace.{StructPlace}
 use Rattle.capnp_copy_arenas.specs.declared.init.ListPlace.{ListPlace}
 use Rattle.capnp_copy_arenas.proofs.lemmas.RoomLaws.{sizes_grow}
-use Rattle.capnp_copy_values.specs.Copies.{GrowsByZeros, BecomesCopy, StructSource, CopyGives}
+use Rattle.capnp_copy_values.specs.Copies.{GrowsByZeros, BecomesCopy, StructSource, CopyGives, copy_of, copy_source, limited_words}
 use Rattle.capnp_copy_values.specs.Contents.{TakesContent, TakesPart as TakesPartOf, CopiesContent}
 use Rattle.capnp_layout_builders.specs.Making.{ArenaState}
 use Rattle.capnp_layout_builders.specs.Copied.{TakesDataAlone, TakesOver}
@@ -57,7 +57,7 @@ module _ (s u : Segments) (o : ListPlace) (i : ℕ) (p : StructPlace) (l : i < o
       let c = cell_in t i in
       x.lifts n u (fitted_edit section ts) (omega arith) (h n c.section c.kids deep x.owns)
 
-  part_put : (levels : ℕ) (from : Segments) (x : StructSource) → TakesPartOf levels from x s u p → ElementTakesPart levels from x s u o i
+  part_put : (levels : ℕ) (from : Segments) (x : StructSource) → TakesPartOf (copy_source levels from x) s u p → ElementTakesPart levels from x s u o i
   part_put levels from x h =
       record {
         count = h.copied;
@@ -70,14 +70,14 @@ module _ (s u : Segments) (o : ListPlace) (i : ℕ) (p : StructPlace) (l : i < o
             y.lifts n u (part_edit x.section h.copied h.read) (omega arith) (h.left n c.section c.kids deep y.owns));
       }
 
-  gives : (levels : ℕ) (from : Segments) (x : StructSource) (old : ReadLimiter) (r : Result ⊤ Error) (new : ReadLimiter) → CopiesContent levels from x s u p old r new
-      → CopyGives from (each (tree_at levels from) (place_view x.first) (min x.pointers p.pointers)) (from_each (visits levels from) (place_view x.first) (min x.pointers p.pointers)) (λ ts. ElementWithin levels s u o (fitted_edit x.section ts) i) (ElementTakesPart levels from x s u o i) s u old r new
+  gives : (levels : ℕ) (from : Segments) (x : StructSource) (old : ReadLimiter) (r : Result ⊤ Error) (new : ReadLimiter) → CopiesContent (copy_source levels from x) p (limited_words s old) r (limited_words u new)
+      → CopyGives (copy_of from (each (tree_at levels from) (place_view x.first) (min x.pointers p.pointers)) (from_each (visits levels from) (place_view x.first) (min x.pointers p.pointers))) (λ ts. ElementWithin levels s u o (fitted_edit x.section ts) i) (ElementTakesPart levels from x s u o i) (limited_words s old) r (limited_words u new)
   gives levels from x old (Ok y) new h = record { value = h.value; there_is = h.there_is; walked = h.walked; grows = h.grows; takes = h.takes; made = content_put levels x.section h.value h.made }
   gives levels from x old (Err e) new h = record { left = part_put levels from x h.left; takes = h.takes; why = h.why }
 
-  struct_taken : (levels : ℕ) (from : Segments) (x : StructSource) (old : ReadLimiter) (r : Result ⊤ Error) (new : ReadLimiter) → CopiesContent levels from x s u p old r new → TakesFields levels from x s u o i old r new
+  struct_taken : (levels : ℕ) (from : Segments) (x : StructSource) (old : ReadLimiter) (r : Result ⊤ Error) (new : ReadLimiter) → CopiesContent (copy_source levels from x) p (limited_words s old) r (limited_words u new) → TakesFields levels from x s u o i old r new
   struct_taken levels from x old r new h =
-      subst (λ (k : ℕ). CopyGives from (each (tree_at levels from) (place_view x.first) (min x.pointers k)) (from_each (visits levels from) (place_view x.first) (min x.pointers k)) (λ ts. ElementWithin levels s u o (fitted_edit x.section ts) i) (ElementTakesPart levels from x s u o i) s u old r new)
+      subst (λ (k : ℕ). CopyGives (copy_of from (each (tree_at levels from) (place_view x.first) (min x.pointers k)) (from_each (visits levels from) (place_view x.first) (min x.pointers k))) (λ ts. ElementWithin levels s u o (fitted_edit x.section ts) i) (ElementTakesPart levels from x s u o i) (limited_words s old) r (limited_words u new))
       at.pointers (gives levels from x old r new h)
 
   data_put : (v : StructView) (old : ReadLimiter) (r : Result ⊤ Error) (new : ReadLimiter) → TakesDataAlone v s u p old r new → ElementTakesData v s u o i old r new
@@ -97,7 +97,7 @@ module _ (s u : Segments) (o : ListPlace) (i : ℕ) (p : StructPlace) (l : i < o
 
   -- ---- what is there later too
 
-  struct_grows : (levels : ℕ) (from : Segments) (x : StructSource) (old : ReadLimiter) (r : Result ⊤ Error) (new : ReadLimiter) → CopiesContent levels from x s u p old r new → Grows s u
+  struct_grows : (levels : ℕ) (from : Segments) (x : StructSource) (old : ReadLimiter) (r : Result ⊤ Error) (new : ReadLimiter) → CopiesContent (copy_source levels from x) p (limited_words s old) r (limited_words u new) → Grows s u
   struct_grows levels from x old (Ok y) new h = h.grows
   struct_grows levels from x old (Err e) new h = h.left.grows
 

@@ -5,8 +5,7 @@ use Rattle.capnp_model.specs.Segments.{Segments}
 use Rattle.capnp_model.specs.Schemas.{Ty, void, plain, text, blob, untyped, interface, struct, list}
 use Rattle.capnp_model.specs.Trees.{Tree, Trees, resized}
 use Rattle.capnp_model.specs.Traversal.{tree_at, each}
-use Rattle.capnp_model.specs.Coverage.{Grows, from_each}
-use Rattle.capnp_model.specs.Visits.{visits}
+use Rattle.capnp_model.specs.Coverage.{Grows}
 use Rattle.capnp_model.specs.Calls.{Content, refused_by}
 use Rattle.capnp_model.specs.Edits.{Edit, put_child, edit_list}
 use Rattle.capnp_units.specs.Segments.{words_in}
@@ -21,7 +20,7 @@ use Rattle.capnp_model_writes.specs.Footprints.{OwnsObject}
 use Rattle.capnp_model_writes.specs.Changes.{ReplacesObject}
 use Rattle.capnp_copy_arenas.specs.Lists.{object_of_list}
 use Rattle.capnp_copy_arenas.specs.declared.init.ListPlace.{ListPlace}
-use Rattle.capnp_copy_values.specs.Copies.{StructSource, CopyGives, GrowsByZeros}
+use Rattle.capnp_copy_values.specs.Copies.{copy_source, copy_of_row, limited_words, StructSource, CopyGives, GrowsByZeros}
 use Rattle.capnp_copy_values.specs.Contents.{fitting}
 use Rattle.capnp_layout_builders.specs.Making.{ArenaState}
 use Rattle.capnp_layout_builders.specs.Copied.{Walk, Charged, IsSourceOf}
@@ -104,8 +103,7 @@ pub record ElementTakesPart (levels : ℕ) (from : Segments) (x : StructSource) 
 abbrev pub TakesFields : ℕ → Segments → StructSource → Segments → Segments → ListPlace → ℕ → Walk
 TakesFields levels from x s u o i old result new =
     let k = min x.pointers o.pointers in
-    let there = each (tree_at levels from) (place_view x.first) k in
-    CopyGives from there (from_each (visits levels from) (place_view x.first) k) (λ ts. ElementWithin levels s u o (fitted_edit x.section ts) i) (ElementTakesPart levels from x s u o i) s u old result new
+    CopyGives (copy_of_row (copy_source levels from (place_view x.first)) k) (λ ts. ElementWithin levels s u o (fitted_edit x.section ts) i) (ElementTakesPart levels from x s u o i) (limited_words s old) result (limited_words u new)
 
 -- Its section becomes what fits of this one, and its children stay.
 abbrev pub data_edit : ℕ → ℕ → ℕ → Edit

@@ -14,7 +14,7 @@ use Rattle.capnp_units.specs.declared.limiter.ReadLimiter.{ReadLimiter}
 use Rattle.capnp_wire.specs.Reads.{is_null_pointer}
 use Rattle.capnp_wire.specs.Views.{StructView, pointer_field}
 use Rattle.capnp_model.specs.Visits.{visits}
-use Rattle.capnp_copy_values.specs.Copies.{CopiesValue, IsStoppedOr}
+use Rattle.capnp_copy_values.specs.Copies.{CopiesValue, IsStoppedOr, copy_source, limited_words}
 use Rattle.capnp_values_queries.specs.Fields.{Entry, field_at}
 use Rattle.capnp_values_queries.specs.Structs.{nodes_around, schema_around, shape_of_struct, fields_of_struct}
 use Rattle.capnp_values_queries.specs.Handles.{entry_of_field}
@@ -32,7 +32,7 @@ both (inl a) k = inl a
 both (inr b) (inl a) = inl a
 both (inr b) (inr c) = inr (b, c)
 
-pub copy_refused : (told : Error → Type 0) (levels : ℕ) (f s u : Segments) (q p : Place) (old new : ReadLimiter) (r : Result ⊤ Error) → left_of old ≡ None → CopiesValue levels f q s u p old r new → IsStoppedOr (visits levels f q) old new told r
+pub copy_refused : (told : Error → Type 0) (levels : ℕ) (f s u : Segments) (q p : Place) (old new : ReadLimiter) (r : Result ⊤ Error) → left_of old ≡ None → CopiesValue (copy_source levels f q) p (limited_words s old) r (limited_words u new) → IsStoppedOr (visits levels f q) old new told r
     → IfErr r (CopyRefused told levels f q u)
 copy_refused told levels f s u q p old new (Ok x) none h k = tt
 copy_refused told levels f s u q p old new (Err e) none h k = record { old = old; new = new; unlimited = none; why = both h.why k }

@@ -21,7 +21,7 @@ use Rattle.capnp_model_writes.proofs.lemmas.Nulls.{null_word}
 use Rattle.capnp_wire.specs.Views.{StructView, pointer_field}
 use Rattle.capnp_wire.specs.Reads.{is_null_at, is_null_pointer}
 use Rattle.capnp_wire.specs.Laws.{reads_behind}
-use Rattle.capnp_copy_values.specs.Copies.{BecomesCopy, CopiesValue}
+use Rattle.capnp_copy_values.specs.Copies.{BecomesCopy, CopiesValue, copy_source, limited_words}
 use Rattle.capnp_records.specs.declared.node.FieldRecord.{FieldRecord}
 use Rattle.capnp_records.specs.NodeViews.{field_of, member_of}
 use Rattle.capnp_values_queries.specs.Fields.{union_in}
@@ -130,17 +130,17 @@ module _ (v : StructView) (from : GroupSource) (is : IsSource v from) (i : ℕ) 
 pub puts_copy : (levels : ℕ) (s u : Segments) (p : Place) (v : Tree) → BecomesCopy levels s u p v → PutsAny s u p v
 puts_copy levels s u p v h n t own = (levels, h (n + levels) t (omega arith) (owned_more n (n + levels) s p t (omega arith) own))
 
-pub copy_stands : (levels : ℕ) (f s u : Segments) (q p : Place) (old new : ReadLimiter) (r : Result ⊤ Error) → CopiesValue levels f q s u p old r new → StandsIfRefused s u r
+pub copy_stands : (levels : ℕ) (f s u : Segments) (q p : Place) (old new : ReadLimiter) (r : Result ⊤ Error) → CopiesValue (copy_source levels f q) p (limited_words s old) r (limited_words u new) → StandsIfRefused s u r
 copy_stands levels f s u q p old new (Ok x) h = record { grows = h.grows; refused = tt }
 copy_stands levels f s u q p old new (Err e) h = record { grows = h.left.grows; refused = h.left }
 
-pub value_copied : (levels : ℕ) (f s u : Segments) (q p : Place) (old new : ReadLimiter) (r : Result ⊤ Error) (t : Tree) → CopiesValue levels f q s u p old r new → tree_at levels f q ≡ Some t → OnOk r (PutsAny s u p t)
+pub value_copied : (levels : ℕ) (f s u : Segments) (q p : Place) (old new : ReadLimiter) (r : Result ⊤ Error) (t : Tree) → CopiesValue (copy_source levels f q) p (limited_words s old) r (limited_words u new) → tree_at levels f q ≡ Some t → OnOk r (PutsAny s u p t)
 value_copied levels f s u q p old new (Ok x) t h e =
     let same : h.value ≡ t = some_is h.value t (sym h.there_is ∙ e) in
     subst (λ y. PutsAny s u p y) same (puts_copy levels s u p h.value h.made)
 value_copied levels f s u q p old new (Err e') t h e = tt
 
-pub child_copied : (levels : ℕ) (v : StructView) (from : GroupSource) → IsSource v from → (i : ℕ) → is_null_pointer (pointer_field v i) ≡ false → (s u : Segments) (p : Place) (old new : ReadLimiter) (r : Result ⊤ Error) → CopiesValue levels v.basis.segments (after v.first i) s u p old r new
+pub child_copied : (levels : ℕ) (v : StructView) (from : GroupSource) → IsSource v from → (i : ℕ) → is_null_pointer (pointer_field v i) ≡ false → (s u : Segments) (p : Place) (old new : ReadLimiter) (r : Result ⊤ Error) → CopiesValue (copy_source levels v.basis.segments (after v.first i)) p (limited_words s old) r (limited_words u new)
     → OnOk r ((child from.kids i ≢ null) × PutsAny s u p (child from.kids i))
 child_copied levels v from is i some s u p old new (Ok x) h =
     let c = child_read v from is i levels h.value some h.there_is in

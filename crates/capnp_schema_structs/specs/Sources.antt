@@ -20,7 +20,7 @@ use Rattle.capnp_model_writes.specs.Footprints.{OwnsObject}
 use Rattle.capnp_model_writes.specs.Changes.{ReplacesObject}
 use Rattle.capnp_copy_arenas.specs.Structs.{object_of_struct}
 use Rattle.capnp_copy_arenas.specs.declared.fields.StructPlace.{StructPlace}
-use Rattle.capnp_copy_values.specs.Copies.{StructSource, GrowsByZeros, TakesObject, ObjectRefused}
+use Rattle.capnp_copy_values.specs.Copies.{limited_words, StructSource, GrowsByZeros, TakesObject, ObjectRefused}
 use Rattle.capnp_copy_values.specs.Lists.{listed_object, listed_tree}
 use Rattle.capnp_copy_values.specs.Objects.{copied_words}
 use Rattle.capnp_copy_values.specs.declared.lists.ListSource.{ListSource}
@@ -107,7 +107,7 @@ pub record TreePut (levels : ℕ) (o : wire.Object) (there : Option Tree) (path 
 -- The tree of an object of this size is written; or it is refused as its copy is, and all words stand.
 abbrev pub TreeGives : ℕ → Segments → wire.Object → Option Tree → List Visit → Segments → Segments → TreeEffect → Walk
 TreeGives levels from o there path s u Writes old (Ok _) new = TreePut levels o there path s u Writes old new
-TreeGives levels from o there path s u Writes old (Err e) new = ObjectRefused from o path s u old e new
+TreeGives levels from o there path s u Writes old (Err e) new = ObjectRefused from o path (limited_words s old) e (limited_words u new)
 
 -- The tree of a struct that is read by its parts; n levels may be followed from each of its
 -- pointers.

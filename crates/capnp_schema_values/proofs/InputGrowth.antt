@@ -17,22 +17,22 @@ use Rattle.capnp_units.specs.declared.limiter.ReadLimiter.{ReadLimiter}
 use Rattle.capnp_units.specs.Segments.{words_in}
 use Rattle.capnp_wire.specs.Views.{PointerView}
 use Rattle.capnp_copy_arenas.proofs.lemmas.RoomLaws.{sizes_grow}
-use Rattle.capnp_copy_values.specs.Copies.{CopiesValue}
+use Rattle.capnp_copy_values.specs.Copies.{CopiesValue, copy_source, limited_words}
 use Rattle.capnp_layout_builders.specs.Copied.{Charged, WithoutLevels, BecomesNull, CopiesPointer}
 use Rattle.capnp_values.specs.Sources.{WithoutLimit}
 use Rattle.capnp_schema_structs.proofs.lemmas.Grown.{same_grows}
 use Rattle.capnp_schema_structs.proofs.lemmas.Sources.{same_words}
 
-value_grows : (n : ℕ) (from : Segments) (q : Place) (s u : Segments) (p : Place) (old : ReadLimiter) (r : Result ⊤ Error) (new : ReadLimiter) → CopiesValue n from q s u p old r new → Grows s u
+value_grows : (n : ℕ) (from : Segments) (q : Place) (s u : Segments) (p : Place) (old : ReadLimiter) (r : Result ⊤ Error) (new : ReadLimiter) → CopiesValue (copy_source n from q) p (limited_words s old) r (limited_words u new) → Grows s u
 value_grows n from q s u p old (Ok x) new h = h.grows
 value_grows n from q s u p old (Err e) new h = h.left.grows
 
-at_place : (o : Option Place) (paid : Bool) (n : ℕ) (from s u : Segments) (p : Place) (old : ReadLimiter) (r : Result ⊤ Error) (new : ReadLimiter) → MatchOption o (BecomesNull s u p old r new) (λ q. Charged paid (CopiesValue n from q s u p) old r new) → Grows s u
+at_place : (o : Option Place) (paid : Bool) (n : ℕ) (from s u : Segments) (p : Place) (old : ReadLimiter) (r : Result ⊤ Error) (new : ReadLimiter) → MatchOption o (BecomesNull s u p old r new) (λ q. Charged paid (λ l x m. CopiesValue (copy_source n from q) p (limited_words s l) x (limited_words u m)) old r new) → Grows s u
 at_place None paid n from s u p old r new h = sizes_grow s u h.2
 at_place (Some q) true n from s u p old r new h = value_grows n from q s u p old r new h
 at_place (Some q) false n from s u p old r new h = value_grows n from q s u p h.0 r h.1 h.3
 
-at_levels : (o : Option ℕ) (place : Option Place) (paid : Bool) (from s u : Segments) (p : Place) (old : ReadLimiter) (r : Result ⊤ Error) (new : ReadLimiter) → MatchOption o (WithoutLevels s u old r new) (λ n. MatchOption place (BecomesNull s u p old r new) (λ q. Charged paid (CopiesValue n from q s u p) old r new)) → Grows s u
+at_levels : (o : Option ℕ) (place : Option Place) (paid : Bool) (from s u : Segments) (p : Place) (old : ReadLimiter) (r : Result ⊤ Error) (new : ReadLimiter) → MatchOption o (WithoutLevels s u old r new) (λ n. MatchOption place (BecomesNull s u p old r new) (λ q. Charged paid (λ l x m. CopiesValue (copy_source n from q) p (limited_words s l) x (limited_words u m)) old r new)) → Grows s u
 at_levels None place paid from s u p old r new h = same_words s u h.1
 at_levels (Some n) place paid from s u p old r new h = at_place place paid n from s u p old r new h
 

@@ -19,14 +19,14 @@ use Rattle.capnp_copy_values.specs.Copies.{GrowsByZeros, Fills}
 use Rattle.capnp_copy_values.proofs.Allocated.{NewWords}
 
 -- what is filled, by its words
-fills_by : (n : ℕ) (s u : Segments) (r : Place) (k : ℕ) (o : Object) (v : Tree) → Fills n s u r k o v → Changes s u (held r k) (object_footprint n u o)
+fills_by : (n : ℕ) (s u : Segments) (r : Place) (k : ℕ) (o : Object) (v : Tree) → Fills n s u (span r k) o v → Changes s u (held r k) (object_footprint n u o)
 fills_by n s u r k o v f = changes_alike s u (times_held (span r k ∷ [])) (object_footprint n u o) (held r k) (object_footprint n u o) f.changes (λ q. omega (arith, held_is r k [] q)) (λ q. refl)
 
-pub fills_of : (n : ℕ) (s u : Segments) (r : Place) (k : ℕ) (o : Object) (v : Tree) → tree_of u (tree_at n u) o ≡ Some v → Changes s u (held r k) (object_footprint n u o) → Fills n s u r k o v
+pub fills_of : (n : ℕ) (s u : Segments) (r : Place) (k : ℕ) (o : Object) (v : Tree) → tree_of u (tree_at n u) o ≡ Some v → Changes s u (held r k) (object_footprint n u o) → Fills n s u (span r k) o v
 fills_of n s u r k o v e c = record { means = e; changes = changes_alike s u (held r k) (object_footprint n u o) (times_held (span r k ∷ [])) (object_footprint n u o) c (λ q. omega (arith, held_is r k [] q)) (λ q. refl) }
 
 -- an object that took these words first is replaced
-pub fills_replaced : (n : ℕ) (s u : Segments) (r : Place) (k : ℕ) (o : Object) (v : Tree) → ((q : Place) → object_footprint n s o q ≡ held r k q) → ReplacesObject n s u o v → Fills n s u r k o v
+pub fills_replaced : (n : ℕ) (s u : Segments) (r : Place) (k : ℕ) (o : Object) (v : Tree) → ((q : Place) → object_footprint n s o q ≡ held r k q) → ReplacesObject n s u o v → Fills n s u (span r k) o v
 fills_replaced n s u r k o v takes c = fills_of n s u r k o v c.means (changes_alike s u (object_footprint n s o) (object_footprint n u o) (held r k) (object_footprint n u o) c.changes (λ q. sym (takes q)) (λ q. refl))
 
 -- its words are of no other
@@ -36,11 +36,11 @@ held_owned n s r k o v e takes = record { means = e; apart = λ q. omega (arith,
 held_on : (s : Segments) (r : Place) (k : ℕ) (ws : List ℕ) → words_at s r k ≡ Some ws → On s (held r k)
 held_on s r k ws e q l = words_there s (span r k ∷ []) q ((ws, e), tt) (omega (arith, l, held_is r k [] q))
 
-pub fills_owned : (n : ℕ) (s u : Segments) (r : Place) (k : ℕ) (o : Object) (v : Tree) (ws : List ℕ) → words_at s r k ≡ Some ws → Fills n s u r k o v → OwnsObject n u o v
+pub fills_owned : (n : ℕ) (s u : Segments) (r : Place) (k : ℕ) (o : Object) (v : Tree) (ws : List ℕ) → words_at s r k ≡ Some ws → Fills n s u (span r k) o v → OwnsObject n u o v
 fills_owned n s u r k o v ws e f = record { means = f.means; apart = still_apart s u (held r k) (object_footprint n u o) (fills_by n s u r k o v f) (held_on s r k ws e) (held_le r k) }
 
 -- spare words that were filled
-pub filled_detached : (n : ℕ) (s m u : Segments) (p : Place) (t : Tree) (r : Place) (k : ℕ) (spare : List Span) (o : Object) (v : Tree) → Detached n s m p t (span r k ∷ spare) nothing null → Fills n m u r k o v → Detached n s u p t spare o v
+pub filled_detached : (n : ℕ) (s m u : Segments) (p : Place) (t : Tree) (r : Place) (k : ℕ) (spare : List Span) (o : Object) (v : Tree) → Detached n s m p t (span r k ∷ spare) nothing null → Fills n m u (span r k) o v → Detached n s u p t spare o v
 filled_detached n s m u p t r k spare o v h f =
     let part : (q : Place) → times_held (span r k ∷ spare) q ≡ held r k q + times_held spare q = λ q. held_is r k spare q in
     let c = fills_by n m u r k o v f in
@@ -51,7 +51,7 @@ filled_detached n s m u p t r k spare o v h f =
     a.0 f.means (zeros_kept m u spare (beside_kept m u (held r k) (object_footprint n u o) spare c (λ q. omega (arith, h.apart q, part q))) h.zeros.1)
 
 -- what was made of new words is zero again
-pub given_up : (n : ℕ) (s m u y : Segments) (r : Place) (k : ℕ) (o : Object) (v : Tree) → NewWords s m r k → Fills n m u r k o v → ClearsObject u y o → GrowsByZeros s y
+pub given_up : (n : ℕ) (s m u y : Segments) (r : Place) (k : ℕ) (o : Object) (v : Tree) → NewWords s m r k → Fills n m u (span r k) o v → ClearsObject u y o → GrowsByZeros s y
 given_up n s m u y r k o v new f clears =
     let own = fills_owned n m u r k o v _ new.zeros f in
     let gone = clears n v own in

@@ -21,7 +21,7 @@ use Rattle.capnp_copy_arenas.specs.Structs.{object_of_struct}
 use Rattle.capnp_copy_arenas.specs.declared.fields.StructPlace.{StructPlace}
 use Rattle.capnp_copy_arenas.proofs.lemmas.RoomLaws.{sizes_grow}
 use Rattle.capnp_copy_arenas.proofs.lemmas.Taken.{same_total}
-use Rattle.capnp_copy_values.specs.Copies.{GrowsByZeros, BecomesCopy, ObjectGives}
+use Rattle.capnp_copy_values.specs.Copies.{GrowsByZeros, BecomesCopy, ObjectGives, copy_of, limited_words, object_put as to_put}
 use Rattle.capnp_copy_values.specs.Objects.{copied_words}
 use Rattle.capnp_layout_builders.specs.Copied.{Walk, Charged}
 use Rattle.capnp_values.specs.Sources.{WithoutLimit}
@@ -64,7 +64,7 @@ flat_stands a b (Err e) h = subst (λ (x : List (List ℕ)). GrowsByZeros (words
 pub words_stand : {X : Type 0} (a b : List (List ℕ)) (r : Result X Error) → Grows (words_in a) (words_in b) → OnErr r (b ≡ a) → StandsIfRefused (words_in a) (words_in b) r
 words_stand a b r g h = record { grows = g; refused = flat_stands a b r h }
 
-object_grows : (levels : ℕ) (from : Segments) (o : wire.Object) (there : Option Tree) (path : List Visit) (s u : Segments) (p : Place) (old : ReadLimiter) (r : Result ⊤ Error) (new : ReadLimiter) → ObjectGives levels from o there path s u p old r new → Grows s u
+object_grows : (levels : ℕ) (from : Segments) (o : wire.Object) (there : Option Tree) (path : List Visit) (s u : Segments) (p : Place) (old : ReadLimiter) (r : Result ⊤ Error) (new : ReadLimiter) → ObjectGives (copy_of from there path) (to_put levels o p) (limited_words s old) r (limited_words u new) → Grows s u
 object_grows levels from o there path s u p old (Ok x) new h = h.grows
 object_grows levels from o there path s u p old (Err e) new h = h.left.grows
 
@@ -92,7 +92,7 @@ not_refused : {X : Type 0} (x : ⊤) (e : Error) → ◌≡◌ {A = Result ⊤ E
 not_refused x e h = absurd (cc h)
 
 module _ (s m u : Segments) (q : Place) (sizes : map length u ≡ map length m) (Writes : TreeEffect) (writes : (n : ℕ) (t : Tree) → BecomesCopy n s m q t → Writes n t) where
-  object_put : (levels : ℕ) (from : Segments) (o : wire.Object) (there : Option Tree) (path : List Visit) (old : ReadLimiter) (x : ⊤) (new : ReadLimiter) → ObjectGives levels from o there path s m q old (Ok x) new → TreeGives levels from o there path s u Writes old (Ok x) new
+  object_put : (levels : ℕ) (from : Segments) (o : wire.Object) (there : Option Tree) (path : List Visit) (old : ReadLimiter) (x : ⊤) (new : ReadLimiter) → ObjectGives (copy_of from there path) (to_put levels o q) (limited_words s old) (Ok x) (limited_words m new) → TreeGives levels from o there path s u Writes old (Ok x) new
   object_put levels from o there path old x new h =
       let total : total_words u ≡ total_words m = same_total m u sizes in
       let few = h.takes.few in

@@ -7,7 +7,7 @@ use Rattle.capnp_wire_objects.specs.Objects.{object_at}
 use Rattle.capnp_wire_objects.specs.declared.place.Place.{Place}
 use Rattle.capnp_wire_objects.specs.Places.{place_view}
 use Rattle.capnp_wire.specs.Views.{Ground}
-use Rattle.capnp_copy_values.specs.Copies.{StructSource, struct_source}
+use Rattle.capnp_copy_values.specs.Copies.{StructSource, struct_source, copy_source, limited_words}
 use Rattle.capnp_copy_values.specs.Contents.{CopiesContent}
 use Rattle.capnp_copy_values.specs.Defaults.{default_segments}
 use Rattle.capnp_copy_widening.proofs.lemmas.GotStructs.{struct_there, null_there}
@@ -31,7 +31,7 @@ returns-in-Null-clause-takes g c t e =
     let from : Segments = default_segments c.args.words.now in
     let is = ap (λ (x : Ground). x.segments) c.default_backing-source.ensures in
     let x : StructSource = struct_source [] (record { segment = 0; position = 0 }) 0 in
-    let content = subst (λ (f : Segments). CopiesContent 63 f x s u c.args.object c.new-limiter.result c.copy_content_from.result c.copy_content_from.new.limiter) is c.copy_content_from.ensures.content in
+    let content = subst (λ (f : Segments). CopiesContent (copy_source 63 f x) c.args.object (limited_words s c.new-limiter.result) c.copy_content_from.result (limited_words u c.copy_content_from.new.limiter)) is c.copy_content_from.ensures.content in
     let found : object_at from root ≡ Ok c.in_ok-found.found = subst (λ (f : Segments). object_at f root ≡ Ok c.in_ok-found.found) is (sym c.in_ok-found.ensures.object) in
     null_taken 63 (omega arith) from root x s u c.args.object c.new-limiter.result c.copy_content_from.new.limiter c.copy_content_from.result content (null_there from root c.in_ok-found.found found c.in-Null.is) refl refl t e
 
@@ -41,7 +41,7 @@ returns-in-Null-clause-grows g c =
     let u : Segments = words_in (g.A.ReaderArena.segments c.copy_content_from.new.arena) in
     let is = ap (λ (x : Ground). x.segments) c.default_backing-source.ensures in
     let x : StructSource = struct_source [] (record { segment = 0; position = 0 }) 0 in
-    let content = subst (λ (f : Segments). CopiesContent 63 f x s u c.args.object c.new-limiter.result c.copy_content_from.result c.copy_content_from.new.limiter) is c.copy_content_from.ensures.content in
+    let content = subst (λ (f : Segments). CopiesContent (copy_source 63 f x) c.args.object (limited_words s c.new-limiter.result) c.copy_content_from.result (limited_words u c.copy_content_from.new.limiter)) is c.copy_content_from.ensures.content in
     content_grows 63 (omega arith) (default_segments c.args.words.now) root x s u c.args.object c.new-limiter.result c.copy_content_from.new.limiter c.copy_content_from.result content
 
 pub returns-in-Struct-clause-takes : goal.returns-in-Struct-clause-takes
@@ -53,7 +53,7 @@ returns-in-Struct-clause-takes g c t e =
     let q : Place = c.in-Struct.start in
     let d = c.in-Struct.data_words in
     let x : StructSource = struct_source c.lend-section.result.now (record { segment = q.segment; position = q.position + d }) c.in-Struct.pointers in
-    let content = subst (λ (f : Segments). CopiesContent 63 f x s u c.args.object c.new-limiter.result c.copy_content_from-in-Struct.result c.copy_content_from-in-Struct.new.limiter) is c.copy_content_from-in-Struct.ensures.content in
+    let content = subst (λ (f : Segments). CopiesContent (copy_source 63 f x) c.args.object (limited_words s c.new-limiter.result) c.copy_content_from-in-Struct.result (limited_words u c.copy_content_from-in-Struct.new.limiter)) is c.copy_content_from-in-Struct.ensures.content in
     let found : object_at from root ≡ Ok c.in_ok-found.found = subst (λ (f : Segments). object_at f root ≡ Ok c.in_ok-found.found) is (sym c.in_ok-found.ensures.object) in
     let section : x.section ≡ section_at from (place_view q) d = subst (λ (f : Segments). x.section ≡ section_at f (place_view q) d) is c.lend-section.ensures.section in
     struct_taken 63 (omega arith) from root x s u c.args.object c.new-limiter.result c.copy_content_from-in-Struct.new.limiter c.copy_content_from-in-Struct.result content (place_view q) d (struct_there from root c.in_ok-found.found q d c.in-Struct.pointers found c.in-Struct.is) section refl t e
@@ -65,7 +65,7 @@ returns-in-Struct-clause-grows g c =
     let is = ap (λ (x : Ground). x.segments) c.default_backing-source.ensures in
     let q : Place = c.in-Struct.start in
     let x : StructSource = struct_source c.lend-section.result.now (record { segment = q.segment; position = q.position + c.in-Struct.data_words }) c.in-Struct.pointers in
-    let content = subst (λ (f : Segments). CopiesContent 63 f x s u c.args.object c.new-limiter.result c.copy_content_from-in-Struct.result c.copy_content_from-in-Struct.new.limiter) is c.copy_content_from-in-Struct.ensures.content in
+    let content = subst (λ (f : Segments). CopiesContent (copy_source 63 f x) c.args.object (limited_words s c.new-limiter.result) c.copy_content_from-in-Struct.result (limited_words u c.copy_content_from-in-Struct.new.limiter)) is c.copy_content_from-in-Struct.ensures.content in
     content_grows 63 (omega arith) (default_segments c.args.words.now) root x s u c.args.object c.new-limiter.result c.copy_content_from-in-Struct.new.limiter c.copy_content_from-in-Struct.result content
 
 pub returns-in_err-found-clause-cause : goal.returns-in_err-found-clause-cause

@@ -18,8 +18,8 @@ use Rattle.capnp_model.specs.Sizes.{object_words}
 use Rattle.capnp_model.specs.Visits.{visits}
 use Rattle.capnp_copy_arenas.specs.Refusals.{IsSizeOrRefusal}
 use Rattle.capnp_copy_arenas.specs.States.{state_in}
-use Rattle.capnp_copy_values.specs.Copies.{CopiesValue, IsStoppedOr}
-use Rattle.capnp_copy_values.specs.Fits.{FitsWhereRoom, HasLongList}
+use Rattle.capnp_copy_values.specs.Copies.{CopiesValue, IsStoppedOr, copy_source, limited_words}
+use Rattle.capnp_copy_values.specs.Fits.{FitsWhereRoom, HasLongList, limited_arena, wanted}
 use Rattle.capnp_copy_values.specs.Canonical.{canonical_message}
 use Rattle.capnp_copy_values.proofs.Copied.{Wrote, walked_few, stopped_few, halted, copied, halted_told, copied_told}
 use Rattle.capnp_copy_values.proofs.canonical.copy_canonical_from.Goals as goal
@@ -64,7 +64,7 @@ returns-clause-copy g c =
     let is = ap (λ (x : Ground). x.segments) c.default_backing-copy.ensures ∙ c.segments_of_words.ensures ∙ ap (λ (ws : List ℕ). ws ∷ []) words in
     copied n from q c.args.lent.now s u p c.args.limiter.now c.write_canonical.new.limiter c.new-unlimited.result c.copy_from.new.limiter c.copy_from.result t (cost_at n (canonical_message t) root)
     (record { there_is = wrote.there_is; clean = wrote.clean; walked = wrote.walked }) means costs (record { endless = c.new-unlimited.ensures.limit; unused = c.new-unlimited.ensures.granted })
-    (subst (λ (f : Segments). CopiesValue n f root s u p c.new-unlimited.result c.copy_from.result c.copy_from.new.limiter) is c.copy_from.ensures.copy)
+    (subst (λ (f : Segments). CopiesValue (copy_source n f root) p (limited_words s c.new-unlimited.result) c.copy_from.result (limited_words u c.copy_from.new.limiter)) is c.copy_from.ensures.copy)
 
 pub returns-clause-told : goal.returns-clause-told
 returns-clause-told g c =
@@ -90,7 +90,7 @@ returns-clause-told g c =
     let i = c.args.slot.segment in
     copied_told n from q c.args.lent.now (state_in g.A.ReaderArena.segments g.A.BuilderArena.room g.A.BuilderArena.books c.args.arena.now) (state_in g.A.ReaderArena.segments g.A.BuilderArena.room g.A.BuilderArena.books c.copy_from.new.arena) i (IsSizeOrRefusal g.A.BuilderArena.refuses) c.args.limiter.now c.write_canonical.new.limiter c.new-unlimited.result c.copy_from.new.limiter c.copy_from.result t (cost_at n (canonical_message t) root)
     wrote.there_is means costs (record { endless = c.new-unlimited.ensures.limit; unused = c.new-unlimited.ensures.granted })
-    (subst (λ (f : Segments). FitsWhereRoom object_words (tree_at n f root) (visits n f root) (HasLongList f) c.args.slot.segment (state_in g.A.ReaderArena.segments g.A.BuilderArena.room g.A.BuilderArena.books c.args.arena.now) (state_in g.A.ReaderArena.segments g.A.BuilderArena.room g.A.BuilderArena.books c.copy_from.new.arena) c.new-unlimited.result c.copy_from.result c.copy_from.new.limiter) is c.copy_from.ensures.fits)
+    (subst (λ (f : Segments). FitsWhereRoom (tree_at n f root) (visits n f root) (wanted object_words (HasLongList f) c.args.slot.segment) (limited_arena (state_in g.A.ReaderArena.segments g.A.BuilderArena.room g.A.BuilderArena.books c.args.arena.now) c.new-unlimited.result) c.copy_from.result (limited_arena (state_in g.A.ReaderArena.segments g.A.BuilderArena.room g.A.BuilderArena.books c.copy_from.new.arena) c.copy_from.new.limiter)) is c.copy_from.ensures.fits)
     (subst (λ (f : Segments). IsStoppedOr (visits n f root) c.new-unlimited.result c.copy_from.new.limiter (IsSizeOrRefusal g.A.BuilderArena.refuses) c.copy_from.result) is c.copy_from.ensures.cause)
 
 pub returns-in_err-count-clause-told : goal.returns-in_err-count-clause-told

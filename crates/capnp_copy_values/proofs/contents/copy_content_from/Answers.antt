@@ -8,7 +8,7 @@ use Rattle.capnp_model.specs.Visits.{visits}
 use Rattle.capnp_units.specs.Segments.{words_in}
 use Rattle.capnp_wire_objects.specs.Places.{place_view}
 use Rattle.capnp_copy_arenas.proofs.lemmas.RoomLaws.{sizes_grow, still_some}
-use Rattle.capnp_copy_values.specs.Copies.{IsStoppedOr, struct_source}
+use Rattle.capnp_copy_values.specs.Copies.{IsStoppedOr, struct_source, copy_source}
 use Rattle.capnp_copy_values.specs.Contents.{TakesContent, TakesPart}
 use Rattle.capnp_copy_values.proofs.Parts.{front_there}
 use Rattle.capnp_copy_values.proofs.Refusals.{refused_is}
@@ -17,7 +17,7 @@ use Rattle.capnp_copy_arenas.specs.Refusals.{IsSizeOrRefusal}
 use Rattle.capnp_copy_values.proofs.Told.{told_err}
 use Rattle.capnp_model.specs.Sizes.{each_object_words}
 use Rattle.capnp_copy_arenas.specs.States.{state_in}
-use Rattle.capnp_copy_values.specs.Fits.{FitsWhereRoom, HasLongList}
+use Rattle.capnp_copy_values.specs.Fits.{FitsWhereRoom, HasLongList, limited_arena, wanted}
 use Rattle.capnp_copy_values.proofs.Fitting.{fits_err, fits_after, fits_kept}
 use Rattle.capnp_copy_values.proofs.contents.copy_content_from.Goals as goal
 
@@ -40,7 +40,7 @@ returns-in_err-fill_row-clause-content g c =
     let k = min c.args.pointers c.args.object.pointers in
     let r = err_from_is_err_and c.from_residual.result c.from_residual.ensures.1 in
     let e = c.in_err-fill_row.field-0.0 in
-    refused_is from (each (tree_at n from) (place_view c.args.first) (min c.args.pointers c.args.object.pointers)) (from_each (visits n from) (place_view c.args.first) (min c.args.pointers c.args.object.pointers)) (TakesContent n s u c.args.object (number_of 8 c.args.section.now)) (TakesPart n from (struct_source c.args.section.now c.args.first c.args.pointers) s u c.args.object) s u c.args.limiter.now c.fill_row.new.limiter c.from_residual.result r.0 e r.1 r.2
+    refused_is from (each (tree_at n from) (place_view c.args.first) (min c.args.pointers c.args.object.pointers)) (from_each (visits n from) (place_view c.args.first) (min c.args.pointers c.args.object.pointers)) (TakesContent n s u c.args.object (number_of 8 c.args.section.now)) (TakesPart (copy_source n from (struct_source c.args.section.now c.args.first c.args.pointers)) s u c.args.object) s u c.args.limiter.now c.fill_row.new.limiter c.from_residual.result r.0 e r.1 r.2
     (content_refused n from (struct_source c.args.section.now c.args.first c.args.pointers) s m u c.args.object c.min-shared.result c.args.limiter.now c.fill_row.new.limiter e c.min-shared.ensures c.copy_data_from.ensures.section c.copy_data_from.ensures.sizes c.in_err-fill_row.ensures.copy)
 
 pub returns-clause-content : goal.returns-clause-content
@@ -68,7 +68,7 @@ returns-in_err-fill_row-clause-fits g c =
     let r = err_from_is_err_and c.from_residual.result c.from_residual.ensures.1 in
     let e = c.in_err-fill_row.field-0.0 in
     let seg = c.args.object.start.segment in
-    let fits = subst (λ (k : ℕ). FitsWhereRoom each_object_words (each (tree_at n from) q k) (from_each (visits n from) q k) (HasLongList from) seg (state_in g.A.ReaderArena.segments g.A.BuilderArena.room g.A.BuilderArena.books c.copy_data_from.new.arena) (state_in g.A.ReaderArena.segments g.A.BuilderArena.room g.A.BuilderArena.books c.fill_row.new.arena) c.args.limiter.now (Err e) c.fill_row.new.limiter) c.min-shared.ensures c.in_err-fill_row.ensures.fits in
+    let fits = subst (λ (k : ℕ). FitsWhereRoom (each (tree_at n from) q k) (from_each (visits n from) q k) (wanted each_object_words (HasLongList from) seg) (limited_arena (state_in g.A.ReaderArena.segments g.A.BuilderArena.room g.A.BuilderArena.books c.copy_data_from.new.arena) c.args.limiter.now) (Err e) (limited_arena (state_in g.A.ReaderArena.segments g.A.BuilderArena.room g.A.BuilderArena.books c.fill_row.new.arena) c.fill_row.new.limiter)) c.min-shared.ensures c.in_err-fill_row.ensures.fits in
     fits_err each_object_words (each (tree_at n from) q (min c.args.pointers c.args.object.pointers)) (from_each (visits n from) q (min c.args.pointers c.args.object.pointers)) (HasLongList from) seg (state_in g.A.ReaderArena.segments g.A.BuilderArena.room g.A.BuilderArena.books c.args.arena.now) (state_in g.A.ReaderArena.segments g.A.BuilderArena.room g.A.BuilderArena.books c.fill_row.new.arena) c.args.limiter.now c.fill_row.new.limiter c.from_residual.result r.0 e r.1 r.2
     (fits_after each_object_words (each (tree_at n from) q (min c.args.pointers c.args.object.pointers)) (from_each (visits n from) q (min c.args.pointers c.args.object.pointers)) (HasLongList from) seg (state_in g.A.ReaderArena.segments g.A.BuilderArena.room g.A.BuilderArena.books c.args.arena.now) (state_in g.A.ReaderArena.segments g.A.BuilderArena.room g.A.BuilderArena.books c.copy_data_from.new.arena) (state_in g.A.ReaderArena.segments g.A.BuilderArena.room g.A.BuilderArena.books c.fill_row.new.arena) c.args.limiter.now c.fill_row.new.limiter (Err e) c.copy_data_from.ensures.sizes c.copy_data_from.ensures.room fits)
 
@@ -80,6 +80,6 @@ returns-clause-fits g c =
     let seg = c.args.object.start.segment in
     let there = each (tree_at n from) q (min c.args.pointers c.args.object.pointers) in
     let path = from_each (visits n from) q (min c.args.pointers c.args.object.pointers) in
-    let fits = subst (λ (k : ℕ). FitsWhereRoom each_object_words (each (tree_at n from) q k) (from_each (visits n from) q k) (HasLongList from) seg (state_in g.A.ReaderArena.segments g.A.BuilderArena.room g.A.BuilderArena.books c.copy_data_from.new.arena) (state_in g.A.ReaderArena.segments g.A.BuilderArena.room g.A.BuilderArena.books c.fill_row.new.arena) c.args.limiter.now (Ok tt) c.fill_row.new.limiter) c.min-shared.ensures c.in_ok-fill_row.ensures.fits in
+    let fits = subst (λ (k : ℕ). FitsWhereRoom (each (tree_at n from) q k) (from_each (visits n from) q k) (wanted each_object_words (HasLongList from) seg) (limited_arena (state_in g.A.ReaderArena.segments g.A.BuilderArena.room g.A.BuilderArena.books c.copy_data_from.new.arena) c.args.limiter.now) (Ok tt) (limited_arena (state_in g.A.ReaderArena.segments g.A.BuilderArena.room g.A.BuilderArena.books c.fill_row.new.arena) c.fill_row.new.limiter)) c.min-shared.ensures c.in_ok-fill_row.ensures.fits in
     fits_kept each_object_words there path (HasLongList from) seg (state_in g.A.ReaderArena.segments g.A.BuilderArena.room g.A.BuilderArena.books c.args.arena.now) (state_in g.A.ReaderArena.segments g.A.BuilderArena.room g.A.BuilderArena.books c.fill_row.new.arena) (state_in g.A.ReaderArena.segments g.A.BuilderArena.room g.A.BuilderArena.books c.clear_rest.new.arena) c.args.limiter.now c.fill_row.new.limiter c.clear_rest.ensures.sizes c.clear_rest.ensures.room
     (fits_after each_object_words there path (HasLongList from) seg (state_in g.A.ReaderArena.segments g.A.BuilderArena.room g.A.BuilderArena.books c.args.arena.now) (state_in g.A.ReaderArena.segments g.A.BuilderArena.room g.A.BuilderArena.books c.copy_data_from.new.arena) (state_in g.A.ReaderArena.segments g.A.BuilderArena.room g.A.BuilderArena.books c.fill_row.new.arena) c.args.limiter.now c.fill_row.new.limiter (Ok tt) c.copy_data_from.ensures.sizes c.copy_data_from.ensures.room fits)

@@ -1,5 +1,4 @@
-use Rattle.std.proofs.Common.{◌≡◌, ◌+◌, ◌-◌, ◌*◌, ◌/◌, ℕ, length, map, ap, ◌∙◌, arith}
-use Rattle.capnp_model.specs.Sections.{words_for}
+use Rattle.std.proofs.Common.{◌+◌, ◌-◌, ◌/◌, length, map, ap, ◌∙◌, arith}
 use Rattle.capnp_model.specs.Segments.{Segments, Place, after}
 use Rattle.capnp_units.specs.Segments.{words_in}
 use Rattle.capnp_wire_objects.specs.Places.{place_view}

@@ -6,7 +6,7 @@ use Rattle.capnp_model.specs.Sections.{section_of, words_for}
 use Rattle.capnp_model.specs.Segments.{Segments, Place, after, words_at}
 use Rattle.capnp_model.specs.Trees.{Tree, structure, plain_list, pointer_list, struct_list}
 use Rattle.capnp_model.specs.Traversal.{tree_at, each, each_element}
-use Rattle.capnp_model.specs.Coverage.{Grows, from_each, from_elements}
+use Rattle.capnp_model.specs.Coverage.{Grows, from_each, from_elements, span}
 use Rattle.capnp_model.specs.Encoding.{struct_pointer}
 use Rattle.capnp_model.specs.Visits.{visits}
 use Rattle.capnp_units.specs.Segments.{words_in}
@@ -23,7 +23,7 @@ use Rattle.capnp_model_writes.proofs.lemmas.Splices.{splice_grows}
 use Rattle.capnp_copy_arenas.specs.Clearing.{ClearsObject}
 use Rattle.capnp_copy_arenas.specs.Rooms.{begin_of, linked}
 use Rattle.capnp_copy_arenas.proofs.lemmas.RoomLaws.{word_there, sizes_grow, still_some, room_addressed, room_grows, room_pad, pad_stays, room_near}
-use Rattle.capnp_copy_values.specs.Copies.{BecomesCopy, GrowsByZeros, Copied, Refused, Fills, FillsRow, LeavesRow, FillsElements, LeavesElements}
+use Rattle.capnp_copy_values.specs.Copies.{BecomesCopy, GrowsByZeros, Copied, Refused, Fills, FillsRow, LeavesRow, FillsElements, LeavesElements, copy_source, limited_words, sized_at}
 use Rattle.capnp_copy_values.specs.Objects.{copied_words, most_counted, copied_at, copied_pointer}
 use Rattle.capnp_copy_values.proofs.Parts.{section_is, part_there, front_there, part_is}
 use Rattle.capnp_copy_values.proofs.Allocated.{room_new}
@@ -43,8 +43,8 @@ use Rattle.capnp_model.specs.Sizes.{object_words, each_object_words}
 use Rattle.capnp_copy_arenas.specs.States.{state_in}
 use Rattle.capnp_copy_arenas.proofs.lemmas.Taken.{linked_sizes}
 use Rattle.capnp_copy_arenas.proofs.lemmas.ZeroedWords.{written_sizes}
-use Rattle.capnp_copy_values.specs.Fits.{FitsWhereRoom, HasLongList, IsLong, words_behind, elements_behind, HasRoomIn, TakesIn}
-use Rattle.capnp_copy_values.proofs.Fitting.{fits_err, fits_after, fits_made, fits_kept, fits_long, leaf_at_fits, leaf_fits, leaf_behind, list_fits, object_own, plain_inside, object_fits, object_lacks, deep_fits, takes_stays}
+use Rattle.capnp_copy_values.specs.Fits.{FitsWhereRoom, HasLongList, IsLong, words_behind, elements_behind, limited_arena, wanted}
+use Rattle.capnp_copy_values.proofs.Fitting.{fits_err, fits_after, fits_made, fits_kept, fits_long, leaf_at_fits, leaf_fits, leaf_behind, list_fits, object_own, plain_inside, object_fits, object_lacks, deep_fits}
 use Rattle.capnp_copy_values.proofs.FittingRows.{row_fits_begun, row_fits_next, row_fits_stopped, row_fits_ended, elements_fit_begun, elements_fit_next, elements_fit_stopped, elements_fit_ended, plain_elements_fit}
 use Rattle.capnp_copy_values.proofs.copy.+copy.Goals as goal
 
@@ -170,7 +170,7 @@ copy_object-returns-in-Ok g t c =
     let room = c.in_ok-room.room in
     let begins : place_view c.begin_of-start.result ≡ begin_of p c.in_ok-room.room = c.begin_of-start.ensures in
     let kind = no_leaf c.args.object c.in_default.not-Null c.in_default.not-Capability in
-    let filled = subst (λ (r : Place). Copied (tree_in from (tree_at n from) o) (met_in (visits n from) o) (λ v. (j : ℕ) → n ≤ j → Fills j m u r (copied_words o) (copied_at r o) v) m u c.args.limiter.now c.fill.new.limiter) begins c.in-Ok.ensures.copy in
+    let filled = subst (λ (r : Place). Copied (tree_in from (tree_at n from) o) (met_in (visits n from) o) (λ v. (j : ℕ) → n ≤ j → Fills j m u (span r (copied_words o)) (copied_at r o) v) (limited_words m c.args.limiter.now) (limited_words u c.fill.new.limiter)) begins c.in-Ok.ensures.copy in
     let now : z ≡ linked y p room (copied_pointer o) = c.link.ensures.words ∙ ap (linked y p room) c.pointer_word.ensures.word in
     record {
       copy = copied_object n s m u y z p o room (tree_in from (tree_at n from) o) (met_in (visits n from) o) c.args.limiter.now c.fill.new.limiter c.requires.there kind c.in_ok-room.ensures.ok (new_fits from o kind c.requires.inside c.in_ok-room.ensures.spelled) filled c.clear.ensures.clears c.clear.ensures.sizes now;
@@ -193,7 +193,7 @@ copy_object-returns-in-Err g t c =
     let o = c.args.object in
     let e = c.in-Err.error in
     let begins : place_view c.begin_of-start.result ≡ begin_of p c.in_ok-room.room = c.begin_of-start.ensures in
-    let left = subst (λ (r : Place). Refused from (met_in (visits n from) o) ((t : Tree) × Fills n m u r (copied_words o) (copied_at r o) t) m u c.args.limiter.now e c.fill.new.limiter) begins c.in-Err.ensures.copy in
+    let left = subst (λ (r : Place). Refused from (met_in (visits n from) o) ((t : Tree) × Fills n m u (span r (copied_words o)) (copied_at r o) t) (limited_words m c.args.limiter.now) e (limited_words u c.fill.new.limiter)) begins c.in-Err.ensures.copy in
     let clears : ClearsObject u y (copied_at (begin_of p c.in_ok-room.room) o) = subst (λ (r : Place). ClearsObject u y (copied_at r o)) begins (subst (ClearsObject u y) c.copy_at.ensures c.clear_object.ensures.clears) in
     record {
       copy = refused_object n from s m u y p o c.in_ok-room.room (met_in (visits n from) o) c.args.limiter.now c.fill.new.limiter e c.requires.there c.in_ok-room.ensures.ok left clears c.clear_object.ensures.sizes;
@@ -239,7 +239,7 @@ fill-returns-in-List-clause-copy g t c =
     let inside = subst (IsInside from) x.is c.requires.inside in
     let words : c.words_of_elements-words.result ≡ words_for (data_bits (size_number x.size) * x.count) = c.words_of_elements-words.ensures.words in
     let now : u ≡ with_words s r (words_there from p (words_for (data_bits (size_number x.size) * x.count))) = c.copy_words.ensures.words ∙ ap (λ (j : ℕ). with_words s r (words_there from p j)) words in
-    let gives : Copied (tree_in from (tree_at n from) (object.List x.from x.size x.count)) (met_in (visits n from) (object.List x.from x.size x.count)) (λ v. (j : ℕ) → n ≤ j → Fills j s u r (words_for (data_bits (size_number x.size) * x.count)) (copied_at r (object.List x.from x.size x.count)) v) s u c.args.limiter.now c.args.limiter.now = record {
+    let gives : Copied (tree_in from (tree_at n from) (object.List x.from x.size x.count)) (met_in (visits n from) (object.List x.from x.size x.count)) (λ v. (j : ℕ) → n ≤ j → Fills j s u (span r (words_for (data_bits (size_number x.size) * x.count))) (copied_at r (object.List x.from x.size x.count)) v) (limited_words s c.args.limiter.now) (limited_words u c.args.limiter.now) = record {
       value = plain_list (size_number x.size) x.count (section_at from p (words_for (data_bits (size_number x.size) * x.count)) % 2 ^ (data_bits (size_number x.size) * x.count));
       there_is = refl;
       walked = walked_none c.args.limiter.now;
@@ -346,7 +346,7 @@ fill_elements-returns-in_err-fill_struct-clause-copy g t c =
     let ws = words_there from p c.args.rows.words in
     let r = err_from_is_err_and c.from_residual.result c.from_residual.ensures.1 in
     let e = c.in_err-fill_struct.field-0.0 in
-    refused_is from (each_element (tree_at n from) p ws d k count) (from_elements (visits n from) p d k count) (FillsElements n s w q d k count) (LeavesElements n s w q d k count) s w c.args.limiter.now c.fill_struct.new.limiter c.from_residual.result r.0 e r.1 r.2
+    refused_is from (each_element (tree_at n from) p ws d k count) (from_elements (visits n from) p d k count) (FillsElements n s w (sized_at q d k) count) (LeavesElements n s w (sized_at q d k) count) s w c.args.limiter.now c.fill_struct.new.limiter c.from_residual.result r.0 e r.1 r.2
     (elements_stopped n from p ws d k count s q c.args.limiter.now c.loop-i.i u w c.loop-i.limiter c.fill_struct.new.limiter c.loop-i-test.true c.loop-i.invariant.0 e c.in_err-fill_struct.ensures.copy)
 
 pub fill_elements-loop-i-preserved : goal.fill_elements-loop-i-preserved
@@ -403,7 +403,7 @@ fill_row-returns-in_err-copy_from-clause-copy g t c =
     let count = c.args.count in
     let r = err_from_is_err_and c.from_residual.result c.from_residual.ensures.1 in
     let e = c.in_err-copy_from.field-0.0 in
-    refused_is from (each (tree_at n from) p count) (from_each (visits n from) p count) (FillsRow n s w q d count) (LeavesRow n from p s w q d count) s w c.args.limiter.now c.copy_from.new.limiter c.from_residual.result r.0 e r.1 r.2
+    refused_is from (each (tree_at n from) p count) (from_each (visits n from) p count) (FillsRow n s w (sized_at q d count)) (LeavesRow (copy_source n from p) s w (sized_at q d count)) s w c.args.limiter.now c.copy_from.new.limiter c.from_residual.result r.0 e r.1 r.2
     (row_stopped n from p count s q d c.args.limiter.now c.loop-i.i u w c.loop-i.limiter c.copy_from.new.limiter c.loop-i-test.true c.loop-i.invariant.0 e c.in_err-copy_from.ensures.copy)
 
 pub fill_row-loop-i-preserved : goal.fill_row-loop-i-preserved
@@ -552,7 +552,7 @@ fill-returns-in-Struct-clause-fits g t c =
     let n = c.args.levels in
     let x = c.in-Struct in
     let q : Place = after (place_view x.from) x.data_words in
-    subst (λ (o : Object). FitsWhereRoom words_behind (tree_in from (tree_at n from) o) (met_in (visits n from) o) (HasLongList from) c.args.start.segment (state_in g.A.ReaderArena.segments g.A.BuilderArena.room g.A.BuilderArena.books c.args.arena.now) (state_in g.A.ReaderArena.segments g.A.BuilderArena.room g.A.BuilderArena.books c.fill_struct.new.arena) c.args.limiter.now c.fill_struct.result c.fill_struct.new.limiter) (sym x.is)
+    subst (λ (o : Object). FitsWhereRoom (tree_in from (tree_at n from) o) (met_in (visits n from) o) (wanted words_behind (HasLongList from) c.args.start.segment) (limited_arena (state_in g.A.ReaderArena.segments g.A.BuilderArena.room g.A.BuilderArena.books c.args.arena.now) c.args.limiter.now) c.fill_struct.result (limited_arena (state_in g.A.ReaderArena.segments g.A.BuilderArena.room g.A.BuilderArena.books c.fill_struct.new.arena) c.fill_struct.new.limiter)) (sym x.is)
     (fits_made each_object_words words_behind (λ ts. structure x.data_words (section_at from (place_view x.from) x.data_words) ts) (each (tree_at n from) q x.pointers) (from_each (visits n from) q x.pointers) (HasLongList from) c.args.start.segment (state_in g.A.ReaderArena.segments g.A.BuilderArena.room g.A.BuilderArena.books c.args.arena.now) (state_in g.A.ReaderArena.segments g.A.BuilderArena.room g.A.BuilderArena.books c.fill_struct.new.arena) c.args.limiter.now c.fill_struct.new.limiter c.fill_struct.result (λ ts. refl) c.fill_struct.ensures.fits)
 
 pub fill-returns-in-List-clause-fits : goal.fill-returns-in-List-clause-fits
@@ -561,7 +561,7 @@ fill-returns-in-List-clause-fits g t c =
     let s : Segments = words_in (g.A.ReaderArena.segments c.args.arena.now) in
     let n = c.args.levels in
     let x = c.in-List in
-    subst (λ (o : Object). FitsWhereRoom words_behind (tree_in from (tree_at n from) o) (met_in (visits n from) o) (HasLongList from) c.args.start.segment (state_in g.A.ReaderArena.segments g.A.BuilderArena.room g.A.BuilderArena.books c.args.arena.now) (state_in g.A.ReaderArena.segments g.A.BuilderArena.room g.A.BuilderArena.books c.copy_words.new.arena) c.args.limiter.now (Ok tt) c.args.limiter.now) (sym x.is)
+    subst (λ (o : Object). FitsWhereRoom (tree_in from (tree_at n from) o) (met_in (visits n from) o) (wanted words_behind (HasLongList from) c.args.start.segment) (limited_arena (state_in g.A.ReaderArena.segments g.A.BuilderArena.room g.A.BuilderArena.books c.args.arena.now) c.args.limiter.now) (Ok tt) (limited_arena (state_in g.A.ReaderArena.segments g.A.BuilderArena.room g.A.BuilderArena.books c.copy_words.new.arena) c.args.limiter.now)) (sym x.is)
     (list_fits from (tree_at n from) x.from x.size x.count c.args.start.segment (state_in g.A.ReaderArena.segments g.A.BuilderArena.room g.A.BuilderArena.books c.args.arena.now) (state_in g.A.ReaderArena.segments g.A.BuilderArena.room g.A.BuilderArena.books c.copy_words.new.arena) (ap (λ (v : Segments). map length v) c.copy_words.ensures.words ∙ written_sizes s (place_view c.args.start) _) c.copy_words.ensures.room)
 
 pub fill-returns-in-PointerList-clause-fits : goal.fill-returns-in-PointerList-clause-fits
@@ -570,7 +570,7 @@ fill-returns-in-PointerList-clause-fits g t c =
     let n = c.args.levels in
     let x = c.in-PointerList in
     let q : Place = place_view x.from in
-    subst (λ (o : Object). FitsWhereRoom words_behind (tree_in from (tree_at n from) o) (met_in (visits n from) o) (HasLongList from) c.args.start.segment (state_in g.A.ReaderArena.segments g.A.BuilderArena.room g.A.BuilderArena.books c.args.arena.now) (state_in g.A.ReaderArena.segments g.A.BuilderArena.room g.A.BuilderArena.books c.fill_row.new.arena) c.args.limiter.now c.fill_row.result c.fill_row.new.limiter) (sym x.is)
+    subst (λ (o : Object). FitsWhereRoom (tree_in from (tree_at n from) o) (met_in (visits n from) o) (wanted words_behind (HasLongList from) c.args.start.segment) (limited_arena (state_in g.A.ReaderArena.segments g.A.BuilderArena.room g.A.BuilderArena.books c.args.arena.now) c.args.limiter.now) c.fill_row.result (limited_arena (state_in g.A.ReaderArena.segments g.A.BuilderArena.room g.A.BuilderArena.books c.fill_row.new.arena) c.fill_row.new.limiter)) (sym x.is)
     (fits_made each_object_words words_behind (λ ts. pointer_list ts) (each (tree_at n from) q x.count) (from_each (visits n from) q x.count) (HasLongList from) c.args.start.segment (state_in g.A.ReaderArena.segments g.A.BuilderArena.room g.A.BuilderArena.books c.args.arena.now) (state_in g.A.ReaderArena.segments g.A.BuilderArena.room g.A.BuilderArena.books c.fill_row.new.arena) c.args.limiter.now c.fill_row.new.limiter c.fill_row.result (λ ts. refl) c.fill_row.ensures.fits)
 
 pub fill-returns-in-StructList-clause-fits : goal.fill-returns-in-StructList-clause-fits
@@ -580,7 +580,7 @@ fill-returns-in-StructList-clause-fits g t c =
     let n = c.args.levels in
     let x = c.in-StructList in
     let q : Place = place_view x.from in
-    subst (λ (o : Object). FitsWhereRoom words_behind (tree_in from (tree_at n from) o) (met_in (visits n from) o) (HasLongList from) c.args.start.segment (state_in g.A.ReaderArena.segments g.A.BuilderArena.room g.A.BuilderArena.books c.args.arena.now) (state_in g.A.ReaderArena.segments g.A.BuilderArena.room g.A.BuilderArena.books c.fill_elements.new.arena) c.args.limiter.now c.fill_elements.result c.fill_elements.new.limiter) (sym x.is)
+    subst (λ (o : Object). FitsWhereRoom (tree_in from (tree_at n from) o) (met_in (visits n from) o) (wanted words_behind (HasLongList from) c.args.start.segment) (limited_arena (state_in g.A.ReaderArena.segments g.A.BuilderArena.room g.A.BuilderArena.books c.args.arena.now) c.args.limiter.now) c.fill_elements.result (limited_arena (state_in g.A.ReaderArena.segments g.A.BuilderArena.room g.A.BuilderArena.books c.fill_elements.new.arena) c.fill_elements.new.limiter)) (sym x.is)
     (fits_made elements_behind words_behind (λ es. struct_list x.data_words x.pointers es) (each_element (tree_at n from) q (words_there from q x.words) x.data_words x.pointers x.count) (from_elements (visits n from) q x.data_words x.pointers x.count) (HasLongList from) c.args.start.segment (state_in g.A.ReaderArena.segments g.A.BuilderArena.room g.A.BuilderArena.books c.args.arena.now) (state_in g.A.ReaderArena.segments g.A.BuilderArena.room g.A.BuilderArena.books c.fill_elements.new.arena) c.args.limiter.now c.fill_elements.new.limiter c.fill_elements.result (λ es. refl)
     (fits_after elements_behind (each_element (tree_at n from) q (words_there from q x.words) x.data_words x.pointers x.count) (from_elements (visits n from) q x.data_words x.pointers x.count) (HasLongList from) c.args.start.segment (state_in g.A.ReaderArena.segments g.A.BuilderArena.room g.A.BuilderArena.books c.args.arena.now) (state_in g.A.ReaderArena.segments g.A.BuilderArena.room g.A.BuilderArena.books c.write_word.new.self) (state_in g.A.ReaderArena.segments g.A.BuilderArena.room g.A.BuilderArena.books c.fill_elements.new.arena) c.args.limiter.now c.fill_elements.new.limiter c.fill_elements.result (ap (λ (v : Segments). map length v) c.write_word.ensures.words ∙ written_sizes s (place_view c.args.start) _) c.write_word.ensures.room c.fill_elements.ensures.fits))
 

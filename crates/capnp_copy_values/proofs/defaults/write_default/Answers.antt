@@ -9,8 +9,8 @@ use Rattle.capnp_model.specs.Traversal.{tree_at}
 use Rattle.capnp_model.specs.Visits.{visits}
 use Rattle.capnp_copy_arenas.specs.Refusals.{IsSizeOrRefusal}
 use Rattle.capnp_copy_arenas.specs.States.{state_in}
-use Rattle.capnp_copy_values.specs.Copies.{CopiesValue, IsStoppedOr}
-use Rattle.capnp_copy_values.specs.Fits.{FitsWhereRoom, HasLongList}
+use Rattle.capnp_copy_values.specs.Copies.{CopiesValue, IsStoppedOr, copy_source, limited_words}
+use Rattle.capnp_copy_values.specs.Fits.{FitsWhereRoom, HasLongList, limited_arena, wanted}
 use Rattle.capnp_copy_values.specs.Defaults.{default_segments, is_null_or_absent}
 use Rattle.capnp_copy_values.proofs.defaults.write_default.Goals as goal
 
@@ -35,7 +35,7 @@ returns-clause-default g c =
         new = c.copy_from.new.limiter;
         endless = c.new-limiter.ensures.limit;
         unused = c.new-limiter.ensures.granted;
-        copies = subst (λ (f : Segments). CopiesValue 64 f root s u p c.new-limiter.result c.copy_from.result c.copy_from.new.limiter) is c.copy_from.ensures.copy;
+        copies = subst (λ (f : Segments). CopiesValue (copy_source 64 f root) p (limited_words s c.new-limiter.result) c.copy_from.result (limited_words u c.copy_from.new.limiter)) is c.copy_from.ensures.copy;
       };
       kept = λ e. absurd (both (is_null_or_absent s p) (is_null_or_absent (default_segments c.args.default.now) root) null_here some_here e);
     }
@@ -54,7 +54,7 @@ returns-clause-told g c =
         old = c.new-limiter.result;
         new = c.copy_from.new.limiter;
         endless = c.new-limiter.ensures.limit;
-        fits = subst (λ (f : Segments). FitsWhereRoom object_words (tree_at 64 f root) (visits 64 f root) (HasLongList f) c.args.slot.segment (state_in g.A.ReaderArena.segments g.A.BuilderArena.room g.A.BuilderArena.books c.args.arena.now) (state_in g.A.ReaderArena.segments g.A.BuilderArena.room g.A.BuilderArena.books c.copy_from.new.arena) c.new-limiter.result c.copy_from.result c.copy_from.new.limiter) is c.copy_from.ensures.fits;
+        fits = subst (λ (f : Segments). FitsWhereRoom (tree_at 64 f root) (visits 64 f root) (wanted object_words (HasLongList f) c.args.slot.segment) (limited_arena (state_in g.A.ReaderArena.segments g.A.BuilderArena.room g.A.BuilderArena.books c.args.arena.now) c.new-limiter.result) c.copy_from.result (limited_arena (state_in g.A.ReaderArena.segments g.A.BuilderArena.room g.A.BuilderArena.books c.copy_from.new.arena) c.copy_from.new.limiter)) is c.copy_from.ensures.fits;
         cause = subst (λ (f : Segments). IsStoppedOr (visits 64 f root) c.new-limiter.result c.copy_from.new.limiter (IsSizeOrRefusal g.A.BuilderArena.refuses) c.copy_from.result) is c.copy_from.ensures.cause;
       };
       kept = λ e. absurd (both (is_null_or_absent s p) (is_null_or_absent (default_segments c.args.default.now) root) null_here some_here e);

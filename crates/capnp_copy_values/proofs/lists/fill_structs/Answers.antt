@@ -1,4 +1,4 @@
-use Rattle.std.proofs.Common.{◌≡◌, ℕ, ◌+◌, ◌-◌, ◌*◌, ◌≤◌, true, List, length, map, take, drop, refl, ap, sym, ◌∙◌, subst, arith}
+use Rattle.std.proofs.Common.{◌≡◌, ℕ, ◌+◌, ◌-◌, ◌*◌, true, List, length, map, take, drop, refl, ap, sym, ◌∙◌, subst, arith}
 use Rattle.std.specs.Option.{is_some}
 use Rattle.std.proofs.lemmas.Result.{err_from_is_err_and}
 use Rattle.capnp_model.specs.Sections.{number_of, section_of, words_of}
@@ -12,7 +12,7 @@ use Rattle.capnp_wire_objects.proofs.lemmas.Words.{whole_words-length}
 use Rattle.capnp_model_writes.proofs.lemmas.Rows.{after_sum}
 use Rattle.capnp_wire.proofs.lemmas.Bytes.{section_of_part}
 use Rattle.capnp_copy_arenas.proofs.lemmas.RoomLaws.{still_some}
-use Rattle.capnp_copy_values.specs.Copies.{FillsElements, LeavesElements, Copied}
+use Rattle.capnp_copy_values.specs.Copies.{FillsElements, LeavesElements, Copied, limited_words, sized_at}
 use Rattle.capnp_copy_values.proofs.Elements.{elements_begun, elements_next, elements_stopped, elements_ended, all_at_once, element_within}
 use Rattle.capnp_copy_values.proofs.Listed.{all_read}
 use Rattle.capnp_copy_values.proofs.Parts.{part_there}
@@ -40,7 +40,7 @@ returns-then-list-eq0-clause-copy g c =
     let long = c.requires.all in
     let read = all_read (c.args.list.count * (c.args.list.data_words + c.args.list.pointers)) c.args.bytes.now long (λ i. let h = c.type_inv.bytes i in omega (arith, h)) in
     let size : length (whole_words c.args.bytes.now) ≡ c.args.list.count * (c.args.list.data_words + c.args.list.pointers) = whole_words-length c.args.bytes.now ∙ omega (arith, long) in
-    subst (λ (ws : List ℕ). Copied (each_element (tree_at n from) p ws d k count) (from_elements (visits n from) p d k count) (FillsElements n s u r d k count) s u c.args.limiter.now c.args.limiter.now) (sym read)
+    subst (λ (ws : List ℕ). Copied (each_element (tree_at n from) p ws d k count) (from_elements (visits n from) p d k count) (FillsElements n s u (sized_at r d k) count) (limited_words s c.args.limiter.now) (limited_words u c.args.limiter.now)) (sym read)
     (all_at_once n from p (whole_words c.args.bytes.now) d k count s u r c.args.limiter.now c.if-list-eq0.true size c.write_words.ensures.words)
 
 pub loop-i-init : goal.loop-i-init
@@ -78,7 +78,7 @@ returns-in_err-fill_element-clause-copy g c =
     let ws : List ℕ = words_of (c.args.list.count * (c.args.list.data_words + c.args.list.pointers)) (number_of 8 c.args.bytes.now) in
     let r = err_from_is_err_and c.from_residual.result c.from_residual.ensures.1 in
     let e = c.in_err-fill_element.field-0.0 in
-    refused_is from (each_element (tree_at n from) p ws d k count) (from_elements (visits n from) p d k count) (FillsElements n s w q d k count) (LeavesElements n s w q d k count) s w c.args.limiter.now c.fill_element.new.limiter c.from_residual.result r.0 e r.1 r.2
+    refused_is from (each_element (tree_at n from) p ws d k count) (from_elements (visits n from) p d k count) (FillsElements n s w (sized_at q d k) count) (LeavesElements n s w (sized_at q d k) count) s w c.args.limiter.now c.fill_element.new.limiter c.from_residual.result r.0 e r.1 r.2
     (elements_stopped n from p ws d k count s q c.args.limiter.now c.loop-i.i u w c.loop-i.limiter c.fill_element.new.limiter c.loop-i-test.true c.loop-i.invariant.0 e c.in_err-fill_element.ensures.copy)
 
 pub loop-i-preserved : goal.loop-i-preserved

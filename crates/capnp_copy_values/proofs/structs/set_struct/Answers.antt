@@ -7,7 +7,7 @@ use Rattle.capnp_model.specs.Sections.{number_of, words_for}
 use Rattle.capnp_model.specs.Segments.{Segments, Place, words_at}
 use Rattle.capnp_model.specs.Trees.{Tree, structure}
 use Rattle.capnp_model.specs.Traversal.{tree_at, each}
-use Rattle.capnp_model.specs.Coverage.{Grows, from_each}
+use Rattle.capnp_model.specs.Coverage.{Grows, from_each, span}
 use Rattle.capnp_model.specs.Visits.{visits}
 use Rattle.capnp_units.specs.Segments.{words_in}
 use Rattle.capnp_wire_objects.specs.Places.{place_view}
@@ -16,7 +16,7 @@ use Rattle.capnp_copy_arenas.specs.Clearing.{ClearsObject}
 use Rattle.capnp_copy_arenas.specs.Rooms.{begin_of, linked}
 use Rattle.capnp_copy_arenas.proofs.lemmas.RoomLaws.{sizes_grow, still_some, room_addressed, room_grows, room_pad, pad_stays, room_near}
 use Rattle.capnp_model.proofs.lemmas.WordsInBytes.{words_for_bytes}
-use Rattle.capnp_copy_values.specs.Copies.{Copied, Refused, Fills, ObjectCopied, ObjectRefused, ObjectGives}
+use Rattle.capnp_copy_values.specs.Copies.{Copied, Refused, Fills, ObjectCopied, ObjectRefused, ObjectGives, copy_of, limited_words, object_put, struct_tree}
 use Rattle.capnp_copy_values.specs.Objects.{copied_words, copied_at, copied_pointer}
 use Rattle.capnp_copy_values.proofs.Allocated.{room_new}
 use Rattle.capnp_copy_values.proofs.Parts.{front_there}
@@ -28,7 +28,7 @@ use Rattle.capnp_model.specs.Sizes.{object_words, each_object_words}
 use Rattle.capnp_copy_arenas.specs.States.{state_in}
 use Rattle.capnp_copy_arenas.proofs.lemmas.Taken.{linked_sizes, bytes_sizes}
 use Rattle.capnp_copy_values.specs.Copies.{struct_source}
-use Rattle.capnp_copy_values.specs.Fits.{FitsWhereRoom, HasLongList, words_behind, struct_tree}
+use Rattle.capnp_copy_values.specs.Fits.{HasLongList, words_behind}
 use Rattle.capnp_copy_values.proofs.Fitting.{fits_err, fits_after, fits_made, fits_kept, object_fits, struct_own, struct_lacks}
 use Rattle.capnp_copy_values.proofs.structs.set_struct.Goals as goal
 
@@ -39,7 +39,7 @@ returns-in_err-room-clause-copy g c =
     let u : Segments = words_in (g.A.ReaderArena.segments c.room_for.new.arena) in
     let r = err_from_is_err_and c.from_residual.result c.from_residual.ensures.1 in
     let e = c.in_err-room.field-0.0 in
-    subst (λ (d : ℕ). ObjectGives c.args.levels from (object.Struct c.args.first d c.args.pointers) (each (tree_at c.args.levels from) (place_view c.args.first) c.args.pointers >>= λ ts. Some (structure d (number_of 8 c.args.section.now) ts)) (from_each (visits c.args.levels from) (place_view c.args.first) c.args.pointers) s u (place_view c.args.slot) c.args.limiter.now c.from_residual.result c.args.limiter.now) (words_for_bytes (length c.args.section.now))
+    subst (λ (d : ℕ). ObjectGives (copy_of from (each (tree_at c.args.levels from) (place_view c.args.first) c.args.pointers >>= λ ts. Some (structure d (number_of 8 c.args.section.now) ts)) (from_each (visits c.args.levels from) (place_view c.args.first) c.args.pointers)) (object_put c.args.levels (object.Struct c.args.first d c.args.pointers) (place_view c.args.slot)) (limited_words s c.args.limiter.now) c.from_residual.result (limited_words u c.args.limiter.now)) (words_for_bytes (length c.args.section.now))
     (object_refused c.args.levels from (object.Struct c.args.first ((length c.args.section.now + 7) / 8) c.args.pointers) (each (tree_at c.args.levels from) (place_view c.args.first) c.args.pointers >>= λ ts. Some (structure ((length c.args.section.now + 7) / 8) (number_of 8 c.args.section.now) ts)) (from_each (visits c.args.levels from) (place_view c.args.first) c.args.pointers) s u (place_view c.args.slot) c.args.limiter.now c.args.limiter.now c.from_residual.result r.0 e r.1 r.2
     (no_room from s u (object.Struct c.args.first ((length c.args.section.now + 7) / 8) c.args.pointers) (from_each (visits c.args.levels from) (place_view c.args.first) c.args.pointers) c.args.limiter.now e (ap words_in c.in_err-room.ensures.refused) c.in_err-room.ensures.kind))
 
@@ -130,9 +130,9 @@ returns-in-Ok-clause-copy g c =
     let new = room_new s m p (((length c.args.section.now + 7) / 8) + c.args.pointers) c.in_ok-room.room c.requires.there c.in_ok-room.ensures.ok in
     let zeros = subst (λ (q : Place). words_at m q (((length c.args.section.now + 7) / 8) + c.args.pointers) ≡ Some (replicate (((length c.args.section.now + 7) / 8) + c.args.pointers) 0)) (sym begins) new.zeros in
     let made = section_fills n from (place_view c.args.first) from (each (tree_at c.args.levels from) (place_view c.args.first) c.args.pointers) (from_each (visits c.args.levels from) (place_view c.args.first) c.args.pointers) c.args.section.now m w u (place_view c.begin_of-start.result) ((length c.args.section.now + 7) / 8) c.args.pointers c.args.limiter.now c.fill_row.new.limiter (Ok tt) (λ i. let h = c.type_inv.section i in omega (arith, h)) (words_for_bytes (length c.args.section.now)) zeros c.write_bytes.ensures.words c.in-Ok.ensures.copy in
-    let filled = subst (λ (r : Place). Copied (each (tree_at c.args.levels from) (place_view c.args.first) c.args.pointers >>= λ ts. Some (structure ((length c.args.section.now + 7) / 8) (number_of 8 c.args.section.now) ts)) (from_each (visits c.args.levels from) (place_view c.args.first) c.args.pointers) (λ v. (j : ℕ) → n ≤ j → Fills j m u r (copied_words (object.Struct c.args.first ((length c.args.section.now + 7) / 8) c.args.pointers)) (copied_at r (object.Struct c.args.first ((length c.args.section.now + 7) / 8) c.args.pointers)) v) m u c.args.limiter.now c.fill_row.new.limiter) begins made in
+    let filled = subst (λ (r : Place). Copied (each (tree_at c.args.levels from) (place_view c.args.first) c.args.pointers >>= λ ts. Some (structure ((length c.args.section.now + 7) / 8) (number_of 8 c.args.section.now) ts)) (from_each (visits c.args.levels from) (place_view c.args.first) c.args.pointers) (λ v. (j : ℕ) → n ≤ j → Fills j m u (span r (copied_words (object.Struct c.args.first ((length c.args.section.now + 7) / 8) c.args.pointers))) (copied_at r (object.Struct c.args.first ((length c.args.section.now + 7) / 8) c.args.pointers)) v) (limited_words m c.args.limiter.now) (limited_words u c.fill_row.new.limiter)) begins made in
     let now : z ≡ linked y p room (copied_pointer (object.Struct c.args.first ((length c.args.section.now + 7) / 8) c.args.pointers)) = c.link.ensures.words ∙ ap (linked y p room) c.pointer_word.ensures.word in
-    subst (λ (d : ℕ). ObjectCopied n (object.Struct c.args.first d c.args.pointers) (each (tree_at c.args.levels from) (place_view c.args.first) c.args.pointers >>= λ ts. Some (structure d (number_of 8 c.args.section.now) ts)) (from_each (visits c.args.levels from) (place_view c.args.first) c.args.pointers) s z p c.args.limiter.now c.fill_row.new.limiter) (words_for_bytes (length c.args.section.now))
+    subst (λ (d : ℕ). ObjectCopied (each (tree_at c.args.levels from) (place_view c.args.first) c.args.pointers >>= λ ts. Some (structure d (number_of 8 c.args.section.now) ts)) (from_each (visits c.args.levels from) (place_view c.args.first) c.args.pointers) (object_put n (object.Struct c.args.first d c.args.pointers) p) (limited_words s c.args.limiter.now) (limited_words z c.fill_row.new.limiter)) (words_for_bytes (length c.args.section.now))
     (copied_object n s m u y z p (object.Struct c.args.first ((length c.args.section.now + 7) / 8) c.args.pointers) room (each (tree_at c.args.levels from) (place_view c.args.first) c.args.pointers >>= λ ts. Some (structure ((length c.args.section.now + 7) / 8) (number_of 8 c.args.section.now) ts)) (from_each (visits c.args.levels from) (place_view c.args.first) c.args.pointers) c.args.limiter.now c.fill_row.new.limiter c.requires.there refl c.in_ok-room.ensures.ok (struct_fits c.args.first ((length c.args.section.now + 7) / 8) c.args.pointers c.in_ok-room.ensures.spelled) filled c.clear.ensures.clears c.clear.ensures.sizes now)
 
 pub returns-in-Err-clause-copy : goal.returns-in-Err-clause-copy
@@ -150,9 +150,9 @@ returns-in-Err-clause-copy g c =
     let new = room_new s m p (((length c.args.section.now + 7) / 8) + c.args.pointers) c.in_ok-room.room c.requires.there c.in_ok-room.ensures.ok in
     let zeros = subst (λ (q : Place). words_at m q (((length c.args.section.now + 7) / 8) + c.args.pointers) ≡ Some (replicate (((length c.args.section.now + 7) / 8) + c.args.pointers) 0)) (sym begins) new.zeros in
     let made = section_fills n from (place_view c.args.first) from (each (tree_at c.args.levels from) (place_view c.args.first) c.args.pointers) (from_each (visits c.args.levels from) (place_view c.args.first) c.args.pointers) c.args.section.now m w u (place_view c.begin_of-start.result) ((length c.args.section.now + 7) / 8) c.args.pointers c.args.limiter.now c.fill_row.new.limiter (Err e) (λ i. let h = c.type_inv.section i in omega (arith, h)) (words_for_bytes (length c.args.section.now)) zeros c.write_bytes.ensures.words c.in-Err.ensures.copy in
-    let left = subst (λ (r : Place). Refused from (from_each (visits c.args.levels from) (place_view c.args.first) c.args.pointers) ((t : Tree) × Fills n m u r (copied_words (object.Struct c.args.first ((length c.args.section.now + 7) / 8) c.args.pointers)) (copied_at r (object.Struct c.args.first ((length c.args.section.now + 7) / 8) c.args.pointers)) t) m u c.args.limiter.now e c.fill_row.new.limiter) begins made in
+    let left = subst (λ (r : Place). Refused from (from_each (visits c.args.levels from) (place_view c.args.first) c.args.pointers) ((t : Tree) × Fills n m u (span r (copied_words (object.Struct c.args.first ((length c.args.section.now + 7) / 8) c.args.pointers))) (copied_at r (object.Struct c.args.first ((length c.args.section.now + 7) / 8) c.args.pointers)) t) (limited_words m c.args.limiter.now) e (limited_words u c.fill_row.new.limiter)) begins made in
     let clears : ClearsObject u y (copied_at (begin_of p c.in_ok-room.room) (object.Struct c.args.first ((length c.args.section.now + 7) / 8) c.args.pointers)) = subst (λ (r : Place). ClearsObject u y (copied_at r (object.Struct c.args.first ((length c.args.section.now + 7) / 8) c.args.pointers))) begins (subst (ClearsObject u y) c.copy_at.ensures c.clear_object.ensures.clears) in
-    subst (λ (d : ℕ). ObjectRefused from (object.Struct c.args.first d c.args.pointers) (from_each (visits c.args.levels from) (place_view c.args.first) c.args.pointers) s y c.args.limiter.now e c.fill_row.new.limiter) (words_for_bytes (length c.args.section.now))
+    subst (λ (d : ℕ). ObjectRefused from (object.Struct c.args.first d c.args.pointers) (from_each (visits c.args.levels from) (place_view c.args.first) c.args.pointers) (limited_words s c.args.limiter.now) e (limited_words y c.fill_row.new.limiter)) (words_for_bytes (length c.args.section.now))
     (refused_object n from s m u y p (object.Struct c.args.first ((length c.args.section.now + 7) / 8) c.args.pointers) c.in_ok-room.room (from_each (visits c.args.levels from) (place_view c.args.first) c.args.pointers) c.args.limiter.now c.fill_row.new.limiter e c.requires.there c.in_ok-room.ensures.ok left clears c.clear_object.ensures.sizes)
 
 pub returns-in_err-room-clause-cause : goal.returns-in_err-room-clause-cause

@@ -5,17 +5,14 @@ use Rattle.capnp_model.specs.Segments.{Segments}
 use Rattle.capnp_units.specs.Segments.{words_in}
 use Rattle.capnp_wire_objects.specs.Places.{place_view}
 use Rattle.capnp_wire.specs.Views.{backing_bytes, is_paid, seen_struct}
-use Rattle.capnp_copy_values.specs.Copies.{StructSource, struct_source}
+use Rattle.capnp_copy_values.specs.Copies.{StructSource, struct_source, copy_source, limited_words, copy_of_row}
 use Rattle.capnp_copy_values.specs.Contents.{CopiesContent, SetsSection, fitting}
 use Rattle.capnp_layout_builders.specs.Copied.{Walk, Charged, IsTold, TakesDataAlone, IsSourceOf}
 use Rattle.capnp_layout_builders.proofs.lemmas.Charging.{matched, unmatched, in_arena, in_default}
-use Rattle.capnp_model.specs.Coverage.{from_each}
 use Rattle.capnp_model.specs.Sizes.{each_object_words}
-use Rattle.capnp_model.specs.Traversal.{tree_at, each}
-use Rattle.capnp_model.specs.Visits.{visits}
 use Rattle.capnp_copy_arenas.specs.Refusals.{IsSizeOrRefusal}
 use Rattle.capnp_copy_arenas.specs.States.{state_in}
-use Rattle.capnp_copy_values.specs.Fits.{HasLongList}
+use Rattle.capnp_copy_values.specs.Fits.{HasLongList, wanted}
 use Rattle.capnp_layout_builders.proofs.copies.copy_content.Goals as goal
 
 pub returns-in_default-clause-content : goal.returns-in_default-clause-content
@@ -26,7 +23,7 @@ returns-in_default-clause-content g c =
     let o = c.args.object in
     let l = c.args.limiter.now in
     let none : v.levels ≡ None = search rules in
-    unmatched v.levels (TakesDataAlone v s u o l (Err c.from.result) l) (λ n. Charged v.basis.paid (λ q r m. (x : StructSource) × IsSourceOf v x × CopiesContent n v.basis.segments x s u o q r m) l (Err c.from.result) l) none (record {
+    unmatched v.levels (TakesDataAlone v s u o l (Err c.from.result) l) (λ n. Charged v.basis.paid (λ q r m. (x : StructSource) × IsSourceOf v x × CopiesContent (copy_source n v.basis.segments x) o (limited_words s q) r (limited_words u m)) l (Err c.from.result) l) none (record {
       refused = search rules;
       unread = refl;
       sizes = c.copy_data_from.ensures.sizes;
@@ -41,7 +38,7 @@ returns-in-Arena-clause-content g c =
     let u = words_in (g.A.ReaderArena.segments c.copy_content_from.new.arena) in
     let x = struct_source c.section-section.result.now c.first_pointer-first.result c.pointers-pointers.result in
     let parts : IsSourceOf v x = record { section = c.section-section.ensures.section; data_words = ap words_for c.section-section.ensures.bits; first = c.first_pointer-first.ensures.place; pointers = c.pointers-pointers.ensures } in
-    let W : ℕ → Segments → Walk = λ n q l r m. (y : StructSource) × IsSourceOf v y × CopiesContent n q y s u c.args.object l r m in
+    let W : ℕ → Segments → Walk = λ n q l r m. (y : StructSource) × IsSourceOf v y × CopiesContent (copy_source n q y) c.args.object (limited_words s l) r (limited_words u m) in
     matched v.levels (TakesDataAlone v s u c.args.object c.args.limiter.now c.copy_content_from.result c.copy_content_from.new.limiter) (λ n. Charged v.basis.paid (W n v.basis.segments) c.args.limiter.now c.copy_content_from.result c.copy_content_from.new.limiter) c.in-Some.levels ((sym c.levels.ensures) ∙ c.in-Some.is)
     (in_arena bytes (W c.in-Some.levels) c.backing.result v.basis (bytes c.in-Arena.source.now) c.args.limiter.now c.copy_content_from.new.limiter c.copy_content_from.result c.backing.ensures (ap is_paid c.in-Arena.is) (ap (backing_bytes bytes) c.in-Arena.is) (x, parts, c.copy_content_from.ensures.content))
 
@@ -53,7 +50,7 @@ returns-in-Default-clause-content g c =
     let u = words_in (g.A.ReaderArena.segments c.copy_content_from-in-Default.new.arena) in
     let x = struct_source c.section-section.result.now c.first_pointer-first.result c.pointers-pointers.result in
     let parts : IsSourceOf v x = record { section = c.section-section.ensures.section; data_words = ap words_for c.section-section.ensures.bits; first = c.first_pointer-first.ensures.place; pointers = c.pointers-pointers.ensures } in
-    let W : ℕ → Segments → Walk = λ n q l r m. (y : StructSource) × IsSourceOf v y × CopiesContent n q y s u c.args.object l r m in
+    let W : ℕ → Segments → Walk = λ n q l r m. (y : StructSource) × IsSourceOf v y × CopiesContent (copy_source n q y) c.args.object (limited_words s l) r (limited_words u m) in
     matched v.levels (TakesDataAlone v s u c.args.object c.args.limiter.now c.copy_content_from-in-Default.result c.args.limiter.now) (λ n. Charged v.basis.paid (W n v.basis.segments) c.args.limiter.now c.copy_content_from-in-Default.result c.args.limiter.now) c.in-Some.levels ((sym c.levels.ensures) ∙ c.in-Some.is)
     (in_default bytes (W c.in-Some.levels) c.backing.result c.backing-source.result v.basis c.new-unlimited.result c.copy_content_from-in-Default.new.limiter c.args.limiter.now c.copy_content_from-in-Default.result c.backing.ensures (ap is_paid c.in-Default.is) c.backing-source.ensures c.new-unlimited.ensures.limit (x, parts, c.copy_content_from-in-Default.ensures.content))
 
@@ -65,7 +62,7 @@ returns-in-Arena-clause-told g c =
     let u = (state_in g.A.ReaderArena.segments g.A.BuilderArena.room g.A.BuilderArena.books c.copy_content_from.new.arena) in
     let x = struct_source c.section-section.result.now c.first_pointer-first.result c.pointers-pointers.result in
     let parts : IsSourceOf v x = record { section = c.section-section.ensures.section; data_words = ap words_for c.section-section.ensures.bits; first = c.first_pointer-first.ensures.place; pointers = c.pointers-pointers.ensures } in
-    let W : ℕ → Segments → Walk = λ n q l r m. (y : StructSource) × IsSourceOf v y × IsTold each_object_words (each (tree_at n q) (place_view y.first) (min y.pointers c.args.object.pointers)) (from_each (visits n q) (place_view y.first) (min y.pointers c.args.object.pointers)) (HasLongList q) c.args.object.start.segment s u (IsSizeOrRefusal g.A.BuilderArena.refuses) l r m in
+    let W : ℕ → Segments → Walk = λ n q l r m. (y : StructSource) × IsSourceOf v y × IsTold (copy_of_row (copy_source n q (place_view y.first)) (min y.pointers c.args.object.pointers)) (wanted each_object_words (HasLongList q) c.args.object.start.segment) s u (IsSizeOrRefusal g.A.BuilderArena.refuses) l r m in
     matched v.levels (Unit {0}) (λ n. Charged v.basis.paid (W n v.basis.segments) c.args.limiter.now c.copy_content_from.result c.copy_content_from.new.limiter) c.in-Some.levels ((sym c.levels.ensures) ∙ c.in-Some.is)
     (in_arena bytes (W c.in-Some.levels) c.backing.result v.basis (bytes c.in-Arena.source.now) c.args.limiter.now c.copy_content_from.new.limiter c.copy_content_from.result c.backing.ensures (ap is_paid c.in-Arena.is) (ap (backing_bytes bytes) c.in-Arena.is) (x, parts, (c.copy_content_from.ensures.fits, c.copy_content_from.ensures.cause)))
 
@@ -77,6 +74,6 @@ returns-in-Default-clause-told g c =
     let u = (state_in g.A.ReaderArena.segments g.A.BuilderArena.room g.A.BuilderArena.books c.copy_content_from-in-Default.new.arena) in
     let x = struct_source c.section-section.result.now c.first_pointer-first.result c.pointers-pointers.result in
     let parts : IsSourceOf v x = record { section = c.section-section.ensures.section; data_words = ap words_for c.section-section.ensures.bits; first = c.first_pointer-first.ensures.place; pointers = c.pointers-pointers.ensures } in
-    let W : ℕ → Segments → Walk = λ n q l r m. (y : StructSource) × IsSourceOf v y × IsTold each_object_words (each (tree_at n q) (place_view y.first) (min y.pointers c.args.object.pointers)) (from_each (visits n q) (place_view y.first) (min y.pointers c.args.object.pointers)) (HasLongList q) c.args.object.start.segment s u (IsSizeOrRefusal g.A.BuilderArena.refuses) l r m in
+    let W : ℕ → Segments → Walk = λ n q l r m. (y : StructSource) × IsSourceOf v y × IsTold (copy_of_row (copy_source n q (place_view y.first)) (min y.pointers c.args.object.pointers)) (wanted each_object_words (HasLongList q) c.args.object.start.segment) s u (IsSizeOrRefusal g.A.BuilderArena.refuses) l r m in
     matched v.levels (Unit {0}) (λ n. Charged v.basis.paid (W n v.basis.segments) c.args.limiter.now c.copy_content_from-in-Default.result c.args.limiter.now) c.in-Some.levels ((sym c.levels.ensures) ∙ c.in-Some.is)
     (in_default bytes (W c.in-Some.levels) c.backing.result c.backing-source.result v.basis c.new-unlimited.result c.copy_content_from-in-Default.new.limiter c.args.limiter.now c.copy_content_from-in-Default.result c.backing.ensures (ap is_paid c.in-Default.is) c.backing-source.ensures c.new-unlimited.ensures.limit (x, parts, (c.copy_content_from-in-Default.ensures.fits, c.copy_content_from-in-Default.ensures.cause)))

@@ -6,7 +6,7 @@ use Rattle.capnp_units.specs.declared.errors.Error.{Error}
 use Rattle.capnp_wire_objects.specs.Places.{place_view}
 use Rattle.capnp_wire.specs.Views.{Ground, seen_struct}
 use Rattle.capnp_copy_arenas.specs.Refusals.{IsSizeOrRefusal}
-use Rattle.capnp_copy_values.specs.Copies.{CopiesValue, IsStoppedOr}
+use Rattle.capnp_copy_values.specs.Copies.{CopiesValue, IsStoppedOr, copy_source, limited_words}
 use Rattle.capnp_schema_structs.proofs.SourceReadings.{child_copied, copy_stands}
 use Rattle.capnp_schema_structs.proofs.EmptyValues.{stands_same}
 use Rattle.capnp_units.specs.Errors.{kind_of}
@@ -23,8 +23,8 @@ returns-clause-puts g c from is =
     let q = after (place_view c.first_pointer-first.result) c.args.index in
     let n = c.in-Some.levels in
     let basis = ap (λ (x : Ground). x.segments) c.backing.ensures in
-    let copies = subst (λ (f : Segments). CopiesValue n f q s u p c.new-limiter.result c.copy_from.result c.copy_from.new.limiter) basis c.copy_from.ensures.copy in
-    let there = subst (λ (x : Place). CopiesValue n v.basis.segments (after x c.args.index) s u p c.new-limiter.result c.copy_from.result c.copy_from.new.limiter) c.first_pointer-first.ensures.place copies in
+    let copies = subst (λ (f : Segments). CopiesValue (copy_source n f q) p (limited_words s c.new-limiter.result) c.copy_from.result (limited_words u c.copy_from.new.limiter)) basis c.copy_from.ensures.copy in
+    let there = subst (λ (x : Place). CopiesValue (copy_source n v.basis.segments (after x c.args.index)) p (limited_words s c.new-limiter.result) c.copy_from.result (limited_words u c.copy_from.new.limiter)) c.first_pointer-first.ensures.place copies in
     child_copied n v from is c.args.index c.requires.some s u p c.new-limiter.result c.copy_from.new.limiter c.copy_from.result there
 
 pub returns-clause-stands : goal.returns-clause-stands
@@ -37,7 +37,7 @@ returns-clause-stands g c =
     let n = c.in-Some.levels in
     let basis = ap (λ (x : Ground). x.segments) c.backing.ensures in
     copy_stands n v.basis.segments s u q p c.new-limiter.result c.copy_from.new.limiter c.copy_from.result
-    (subst (λ (f : Segments). CopiesValue n f q s u p c.new-limiter.result c.copy_from.result c.copy_from.new.limiter) basis c.copy_from.ensures.copy)
+    (subst (λ (f : Segments). CopiesValue (copy_source n f q) p (limited_words s c.new-limiter.result) c.copy_from.result (limited_words u c.copy_from.new.limiter)) basis c.copy_from.ensures.copy)
 
 pub returns-in_default-clause-stands : goal.returns-in_default-clause-stands
 returns-in_default-clause-stands g c = stands_same (Err c.from.result) (words_in (g.A.ReaderArena.segments c.args.arena.now))
@@ -54,8 +54,8 @@ returns-clause-why g c =
     let q = after (place_view c.first_pointer-first.result) c.args.index in
     let n = c.in-Some.levels in
     let basis = ap (λ (x : Ground). x.segments) c.backing.ensures in
-    let copies = subst (λ (f : Segments). CopiesValue n f q s u p c.new-limiter.result c.copy_from.result c.copy_from.new.limiter) basis c.copy_from.ensures.copy in
-    let there = subst (λ (x : Place). CopiesValue n v.basis.segments (after x c.args.index) s u p c.new-limiter.result c.copy_from.result c.copy_from.new.limiter) c.first_pointer-first.ensures.place copies in
+    let copies = subst (λ (f : Segments). CopiesValue (copy_source n f q) p (limited_words s c.new-limiter.result) c.copy_from.result (limited_words u c.copy_from.new.limiter)) basis c.copy_from.ensures.copy in
+    let there = subst (λ (x : Place). CopiesValue (copy_source n v.basis.segments (after x c.args.index)) p (limited_words s c.new-limiter.result) c.copy_from.result (limited_words u c.copy_from.new.limiter)) c.first_pointer-first.ensures.place copies in
     let told : Error → Type 0 = IsSizeOrRefusal g.A.BuilderArena.refuses in
     let before = subst (λ (f : Segments). IsStoppedOr (visits n f q) c.new-limiter.result c.copy_from.new.limiter told c.copy_from.result) basis c.copy_from.ensures.cause in
     let stopped = subst (λ (x : Place). IsStoppedOr (visits n v.basis.segments (after x c.args.index)) c.new-limiter.result c.copy_from.new.limiter told c.copy_from.result) c.first_pointer-first.ensures.place before in
