@@ -12,7 +12,7 @@ use Rattle.capnp_model.proofs.lemmas.Bits.{above}
 use Rattle.capnp_model.proofs.lemmas.Bounds.{joined_lt}
 use Rattle.capnp_model.proofs.lemmas.Widening.{stripped-with_child, trim_each-with_child}
 use Rattle.capnp_calls_splice.specs.DataWords.{put_set}
-use Rattle.capnp_calls_splice.specs.Splices.{PutsNumber, PutsAny}
+use Rattle.capnp_calls_splice.specs.Splices.{PutsNumber, PutsNumberIfAny}
 use Rattle.capnp_calls_splice.specs.declared.plain.PlainSet.{PlainSet}
 use Rattle.capnp_calls_splice.proofs.lemmas.DataWords.{put_lt}
 use Rattle.capnp_calls_in_place.proofs.SplicedKids.{child_same, child_fits, count_put, bare_count_put, depths_put}
@@ -116,7 +116,7 @@ with_any None c = c
 with_any (Some p) c = with_number p c
 
 -- What the whole cell becomes after such a change of one that was followed.
-then_any : (p : Option PlainSet) (words : ℕ) (cut marked new old edited : Cell) → FitEach marked.kids → Follows words cut marked old edited → PutsAny p words marked new → Follows words cut new old (with_any p edited)
+then_any : (p : Option PlainSet) (words : ℕ) (cut marked new old edited : Cell) → FitEach marked.kids → Follows words cut marked old edited → PutsNumberIfAny p words marked new → Follows words cut new old (with_any p edited)
 then_any None words cut marked new old edited fit first puts = subst (λ (c : Cell). Follows words cut c old edited) (sym puts) first
 then_any (Some p) words cut marked new old edited fit first puts =
     let again : IsCut words marked edited = record { section = first.section; kids = first.kids; inside = first.inside; fit = fit } in
@@ -132,7 +132,7 @@ then_any (Some p) words cut marked new old edited fit first puts =
     }
 
 -- The discriminant of a member, and the member's number, if it has one.
-pub member_is : (m : PlainSet) (p : Option PlainSet) → IsEditOf (λ words old new. (marked : Cell) × PutsNumber m words old marked × PutsAny p words marked new) (λ c. with_any p (with_number m c))
+pub member_is : (m : PlainSet) (p : Option PlainSet) → IsEditOf (λ words old new. (marked : Cell) × PutsNumber m words old marked × PutsNumberIfAny p words marked new) (λ c. with_any p (with_number m c))
 member_is m p words cut new old is put =
     let marked : Cell = put.0 in
     let children : marked.kids ≡ cut.kids = ap (λ (c : Cell). c.kids) put.1.made in

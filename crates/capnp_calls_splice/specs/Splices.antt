@@ -25,14 +25,14 @@ pub record PutsNumber (p : PlainSet) (words : ℕ) (old new : Cell) : Type 0 whe
   pub made : new ≡ record { section = put_set p old.section; kids = old.kids }
 
 -- A number, if there is one.
-abbrev pub PutsAny : Option PlainSet → ℕ → Cell → Cell → Type 0
-PutsAny None words old new = new ≡ old
-PutsAny (Some p) words old new = PutsNumber p words old new
+abbrev pub PutsNumberIfAny : Option PlainSet → ℕ → Cell → Cell → Type 0
+PutsNumberIfAny None words old new = new ≡ old
+PutsNumberIfAny (Some p) words old new = PutsNumber p words old new
 
 -- What is put into a struct, or an element, of n words.
 abbrev pub PutsIntoCell : Put → ℕ → Cell → Cell → Type 0
 PutsIntoCell (puts.Number p) words old new = PutsNumber p words old new
-PutsIntoCell (puts.Member mark p) words old new = (marked : Cell) × PutsNumber mark words old marked × PutsAny p words marked new
+PutsIntoCell (puts.Member mark p) words old new = (marked : Cell) × PutsNumber mark words old marked × PutsNumberIfAny p words marked new
 PutsIntoCell (puts.Blob i b) words old new = IsPlainList (child old.kids i) × (new ≡ put_child i (tree_of_blob b) old)
 
 -- A change of a struct's data and children.

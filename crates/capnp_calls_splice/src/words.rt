@@ -7,7 +7,7 @@ ghost use Rattle.capnp_model.specs.Encoding.{canonical_words};
 ghost use Rattle.capnp_wire_canonical.specs.Writes.{words_view};
 ghost use Rattle.capnp_model.specs.Edits.{Cell};
 ghost use Rattle.capnp_calls_splice.specs.DataWords.{put_set, put_sets, AreData, HasData, AreWordsAfter};
-ghost use Rattle.capnp_calls_splice.specs.Splices.{PutsAny, PutsIntoCell};
+ghost use Rattle.capnp_calls_splice.specs.Splices.{PutsNumberIfAny, PutsIntoCell};
 ghost use Rattle.capnp_calls_splice.specs.Cells.{DataPut};
 ghost use Rattle.capnp_calls_splice.specs.declared.splice.Put.TheVariants as puts;
 
@@ -112,7 +112,7 @@ pub(crate) fn put_number(slice: &mut [Word], set: PlainSet) -> bool
 #[inline]
 fn put_any(slice: &mut [Word], set: Option<PlainSet>) -> bool
     ensures puts { (c : Cell) → AreData slice.old c.section → result ≡ true
-        → DataPut (PutsAny set) c slice.old slice.new }
+        → DataPut (PutsNumberIfAny set) c slice.old slice.new }
     ensures len { length slice.new ≡ length slice.old }
 {
     match set {

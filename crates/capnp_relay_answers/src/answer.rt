@@ -166,9 +166,9 @@ fn answer_unknown<M: ReaderArena>(
 /// buffer, as its canonical words.
 ///
 /// The value is edited in the buffer, and the region isn't touched, where
-/// - each call sets a plain field, a text or data, on its way through structs and elements of lists
-///   of structs;
-/// - none of these fields is a union's member or a group;
+/// - each call sets a plain field, a text or data, or a plain or void member of a union, on its way
+///   through structs, groups and elements of lists of structs;
+/// - no field before the last is a member of a union;
 /// - all that is on the way is there, and a text or data has an old one whose place it takes;
 /// - no struct gets wider or narrower.
 ///

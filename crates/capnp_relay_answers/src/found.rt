@@ -18,7 +18,7 @@ use std::alloc::Global;
 pub(crate) enum Found {
     /// Each a number, into the data of the root.
     Plain(Vec<PlainSet>),
-    /// Each a number, a text or data, into a struct that a path leads to.
+    /// Each a number, a member, a text or data, into a struct that a path leads to.
     Spliced,
     /// Nothing: each is a `get`. No clause says so, since each reply tells again whether its call
     /// writes.
