@@ -3,18 +3,19 @@ use Rattle.std.specs.Bool.{⊤}
 use Rattle.std.proofs.Common.{◌≡◌, ◌⊎◌, ℕ, ◌+◌, ◌≤◌, List, [], ◌∷◌, ◌++◌, length, Some, Result, Ok, Err, refl, ap, sym, ◌∙◌, subst, inl, inr}
 use Rattle.std.proofs.lemmas.List.{append-nil}
 use Rattle.capnp_model.specs.Segments.{Segments, Place, root}
-use Rattle.capnp_model.specs.Trees.{Tree, has_capability}
+use Rattle.capnp_model.specs.Trees.{Tree}
 use Rattle.capnp_model.specs.Trimming.{trim}
 use Rattle.capnp_model.specs.Traversal.{tree_at}
 use Rattle.capnp_model.specs.Visits.{Visit, visits, visits_cost}
-use Rattle.capnp_model.specs.Encoding.{canonical_words}
 use Rattle.capnp_model.proofs.lemmas.Chaining.{some_is}
 use Rattle.capnp_units.specs.declared.errors.Error.{Error}
 use Rattle.capnp_units.specs.declared.limiter.ReadLimiter.{ReadLimiter}
 use Rattle.capnp_units.specs.Limits.{IsFree}
 use Rattle.capnp_wire_objects.specs.Walks.{Walked, Stopped}
 use Rattle.capnp_model_writes.proofs.lemmas.Algebra.{changes_nothing}
-use Rattle.capnp_wire_canonical.specs.Copies.{copy_visits, Halted, Unwritten, Written, Filled, room_of}
+use Rattle.capnp_wire_canonical.specs.Reaches.{reach}
+use Rattle.capnp_wire_canonical.specs.Copies.{copy_state, copy_visits, Halted, Unwritten, Written, Filled, room_of}
+use Rattle.capnp_wire_canonical.specs.Objects.{canonical_copy}
 use Rattle.capnp_model.specs.Sizes.{object_words}
 use Rattle.capnp_units.specs.declared.kinds.ErrorKind.TheVariants.{SizeOverflow}
 use Rattle.capnp_copy_arenas.specs.States.{ArenaState}
@@ -27,7 +28,7 @@ use Rattle.capnp_wire_objects.proofs.lemmas.Walks.{free_left, unstopped}
 
 -- What is written of a value, with the words in use and the cost.
 abbrev pub Wrote : ℕ → Segments → Place → List (List ℕ) → ReadLimiter → ℕ → List (List ℕ) → ReadLimiter → Type 0
-Wrote n from q lent old end into new = Written (tree_at n from q) has_capability (λ t words. canonical_words (trim t)) (copy_visits n from q) 1 1 lent old end into new
+Wrote n from q lent old end into new = Written (canonical_copy (reach n from) q) (copy_state lent old) end (copy_state into new)
 
 -- ---- how many pointers are followed
 
@@ -35,7 +36,7 @@ module _ (path : List Visit) (begun : (before rest : List Visit) (paid : ℕ) �
   pub walked_few : (old new : ReadLimiter) → Walked path old new → FollowsFew old new
   walked_few old new x = record { granted = x.cost; followed = length path; spends = x.spends; follows = x.follows; few = begun path [] x.cost (sym (append-nil path)) x.cost_is }
 
-  pub stopped_few : ((before : List Visit) (last : Visit) (behind : List Visit) (paid : ℕ) → path ≡ before ++ last ∷ behind → visits_cost before ≡ Some paid → length before + 1 ≤ paid + 1) → (lent : List (List ℕ)) (old : ReadLimiter) (e : Error) (into : List (List ℕ)) (new : ReadLimiter) → Halted path 1 lent old e into new → FollowsFew old new
+  pub stopped_few : ((before : List Visit) (last : Visit) (behind : List Visit) (paid : ℕ) → path ≡ before ++ last ∷ behind → visits_cost before ≡ Some paid → length before + 1 ≤ paid + 1) → (lent : List (List ℕ)) (old : ReadLimiter) (e : Error) (into : List (List ℕ)) (new : ReadLimiter) → Halted path 1 (copy_state lent old) e (copy_state into new) → FollowsFew old new
   stopped_few stopped lent old e into new h = by h.why
     where
       by : Stopped path old e new ⊎ Filled path (room_of lent) 1 old e new → FollowsFew old new
@@ -44,7 +45,7 @@ module _ (path : List Visit) (begun : (before rest : List Visit) (paid : ℕ) �
 
 -- ---- the copy
 
-pub halted : (n : ℕ) (from : Segments) (q : Place) (lent : List (List ℕ)) (s : Segments) (p : Place) (old : ReadLimiter) (e : Error) (into : List (List ℕ)) (new : ReadLimiter) (r : Result ⊤ Error) (d : Error) → r ≡ Err d → d ≡ e → Unwritten (tree_at n from q) (λ t words. canonical_words (trim t)) (copy_visits n from q) 1 1 lent old e into new → CopiesCanonical (lent_copy (copy_source n from q) lent) p (limited_words s old) r (limited_words s new)
+pub halted : (n : ℕ) (from : Segments) (q : Place) (lent : List (List ℕ)) (s : Segments) (p : Place) (old : ReadLimiter) (e : Error) (into : List (List ℕ)) (new : ReadLimiter) (r : Result ⊤ Error) (d : Error) → r ≡ Err d → d ≡ e → Unwritten (canonical_copy (reach n from) q) (copy_state lent old) e (copy_state into new) → CopiesCanonical (lent_copy (copy_source n from q) lent) p (limited_words s old) r (limited_words s new)
 halted n from q lent s p old e into new r d is same h =
     subst (λ (y : Result ⊤ Error). CopiesCanonical (lent_copy (copy_source n from q) lent) p (limited_words s old) y (limited_words s new)) (sym (is ∙ ap (λ (y : Error). Err y) same)) (record { left = changes_nothing s (λ q. 0); why = inl (refl, by h.halted.why) })
   where
@@ -70,7 +71,7 @@ copied n from q lent s u p old new start stop (Err e) t cost read means costs fr
 
 -- ---- what it takes, and why it is refused
 
-pub halted_told : (n : ℕ) (from : Segments) (q : Place) (lent : List (List ℕ)) (s u : ArenaState) (i : ℕ) (told : Error → Type 0) (old : ReadLimiter) (e : Error) (into : List (List ℕ)) (new : ReadLimiter) (r : Result ⊤ Error) (d : Error) → r ≡ Err d → d ≡ e → Unwritten (tree_at n from q) (λ t words. canonical_words (trim t)) (copy_visits n from q) 1 1 lent old e into new → CanonicalTold (lent_copy (copy_source n from q) lent) i told (limited_arena s old) r (limited_arena u new)
+pub halted_told : (n : ℕ) (from : Segments) (q : Place) (lent : List (List ℕ)) (s u : ArenaState) (i : ℕ) (told : Error → Type 0) (old : ReadLimiter) (e : Error) (into : List (List ℕ)) (new : ReadLimiter) (r : Result ⊤ Error) (d : Error) → r ≡ Err d → d ≡ e → Unwritten (canonical_copy (reach n from) q) (copy_state lent old) e (copy_state into new) → CanonicalTold (lent_copy (copy_source n from q) lent) i told (limited_arena s old) r (limited_arena u new)
 halted_told n from q lent s u i told old e into new r d is same h =
     subst (λ (y : Result ⊤ Error). CanonicalTold (lent_copy (copy_source n from q) lent) i told (limited_arena s old) y (limited_arena u new)) (sym (is ∙ ap (λ (y : Error). Err y) same)) (inl (by h.halted.why))
   where

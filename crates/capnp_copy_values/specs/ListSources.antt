@@ -10,6 +10,7 @@ use Rattle.capnp_copy_values.specs.declared.lists.ListSource.{ListSource}
 use Rattle.capnp_copy_values.specs.Copies.{CopySource, copy_source, LimitedWords, StructSource, StructsSource, copy_of_structs, object_put, FillsObject, CopiesOverElements}
 use Rattle.capnp_copy_values.specs.Fits.{LimitedArena, wanted, FitsCopy, HasLongList, IsLong, words_behind, elements_behind}
 use Rattle.capnp_copy_values.specs.Lists.{ListParts, copy_of_list, listed_bits, listed_object, listed_words}
+use Rattle.capnp_copy_values.specs.Objects.{most_counted}
 
 -- The words of its structs, without their tag.
 abbrev pub structs_words : ListSource → ℕ
@@ -18,6 +19,18 @@ structs_words x = x.count * (x.data_words + x.pointers)
 -- The bytes hold its elements, and no position of its pointers or structs is past 2^61.
 abbrev pub HoldListed : ListSource → List ℕ → Type 0
 HoldListed x bytes = (listed_bits x ≤ 8 * length bytes) × (x.start.position + listed_words x < 2 ^ 61)
+
+-- A pointer and a tag can tell its counts, and the bytes hold it.
+abbrev pub CanBeSpelled : ListSource → List ℕ → Type 0
+CanBeSpelled x bytes = (most_counted (listed_object x) < 2 ^ 29) × HoldListed x bytes
+
+-- Its structs' words end before position 2^61 where they stand, and where they go behind a tag.
+abbrev pub EndNear : ListSource → location.Place → Type 0
+EndNear x start = (start.position + (1 + structs_words x) < 2 ^ 61) × (x.start.position + structs_words x < 2 ^ 61)
+
+-- A struct's words end before position 2^61, and as many pointers as it has before 2^62.
+abbrev pub LieNear : StructPlace → location.Place → Type 0
+LieNear o first = (o.start.position + (o.data_words + o.pointers) < 2 ^ 61) × (first.position + o.pointers < 2 ^ 62)
 
 -- The bytes have so many bits, and fewer than eight more.
 abbrev pub HaveBits : List ℕ → ℕ → Type 0

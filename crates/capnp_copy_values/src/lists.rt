@@ -13,7 +13,7 @@ ghost use Rattle.capnp_copy_values.specs.Copies.{source_in, limited, IsStoppedOr
 ghost use Rattle.capnp_copy_values.specs.Objects.{copied_words, most_counted};
 ghost use Rattle.capnp_copy_values.specs.Lists.{list_parts, listed_object, CopiesList};
 ghost use Rattle.capnp_copy_values.specs.Sources.{HasStructWords, visits_in_object, visits_in_row, visits_in_structs, pointer_row, FitsRow};
-ghost use Rattle.capnp_copy_values.specs.ListSources.{structs_words, HaveBits, HoldListed, struct_by, FillsListed, CopiesListedStructs, FitsListed, FitsBehindListed, FitsListedStructs};
+ghost use Rattle.capnp_copy_values.specs.ListSources.{structs_words, HaveBits, HoldListed, struct_by, FillsListed, CopiesListedStructs, FitsListed, FitsBehindListed, FitsListedStructs, LieNear, EndNear, CanBeSpelled};
 ghost use Rattle.capnp_copy_values.specs.Fits.{limited_in};
 
 use crate::copy::fill_row;
@@ -97,8 +97,7 @@ fn fill_element<A: BuilderArena, B: ReaderArena>(
     levels: u32,
 ) -> Result<()>
     requires there { HasStructWords (A.segments arena.old) object }
-    requires near { (object.start.position + (object.data_words + object.pointers) < 2 ^ 61)
-        × (first.position + object.pointers < 2 ^ 62) }
+    requires near { LieNear object first }
     requires all { length section.now ≡ 8 * object.data_words }
     ensures copy { CopiesOverStruct (source_in levels (B.segments source.now)
         (struct_by object section.now first)) (place_view object.start) (limited
@@ -136,8 +135,7 @@ fn fill_structs<A: BuilderArena, B: ReaderArena>(
     levels: u32,
 ) -> Result<()>
     requires there { HasWords (A.segments arena.old) start (1 + structs_words list) }
-    requires near { start.position + (1 + structs_words list) < 2 ^ 61 }
-    requires source_near { list.start.position + structs_words list < 2 ^ 61 }
+    requires near { EndNear list start }
     requires all { length bytes.now ≡ 8 * structs_words list }
     ensures copy { CopiesListedStructs (source_in levels (B.segments source.now)
         (list_parts list bytes.now)) start (limited (A.segments arena.old) limiter.old) result
@@ -198,8 +196,7 @@ fn fill_list<A: BuilderArena, B: ReaderArena>(
 ) -> Result<()>
     requires zeros { HasZeros (A.segments arena.old) start (copied_words (listed_object list)) }
     requires near { start.position + copied_words (listed_object list) < 2 ^ 61 }
-    requires few { most_counted (listed_object list) < 2 ^ 29 }
-    requires held { HoldListed list bytes.now }
+    requires held { CanBeSpelled list bytes.now }
     ensures copy { FillsListed (source_in levels (B.segments source.now)
         (list_parts list bytes.now)) start (limited (A.segments arena.old) limiter.old) result
         (limited (A.segments arena.new) limiter.new) }

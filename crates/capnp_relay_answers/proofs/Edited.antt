@@ -3,7 +3,7 @@ use Rattle.std.proofs.Common.{◌≡◌, ℕ, suc, pos, ◌<◌, ◌≤◌, ◌^
 use Rattle.std.specs.Prelude.{nat_le}
 use Rattle.std.proofs.lemmas.Bool.Decides.{nat_tests}
 use Rattle.capnp_model.specs.Segments.{Segments, Place, root}
-use Rattle.capnp_model.specs.Trees.{Tree, depth, has_capability}
+use Rattle.capnp_model.specs.Trees.{Tree, depth}
 use Rattle.capnp_model.specs.Fits.{Fits}
 use Rattle.capnp_model.specs.Means.{Means}
 use Rattle.capnp_model.specs.Trimming.{trim}
@@ -17,7 +17,9 @@ use Rattle.capnp_values_queries.specs.declared.structs.StructSchema.{StructSchem
 use Rattle.capnp_calls.specs.Replies.{reply_view}
 use Rattle.capnp_model.specs.Printing.{as_it_is}
 use Rattle.capnp_calls.specs.declared.reply.Reply.{Reply}
-use Rattle.capnp_wire_canonical.specs.Copies.{copy_visits, Written}
+use Rattle.capnp_wire_canonical.specs.Reaches.{reach}
+use Rattle.capnp_wire_canonical.specs.Copies.{copy_state, Written}
+use Rattle.capnp_wire_canonical.specs.Objects.{canonical_copy}
 use Rattle.capnp_wire_canonical.specs.Writes.{filled}
 use Rattle.capnp_model_writes.specs.Footprints.{Owns}
 use Rattle.capnp_model_writes.specs.Changes.{Replaces}
@@ -49,7 +51,7 @@ pub answers_deep : (schema : StructSchema) (calls : List Call) (levels : ℕ) (t
 answers_deep schema calls levels t e is far = rw (sym is, far) refl
 
 module _ (laws : EditLaws) (s u : Segments) (schema : StructSchema) (calls : List Call) (levels : ℕ) (told : List Reply) (runs : RunsRoot s u schema calls (map reply_view told)) where
-  pub writes_root : (a : MessageAnswer) (count : ℕ) (old new : List (List ℕ)) (l m : ReadLimiter) → Written (tree_at levels u root) has_capability (λ t words. canonical_words (trim t)) (copy_visits levels u root) 1 1 old l count new m
+  pub writes_root : (a : MessageAnswer) (count : ℕ) (old new : List (List ℕ)) (l m : ReadLimiter) → Written (canonical_copy (reach levels u) root) (copy_state old l) count (copy_state new m)
       → answer_view new a ≡ written (filled count new ∷ []) (map reply_view told) → (count ≤ length new → count < 2 ^ 29 → StandsAlone new a) → AnswersRoot schema calls levels s new a
   writes_root a count old new l m w view stands n t most owns =
       let run = runs n t most owns in

@@ -17,7 +17,7 @@ use Rattle.capnp_units.specs.Limits.{left_of}
 use Rattle.capnp_units.specs.declared.kinds.ErrorKind.{ErrorKind}
 use Rattle.capnp_units.specs.declared.kinds.ErrorKind.TheVariants as error
 use Rattle.capnp_wire_objects.specs.Walks.{Walked, Stopped, CannotPass}
-use Rattle.capnp_wire_canonical.specs.Copies.{unless_capability, copy_visits, Written}
+use Rattle.capnp_wire_canonical.specs.Copies.{copy_state, unless_capability, copy_visits, Written}
 use Rattle.capnp_wire_canonical.proofs.lemmas.Limited.{WalkLaws, no_cost}
 
 -- Some visits go on to a fault of this kind, where others go on as they do.
@@ -200,7 +200,7 @@ module _ (laws : LevelLaws) (n m : ℕ) (s : Segments) (p : Place) (less : n ≤
   read_with_more t there = let low = laws.deep n s p t there in laws.levels n m s p t there (omega (arith, low, less))
 
   -- a copy that was made is made so with more levels
-  pub written_with_more : (bad : Tree → Bool) (put : Tree → List ℕ → List ℕ) (most used : ℕ) (old new : List (List ℕ)) (l k : ReadLimiter) (end : ℕ) → Written (tree_at n s p) bad put (copy_visits n s p) most used old l end new k → Written (tree_at m s p) bad put (copy_visits m s p) most used old l end new k
+  pub written_with_more : (bad : Tree → Bool) (put : Tree → List ℕ → List ℕ) (most used : ℕ) (old new : List (List ℕ)) (l k : ReadLimiter) (end : ℕ) → Written (record { there = tree_at n s p; bad = bad; put = put; path = copy_visits n s p; used = used; most = most }) (copy_state old l) end (copy_state new k) → Written (record { there = tree_at m s p; bad = bad; put = put; path = copy_visits m s p; used = used; most = most }) (copy_state old l) end (copy_state new k)
   written_with_more bad put most used old new l k end w =
       let same = paid_alike NestingLimitExceeded _ _ w.cost (copies_agree n m s p less) w.cost_is in
       record {

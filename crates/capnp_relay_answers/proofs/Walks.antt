@@ -16,7 +16,9 @@ use Rattle.capnp_units.specs.declared.errors.Error.{Error}
 use Rattle.capnp_units.specs.declared.kinds.ErrorKind.TheVariants as error
 use Rattle.capnp_units.specs.declared.limiter.ReadLimiter.{ReadLimiter}
 use Rattle.capnp_wire_objects.specs.Walks.{Walked, Stopped, CannotPass}
-use Rattle.capnp_wire_canonical.specs.Copies.{copy_visits, Written}
+use Rattle.capnp_wire_canonical.specs.Reaches.{reach}
+use Rattle.capnp_wire_canonical.specs.Copies.{copy_state, copy_visits, Written}
+use Rattle.capnp_wire_canonical.specs.Objects.{canonical_copy}
 use Rattle.capnp_wire_canonical.proofs.lemmas.Limited.{WalkLaws, no_cost, walked_within, written_within, stopped_none}
 use Rattle.capnp_relay_answers.specs.declared.bounds.Bounds.{Bounds}
 use Rattle.capnp_relay_answers.specs.Reading.{ReadsValue, StandsCanonical}
@@ -41,7 +43,7 @@ module _ (laws : ValueLaws) (s : Segments) (b : Bounds) where
   low_enough t there = let low = laws.of_levels.deep b.nesting s root t there in let least = laws.trim_depth t in omega (arith, low, least)
 
   whole_read : (l m : ReadLimiter) (old new : List (List ℕ)) (end : ℕ) → left_of l ≡ Some b.words
-      → Written (tree_at b.nesting s root) has_capability (λ t words. canonical_words (trim t)) (copy_visits b.nesting s root) 1 1 old l end new m → ReadsValue b s new end
+      → Written (canonical_copy (reach b.nesting s) root) (copy_state old l) end (copy_state new m) → ReadsValue b s new end
   whole_read l m old new end left w =
       record {
         value = w.what;
@@ -57,7 +59,7 @@ module _ (laws : ValueLaws) (s : Segments) (b : Bounds) where
   -- with so many levels, no more than the bounds have
   module _ (n : ℕ) (less : n ≤ b.nesting) where
     pub value_read : (l m : ReadLimiter) (old new : List (List ℕ)) (end : ℕ) → left_of l ≡ Some b.words
-        → Written (tree_at n s root) has_capability (λ t words. canonical_words (trim t)) (copy_visits n s root) 1 1 old l end new m → ReadsValue b s new end
+        → Written (canonical_copy (reach n s) root) (copy_state old l) end (copy_state new m) → ReadsValue b s new end
     value_read l m old new end left w = whole_read l m old new end left (written_with_more laws.of_levels n b.nesting s root less has_capability (λ t words. canonical_words (trim t)) 1 1 old new l m end w)
 
     -- a message that a whole walk finds to be canonical

@@ -17,7 +17,9 @@ use Rattle.capnp_units.specs.declared.errors.Error.{Error}
 use Rattle.capnp_units.specs.declared.limiter.ReadLimiter.{ReadLimiter}
 use Rattle.capnp_units.specs.declared.sizes.MessageSize.{MessageSize}
 use Rattle.capnp_wire_objects.specs.Walks.{Walked, Stopped, CannotPass, SizeGives}
-use Rattle.capnp_wire_canonical.specs.Copies.{copy_visits, Filled, Unwritten, room_of}
+use Rattle.capnp_wire_canonical.specs.Reaches.{reach}
+use Rattle.capnp_wire_canonical.specs.Copies.{copy_state, copy_visits, Filled, Unwritten, room_of}
+use Rattle.capnp_wire_canonical.specs.Objects.{canonical_copy}
 use Rattle.capnp_model.proofs.lemmas.Tests.{and_right_false}
 use Rattle.capnp_relay_show.specs.Copied.{value_to}
 
@@ -134,7 +136,7 @@ module _ (costs : Costs) (n : ℕ) (limit : Option ℕ) (s : Segments) where
   -- ---- copies that were refused
 
   pub halted : (t : Tree) (size : MessageSize) (granted : ℕ) → IsSized size granted t → has_capability t ≡ false → ((p : Place) (u : Tree) → tree_at n s p ≡ Some u → has_capability u ≡ false → copy_visits n s p ≡ visits n s p)
-      → (old new : List (List ℕ)) (l m : ReadLimiter) (e : Error) → IsFresh limit l → length old ≡ min granted (2 ^ 29 - 2) + 1 → Unwritten (tree_at n s root) (λ u ws. canonical_words (trim u)) (copy_visits n s root) 1 1 old l e new m → 2 ^ 29 ≤ length (canonical_words (trim t))
+      → (old new : List (List ℕ)) (l m : ReadLimiter) (e : Error) → IsFresh limit l → length old ≡ min granted (2 ^ 29 - 2) + 1 → Unwritten (canonical_copy (reach n s) root) (copy_state old l) e (copy_state new m) → 2 ^ 29 ≤ length (canonical_words (trim t))
   halted t size granted is free same old new l m e fresh room h = by h.halted.why
     where
       c : ℕ

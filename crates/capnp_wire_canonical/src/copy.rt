@@ -1,8 +1,7 @@
 //! The canonical words of a value.
 //!
-//! The functions that write take the struct's place, its size, the levels, the words and how far
-//! they are used as parameters of their own, up to twelve. They call each other for each object.
-//! A record of them would be stored and read at each call, where parameters stay in registers.
+//! The functions that write take up to twelve parameters, and call each other for each object. A
+//! record of them would be stored and read at each call, where parameters stay in registers.
 ghost use Rattle.std.specs.Prelude.{◌≡◌, ℕ, ◌+◌, ◌*◌, ◌^◌, ◌≤◌, ◌<◌};
 ghost use Rattle.capnp_model.specs.Segments.{after};
 ghost use Rattle.capnp_units.specs.Segments.{words_in};
@@ -123,8 +122,7 @@ fn write_any<A: ReaderArena>(
     write_object(arena, limiter, object, levels - 1, into, at, used)
 }
 
-/// Writes the pointer to an object, and the object with what is below it behind the words that are
-/// used.
+/// Writes the pointer to an object, and the object with what is below it behind the words in use.
 #[cycle(write)]
 fn write_object<A: ReaderArena>(
     arena: &A,
@@ -139,8 +137,8 @@ fn write_object<A: ReaderArena>(
     requires data { IsNoCapability object }
     requires short { IsShort object }
     requires place { HasPlace (at + 1) used into.old }
-    ensures { WritesObject (reach levels (words_in (A.segments arena.now))) object
-        (write_spot at used)
+    ensures { let r = reach levels (words_in (A.segments arena.now)) in
+        WritesObject r object (write_spot at used)
         (copy_state into.old limiter.old) result (copy_state into.new limiter.new) }
 {
     match object {
@@ -186,8 +184,7 @@ fn write_object<A: ReaderArena>(
     }
 }
 
-/// Writes the pointer to a struct, and the struct with what is below it behind the words that are
-/// used.
+/// Writes the pointer to a struct, and the struct with what is below it behind the words in use.
 #[cycle(write)]
 fn write_struct<A: ReaderArena>(
     arena: &A,
@@ -217,8 +214,7 @@ fn write_struct<A: ReaderArena>(
     write_element(arena, bytes, limiter, start, cut, levels, into, used, end)
 }
 
-/// Writes the pointer to a list of structs, and the list with what is below it behind the words
-/// that are used.
+/// Writes the pointer to a list of structs, and it with what is below it behind the words in use.
 #[cycle(write)]
 fn write_structs<A: ReaderArena>(
     arena: &A,
@@ -270,8 +266,7 @@ fn write_structs<A: ReaderArena>(
     )
 }
 
-/// Writes the pointers in a row over the words from a place on, and what they lead to behind the
-/// words that are used.
+/// Writes the pointers in a row from a place on, and what they lead to behind the words in use.
 #[cycle(write)]
 #[inline(always)]
 fn write_row<A: ReaderArena>(

@@ -2,16 +2,14 @@
 use Rattle.std.proofs.Common.{◌≡◌, ℕ, Some, None, List, ◌++◌, length, take, drop, ap, ◌∙◌, append-nil, arith}
 use Rattle.std.proofs.lemmas.List.{drop_all, take_all}
 use Rattle.capnp_model.specs.Segments.{Segments, root}
-use Rattle.capnp_model.specs.Trees.{has_capability}
-use Rattle.capnp_model.specs.Trimming.{trim}
-use Rattle.capnp_model.specs.Encoding.{canonical_words}
-use Rattle.capnp_model.specs.Traversal.{tree_at}
 use Rattle.capnp_model.specs.Answers.{value_within}
 use Rattle.capnp_units.specs.Limits.{left_of}
 use Rattle.capnp_units.specs.declared.errors.Error.{Error}
 use Rattle.capnp_units.specs.declared.limiter.ReadLimiter.{ReadLimiter}
 use Rattle.capnp_wire_objects.specs.Walks.{Stopped}
-use Rattle.capnp_wire_canonical.specs.Copies.{copy_visits, Written}
+use Rattle.capnp_wire_canonical.specs.Reaches.{reach}
+use Rattle.capnp_wire_canonical.specs.Copies.{copy_state, copy_visits, Written}
+use Rattle.capnp_wire_canonical.specs.Objects.{canonical_copy}
 use Rattle.capnp_wire_canonical.proofs.lemmas.Limited.{WalkLaws, written_within, stopped_none}
 use Rattle.hagzimot_commands.specs.Answers.{canonical_limits, ReadsValueWithinLimits}
 use Rattle.hagzimot_commands.specs.declared.canonical.Canonical.{Canonical}
@@ -24,7 +22,7 @@ put_back len new items is same =
 module _ (laws : WalkLaws) (s : Segments) (c : Canonical) where
   -- a copy that was written
   pub value_read : (l m : ReadLimiter) (old new : List (List ℕ)) (end : ℕ) → left_of l ≡ Some c.words
-      → Written (tree_at c.nesting s root) has_capability (λ t words. canonical_words (trim t)) (copy_visits c.nesting s root) 1 1 old l end new m → ReadsValueWithinLimits (canonical_limits c) s new end
+      → Written (canonical_copy (reach c.nesting s) root) (copy_state old l) end (copy_state new m) → ReadsValueWithinLimits (canonical_limits c) s new end
   value_read l m old new end left w =
       record {
         value = w.what;

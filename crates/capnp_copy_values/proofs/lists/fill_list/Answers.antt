@@ -43,7 +43,7 @@ Gives levels from x bytes s u r old result new z =
 pub slice_bounds-fill_structs-end : goal.slice_bounds-fill_structs-end
 slice_bounds-fill_structs-end g c =
     let x = c.args.list in
-    let inside = subst (λ (z : ElementSize). step_bits (size_number z) x.data_words x.pointers * x.count ≤ 8 * length c.args.bytes.now) c.in-InlineComposite.is c.requires.held.0 in
+    let inside = subst (λ (z : ElementSize). step_bits (size_number z) x.data_words x.pointers * x.count ≤ 8 * length c.args.bytes.now) c.in-InlineComposite.is c.requires.held.1.0 in
     let bits = bits_of_structs x.count x.data_words x.pointers in
     sym (length-take-le (8 * (c.args.list.count * (c.args.list.data_words + c.args.list.pointers))) c.args.bytes.now (omega (arith, inside, bits)))
 
@@ -59,7 +59,7 @@ fill_structs-requires-clause-there g c =
 pub fill_structs-requires-clause-all : goal.fill_structs-requires-clause-all
 fill_structs-requires-clause-all g c =
     let x = c.args.list in
-    let inside = subst (λ (z : ElementSize). step_bits (size_number z) x.data_words x.pointers * x.count ≤ 8 * length c.args.bytes.now) c.in-InlineComposite.is c.requires.held.0 in
+    let inside = subst (λ (z : ElementSize). step_bits (size_number z) x.data_words x.pointers * x.count ≤ 8 * length c.args.bytes.now) c.in-InlineComposite.is c.requires.held.1.0 in
     let bits = bits_of_structs x.count x.data_words x.pointers in
     length-take-le (8 * (c.args.list.count * (c.args.list.data_words + c.args.list.pointers))) c.args.bytes.now (omega (arith, inside, bits))
 
@@ -89,7 +89,7 @@ returns-in-InlineComposite-clause-copy g c =
     let d = x.data_words in
     let k = x.pointers in
     let zeros = subst (λ (z : ElementSize). words_at s r (copied_words (object_of_size z x)) ≡ Some (replicate (copied_words (object_of_size z x)) 0)) c.in-InlineComposite.is c.requires.zeros in
-    let few = subst (λ (z : ElementSize). most_counted (object_of_size z x) < 2 ^ 29) c.in-InlineComposite.is c.requires.few in
+    let few = subst (λ (z : ElementSize). most_counted (object_of_size z x) < 2 ^ 29) c.in-InlineComposite.is c.requires.held.0 in
     let now : m ≡ with_words s r (struct_pointer x.count x.data_words x.pointers ∷ []) = c.write_word.ensures.words ∙ ap (λ (w : ℕ). with_words s r (w ∷ [])) c.tag_word.ensures in
     let section = front_section_of x.count x.data_words x.pointers c.args.bytes.now in
     let copy = subst (λ (a : ℕ). CopyGives (copy_of from (each_element (tree_at n from) p (words_of (x.count * (x.data_words + x.pointers)) a) d k x.count) (from_elements (visits n from) p d k x.count)) (FillsElements n m u (sized_at r d k) x.count) (LeavesElements n m u (sized_at r d k) x.count) (limited_words m c.args.limiter.now) c.fill_structs.result (limited_words u c.fill_structs.new.limiter)) section c.fill_structs.ensures.copy in

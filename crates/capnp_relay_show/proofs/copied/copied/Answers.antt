@@ -3,12 +3,10 @@ use Rattle.std.specs.List.{flat_map, take-map}
 use Rattle.std.specs.Int.{from_le_bytes, w64}
 use Rattle.std.proofs.lemmas.List.{take_at, length-take}
 use Rattle.capnp_model.specs.Segments.{root}
-use Rattle.capnp_model.specs.Trees.{Tree, has_capability}
-use Rattle.capnp_model.specs.Trimming.{trim}
-use Rattle.capnp_model.specs.Traversal.{tree_at}
-use Rattle.capnp_model.specs.Encoding.{canonical_words}
 use Rattle.capnp_units.specs.Segments.{words_in, whole_words}
-use Rattle.capnp_wire_canonical.specs.Copies.{copy_visits, Written}
+use Rattle.capnp_wire_canonical.specs.Reaches.{reach}
+use Rattle.capnp_wire_canonical.specs.Copies.{copy_state, Written}
+use Rattle.capnp_wire_canonical.specs.Objects.{canonical_copy}
 use Rattle.capnp_wire_canonical.specs.Writes.{words_view, filled}
 use Rattle.capnp_relay_show.proofs.Walks.{IsFresh, IsSized, a_value_in, stopped_none, sized, counted_none, counted_some, clean, halted}
 use Rattle.capnp_relay_show.proofs.copied.copied.Goals as goal
@@ -29,7 +27,7 @@ returns-in-Ok-write_canonical-clause-copy g c =
     let x = sized c.values_on_walks.ensures.cost n limit s c.read_limiter-limiter.result c.size_at.new.limiter c.in-Ok.size fresh c.in-Ok.ensures in
     let end = c.in-Ok-write_canonical.end in
     let into = c.write_canonical.new.into in
-    let done : Written (tree_at n s root) has_capability (λ t ws. canonical_words (trim t)) (copy_visits n s root) 1 1 c.deref_mut.result.now c.read_limiter-limiter-2.result end into c.write_canonical.new.limiter = c.in-Ok-write_canonical.ensures in
+    let done : Written (canonical_copy (reach n s) root) (copy_state c.deref_mut.result.now c.read_limiter-limiter-2.result) end (copy_state into c.write_canonical.new.limiter) = c.in-Ok-write_canonical.ensures in
     let long : length into ≡ c.resize.new.self.len = done.behind.0 ∙ c.deref_mut.ensures.len in
     let cut = c.truncate.ensures.items ∙ ap (take end) (take_at into (drop (length into) c.resize.new.self.items) c.resize.new.self.len long) in
     let near = done.near in
