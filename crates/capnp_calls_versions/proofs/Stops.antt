@@ -203,8 +203,8 @@ partners v levels node left next x h = ap (λ (xs : List FieldRecord). begins_wi
 
 -- a newer field with a fault is a break
 fault_breaks : (v : Versions) (levels : Levels) (node other : ℕ) (older newer left : List FieldRecord) (next : FieldRecord) (more : List FieldRecord) (i k : ℕ) (x : Fault)
-    → Places v levels node older newer left (next ∷ more) i k → IsNextFault v levels node (member_count (older_fields v levels node older)) left next x
-    → IsBreakOfFields v levels node other older newer (break_of (names_in v.names) node other left (next ∷ more) i k x)
+    → Places v levels node older newer left (next ∷ more) i k → IsNextFault v levels (member_count (older_fields v levels node older)) (record { id = node; fields = left }) next x
+    → IsBreakOfFields v levels (record { id = node; fields = older }) (record { id = other; fields = newer }) (break_of (names_in v.names) node other (record { left = left; rest = next ∷ more; due = i; at = k }) x)
 fault_breaks v levels node other older newer left next more i k fault.Taken at h = λ w p u w' p' u'.
     breaks_here _ _ refl refl (taken_or_missing v levels node other older newer i k w p u w' p' u' left next more at h.0 h.1)
 fault_breaks v levels node other older newer left next more i k (fault.Field r) at h = λ w p u w' p' u'.
@@ -217,16 +217,16 @@ fault_breaks v levels node other older newer left next more i k (fault.Inner x) 
 
 pub stops_at_fault : (v : Versions) (levels : Levels) (node other : ℕ) (older newer left rest : List FieldRecord) (next : FieldRecord) (more : List FieldRecord) (count i k : ℕ) (x : Fault)
     → Stands v levels node older newer left rest → rest ≡ next ∷ more → count ≡ member_count (older_fields v levels node older) → i ≡ length older - length left → k ≡ length newer - length rest
-    → IsNextFault v levels node count left next x → IsBreakOfFields v levels node other older newer (break_of (names_in v.names) node other left rest i k x)
+    → IsNextFault v levels count (record { id = node; fields = left }) next x → IsBreakOfFields v levels (record { id = node; fields = older }) (record { id = other; fields = newer }) (break_of (names_in v.names) node other (record { left = left; rest = rest; due = i; at = k }) x)
 stops_at_fault v levels node other older newer left rest next more count i k x s e c ei ek h =
     let at : Places v levels node older newer left rest i k =
     subst (λ (n : ℕ). Places v levels node older newer left rest n k) (sym ei)
     (subst (λ (n : ℕ). Places v levels node older newer left rest (length older - length left) n) (sym ek) (places_are v levels node older newer left rest s))
     in
-    subst (λ (xs : List FieldRecord). IsBreakOfFields v levels node other older newer (break_of (names_in v.names) node other left xs i k x)) (sym e)
+    subst (λ (xs : List FieldRecord). IsBreakOfFields v levels (record { id = node; fields = older }) (record { id = other; fields = newer }) (break_of (names_in v.names) node other (record { left = left; rest = xs; due = i; at = k }) x)) (sym e)
     (fault_breaks v levels node other older newer left next more i k x
     (subst (λ (xs : List FieldRecord). Places v levels node older newer left xs i k) e at)
-    (subst (λ (n : ℕ). IsNextFault v levels node n left next x) c h))
+    (subst (λ (n : ℕ). IsNextFault v levels n (record { id = node; fields = left }) next x) c h))
 
 left_some : (v : Versions) (levels : Levels) (node : ℕ) (left : List FieldRecord) → (length left == 0) ≡ false → is_no_fields (older_fields v levels node left) ≡ false
 left_some v levels node [] h = absurd (cc h)
@@ -234,7 +234,7 @@ left_some v levels node (f ∷ fs) h = refl
 
 pub stops_at_end : (v : Versions) (levels : Levels) (node other : ℕ) (older newer left rest : List FieldRecord) (i : ℕ)
     → Stands v levels node older newer left rest → rest ≡ [] → (length left == 0) ≡ false → i ≡ length older - length left
-    → IsBreakOfFields v levels node other older newer (record { older = node; newer = other; rule = rule.Missing i })
+    → IsBreakOfFields v levels (record { id = node; fields = older }) (record { id = other; fields = newer }) (record { older = node; newer = other; rule = rule.Missing i })
 stops_at_end v levels node other older newer left rest i s e some ei = λ w p u w' p' u'.
     let at : Places v levels node older newer left rest i (length newer - length rest) =
     subst (λ (n : ℕ). Places v levels node older newer left rest n (length newer - length rest)) (sym ei) (places_are v levels node older newer left rest s)
@@ -268,7 +268,7 @@ module _ (v : Versions) (levels below : Levels) (i j : ℕ) (a b : Holder)
   pub breaks_sections : (r : Rule) → BreaksSections a b r → IsBreakAt v levels i j (record { older = a.id; newer = b.id; rule = r })
   breaks_sections r h = at_holders _ (breaks_here _ _ refl refl (sections (older_schema v) (held_schema v.newer) a b r _ _ h))
 
-  pub breaks_fields : (x : Break) → IsBreakOfFields v below a.id b.id a.fields.now b.fields.now x → IsBreakAt v levels i j x
+  pub breaks_fields : (x : Break) → IsBreakOfFields v below (record { id = a.id; fields = a.fields.now }) (record { id = b.id; fields = b.fields.now }) x → IsBreakAt v levels i j x
   breaks_fields x h = at_holders x (h a.words a.pointers a.union b.words b.pointers b.union)
 
 -- ---- what the walk tells of them
@@ -293,7 +293,7 @@ begins rs node left f fs n e h = ap (λ (xs : List FieldRecord). begins_with rs 
 
 -- a fault of the field that is due
 pub next_fault : (v : Versions) (levels : Levels) (node count : ℕ) (left : List FieldRecord) (f : FieldRecord) (fs : List FieldRecord) (next : FieldRecord) (x : Fault) → left ≡ f ∷ fs → bytes_eq (partner_name (names_in v.names) node (string_bytes f.name)) (string_bytes next.name) ≡ true
-    → IsFaultOf v levels f next x → IsNextFault v levels node count left next x
+    → IsFaultOf v levels f next x → IsNextFault v levels count (record { id = node; fields = left }) next x
 next_fault v levels node count left f fs next fault.Taken e h k = absurd k
 next_fault v levels node count left f fs next (fault.Field r) e h k = record { first = f; others = fs; is = e; partners = begins (names_in v.names) node left f fs (string_bytes next.name) e h; between = k }
 next_fault v levels node count left f fs next (fault.Inner b) e h k = record { first = f; others = fs; is = e; partners = begins (names_in v.names) node left f fs (string_bytes next.name) e h; between = k }

@@ -29,11 +29,23 @@ taken_rule rs node [] rest due at = rule.Taken due at
 taken_rule rs node (f ∷ fs) rest due at =
     elim (list_any (λ g. bytes_eq (partner_name rs node (string_bytes f.name)) (string_bytes g.name)) rest) [ true ↦ rule.Taken due at | false ↦ rule.Missing due ]
 
--- The break that a fault is, where these older fields are due and these newer ones are left, from these places on.
-abbrev pub break_of : List Renaming → ℕ → ℕ → List FieldRecord → List FieldRecord → ℕ → ℕ → Fault → Break
-break_of rs i j left rest due at fault.Taken = record { older = i; newer = j; rule = taken_rule rs i left rest due at }
-break_of rs i j left rest due at (fault.Field r) = record { older = i; newer = j; rule = rule.Field due at r }
-break_of rs i j left rest due at (fault.Inner b) = b
+-- The older fields that are due and the newer ones that are left, from these places on.
+pub record FieldsDue : Type 0 where
+  pub left : List FieldRecord
+  pub rest : List FieldRecord
+  pub due : ℕ
+  pub at : ℕ
+
+-- The break that a fault is between two nodes, where these fields are due and left.
+abbrev pub break_of : List Renaming → ℕ → ℕ → FieldsDue → Fault → Break
+break_of rs i j x fault.Taken = record { older = i; newer = j; rule = taken_rule rs i x.left x.rest x.due x.at }
+break_of rs i j x (fault.Field r) = record { older = i; newer = j; rule = rule.Field x.due x.at r }
+break_of rs i j x (fault.Inner b) = b
+
+-- A node's id, and fields of it.
+pub record NodeFields : Type 0 where
+  pub id : ℕ
+  pub fields : List FieldRecord
 
 -- The newer's sections or its union break the rule.
 abbrev pub BreaksSections : Holder → Holder → Rule → Type 0
@@ -69,10 +81,10 @@ pub record IsPartnersFault (v : Versions) (levels : Levels) (node : ℕ) (left :
   pub between : IsFaultOf v levels first next x
 
 -- What is wrong with a newer field where these older ones are due.
-abbrev pub IsNextFault : Versions → Levels → ℕ → ℕ → List FieldRecord → FieldRecord → Fault → Type 0
-IsNextFault v levels node count left next fault.Taken = (begins_with (names_in v.names) node left (string_bytes next.name) ≡ false) × (is_new count (member_of next.discriminant_value) ≡ false)
-IsNextFault v levels node count left next (fault.Field r) = IsPartnersFault v levels node left next (fault.Field r)
-IsNextFault v levels node count left next (fault.Inner b) = IsPartnersFault v levels node left next (fault.Inner b)
+abbrev pub IsNextFault : Versions → Levels → ℕ → NodeFields → FieldRecord → Fault → Type 0
+IsNextFault v levels count due next fault.Taken = (begins_with (names_in v.names) due.id due.fields (string_bytes next.name) ≡ false) × (is_new count (member_of next.discriminant_value) ≡ false)
+IsNextFault v levels count due next (fault.Field r) = IsPartnersFault v levels due.id due.fields next (fault.Field r)
+IsNextFault v levels count due next (fault.Inner b) = IsPartnersFault v levels due.id due.fields next (fault.Inner b)
 
 -- What is left behind a newer field, if it has no fault.
 abbrev pub left_after : Result (Bor (List FieldRecord)) Fault → Option (List FieldRecord)
@@ -86,10 +98,10 @@ Passes rs node left next others =
     ⊎ ((begins_with rs node left (string_bytes next.name) ≡ true) × (f : FieldRecord) × (left ≡ f ∷ others))
 
 -- The break is at two nodes with these fields, whatever their sections.
-abbrev pub IsBreakOfFields : Versions → Levels → ℕ → ℕ → List FieldRecord → List FieldRecord → Break → Type 0
-IsBreakOfFields v levels i j older newer b =
+abbrev pub IsBreakOfFields : Versions → Levels → NodeFields → NodeFields → Break → Type 0
+IsBreakOfFields v levels older newer b =
     (w p : ℕ) (u : Option ℕ) (w' p' : ℕ) (u' : Option ℕ)
-    → IsBreak (older_schema v) (held_schema v.newer) b (shape i w p u (older_fields v levels i older)) (shape j w' p' u' (newer_fields v levels newer))
+    → IsBreak (older_schema v) (held_schema v.newer) b (shape older.id w p u (older_fields v levels older.id older.fields)) (shape newer.id w' p' u' (newer_fields v levels newer.fields))
 
 -- The break is at two structs or groups of ids, or at groups in them.
 abbrev pub IsBreakAt : Versions → Levels → ℕ → ℕ → Break → Type 0

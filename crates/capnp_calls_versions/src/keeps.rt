@@ -162,7 +162,8 @@ fn break_of(
     at: usize,
     fault: Fault,
 ) -> Break
-    ensures { result ≡ break_of (names_in names.now) older newer left.now rest.now due at fault }
+    ensures { result ≡ break_of (names_in names.now) older newer
+        (record { left = left.now; rest = rest.now; due = due; at = at }) fault }
 {
     let rule = match fault {
         Fault::Taken => taken_rule(names, older, left, rest, due, at),
@@ -232,8 +233,8 @@ fn keeps_fields(
         (member_count (older_fields versions.now levels node older.now))
         (older_fields versions.now levels node older.now)
         (newer_fields versions.now levels newer.now))) }
-    ensures breaks { IfOk result (λ o.
-        IfSome o (IsBreakOfFields versions.now levels node other older.now newer.now)) }
+    ensures breaks { IfOk result (λ o. IfSome o (IsBreakOfFields versions.now levels
+        (record { id = node; fields = older.now }) (record { id = other; fields = newer.now }))) }
 {
     let count = member_count(older);
     let mut left = older;
@@ -284,7 +285,8 @@ fn keeps_next<'f>(
     ensures passes { IfOk result (λ r. IfOk r (λ others.
         Passes (names_in versions.now.names) node left.now next.now others.now)) }
     ensures fault { IfOk result (λ r. IfErr r
-        (IsNextFault versions.now levels node count left.now next.now)) }
+        (IsNextFault versions.now levels count (record { id = node; fields = left.now })
+        next.now)) }
 {
     let Some((first, others)) = partner(&versions.names, node, left, next.name.as_str()) else {
         if is_new(count, next) {

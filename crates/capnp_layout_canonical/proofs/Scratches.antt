@@ -33,14 +33,14 @@ never b d old new (is, same, kept) = absurd cc
 
 -- What succeeded was put into the scratch.
 passed : (plain : Walk) (n : ℕ) (d : Segments) (k : Place) (lent after : List (List ℕ)) (s u : Segments) (p : Place) (old new : ReadLimiter)
-    → ThroughScratch plain n d k lent after s u p old (Ok tt) new → plain old (Ok tt) new × CopiesScratch n d k lent after s u p (Ok tt)
+    → ThroughScratch plain n (record { words = d; slot = k; lent = lent; after = after }) (record { old = s; new = u; slot = p }) old (Ok tt) new → plain old (Ok tt) new × CopiesScratch n (record { words = d; slot = k; lent = lent; after = after }) (record { old = s; new = u; slot = p }) (Ok tt)
 passed plain n d k lent after s u p old new (inl (e, is, same, kept, rest)) = absurd cc
 passed plain n d k lent after s u p old new (inr x) = x
 
 module _ (one : (n m : ℕ) (s : Segments) (p : Place) (t v : Tree) → tree_at n s p ≡ Some t → tree_at m s p ≡ Some v → t ≡ v)
     (copied : (levels n : ℕ) (s u : Segments) (p : Place) (t v : Tree) → BecomesCopy levels s u p v → Owns n s p t → Replaces (n + levels) s u p v) where
   puts : (there : Option Tree) (levels n m : ℕ) (b d : Segments) (k : Place) (t value : Tree) (lent after : List (List ℕ)) (s u : Segments) (p : Place)
-      → there ≡ Some value → BecomesCopy levels b d k value → Owns n b k t → CopiesScratch m d k lent after s u p (Ok tt) → PutsTrimmed there m s u p
+      → there ≡ Some value → BecomesCopy levels b d k value → Owns n b k t → CopiesScratch m (record { words = d; slot = k; lent = lent; after = after }) (record { old = s; new = u; slot = p }) (Ok tt) → PutsTrimmed there m s u p
   puts there levels n m b d k t value lent after s u p is becomes owns x =
       let made : Canonical (copy_source m d k) p (limited_words s x.start) (limited_words u x.end) = x.through.copy in
       let r = copied levels n b d k t value becomes owns in
@@ -48,7 +48,7 @@ module _ (one : (n m : ℕ) (s : Segments) (p : Place) (t v : Tree) → tree_at 
       record { value = made.value; there_is = is ∙ (ap (λ (y : Tree). Some y) same); clean = made.read.clean; becomes = made.becomes }
 
   pub puts_struct : (v : StructView) (b d : Segments) (k : Place) (lent after : List (List ℕ)) (s u : Segments) (p : Place) (old new : ReadLimiter) (n : ℕ) (t : Tree) → Owns n b k t
-      → ThroughScratch (SetsStruct v b d k) (level_above v.levels) d k lent after s u p old (Ok tt) new → PutsStruct v s u p
+      → ThroughScratch (SetsStruct v b d k) (level_above v.levels) (record { words = d; slot = k; lent = lent; after = after }) (record { old = s; new = u; slot = p }) old (Ok tt) new → PutsStruct v s u p
   puts_struct v b d k lent after s u p old new n t owns h =
       by_levels v.levels (WithoutLevels b d old (Ok tt) new) (λ i. Charged v.basis.paid (W i) old (Ok tt) new) (λ i. (x : StructSource) × IsSourceOf v x × PutsTrimmed (tree_of_struct i v.basis.segments x) (level_above v.levels) s u p)
       (never b d old new) by both.0
@@ -56,7 +56,7 @@ module _ (one : (n m : ℕ) (s : Segments) (p : Place) (t v : Tree) → tree_at 
       W : ℕ → Walk
       W i l r m = (x : StructSource) × IsSourceOf v x × CopiesStruct (copy_source i v.basis.segments x) k (limited_words b l) r (limited_words d m)
 
-      both : SetsStruct v b d k old (Ok tt) new × CopiesScratch (level_above v.levels) d k lent after s u p (Ok tt)
+      both : SetsStruct v b d k old (Ok tt) new × CopiesScratch (level_above v.levels) (record { words = d; slot = k; lent = lent; after = after }) (record { old = s; new = u; slot = p }) (Ok tt)
       both = passed (SetsStruct v b d k) (level_above v.levels) d k lent after s u p old new h
 
       by : (i : ℕ) → Charged v.basis.paid (W i) old (Ok tt) new → (x : StructSource) × IsSourceOf v x × PutsTrimmed (tree_of_struct i v.basis.segments x) (level_above v.levels) s u p
@@ -66,7 +66,7 @@ module _ (one : (n m : ℕ) (s : Segments) (p : Place) (t v : Tree) → tree_at 
           with_walk (l, m, (x, parts, made)) = (x, parts, puts (tree_of_struct i v.basis.segments x) (suc i) n (level_above v.levels) b d k t made.value lent after s u p made.there_is made.becomes owns both.1)
 
   pub puts_list : (v : ListView) (b d : Segments) (k : Place) (lent after : List (List ℕ)) (s u : Segments) (p : Place) (old new : ReadLimiter) (n : ℕ) (t : Tree) → Owns n b k t
-      → ThroughScratch (SetsList v b d k) (level_above v.levels) d k lent after s u p old (Ok tt) new → PutsList v s u p
+      → ThroughScratch (SetsList v b d k) (level_above v.levels) (record { words = d; slot = k; lent = lent; after = after }) (record { old = s; new = u; slot = p }) old (Ok tt) new → PutsList v s u p
   puts_list v b d k lent after s u p old new n t owns h =
       by_levels v.levels (WithoutLevels b d old (Ok tt) new) (λ i. Charged v.basis.paid (W i) old (Ok tt) new) (λ i. (x : ListSource) × (bytes : List ℕ) × IsListSourceOf v x bytes × PutsTrimmed (listed_tree (tree_at i v.basis.segments) x bytes) (level_above v.levels) s u p)
       (never b d old new) by both.0
@@ -74,7 +74,7 @@ module _ (one : (n m : ℕ) (s : Segments) (p : Place) (t v : Tree) → tree_at 
       W : ℕ → Walk
       W i l r m = (x : ListSource) × (bytes : List ℕ) × IsListSourceOf v x bytes × CopiesList (copy_source i v.basis.segments (list_parts x bytes)) k (limited_words b l) r (limited_words d m)
 
-      both : SetsList v b d k old (Ok tt) new × CopiesScratch (level_above v.levels) d k lent after s u p (Ok tt)
+      both : SetsList v b d k old (Ok tt) new × CopiesScratch (level_above v.levels) (record { words = d; slot = k; lent = lent; after = after }) (record { old = s; new = u; slot = p }) (Ok tt)
       both = passed (SetsList v b d k) (level_above v.levels) d k lent after s u p old new h
 
       by : (i : ℕ) → Charged v.basis.paid (W i) old (Ok tt) new → (x : ListSource) × (bytes : List ℕ) × IsListSourceOf v x bytes × PutsTrimmed (listed_tree (tree_at i v.basis.segments) x bytes) (level_above v.levels) s u p

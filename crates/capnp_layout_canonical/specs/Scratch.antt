@@ -37,17 +37,34 @@ abbrev pub level_above : Option ℕ → ℕ
 level_above None = 0
 level_above (Some n) = min (n + 1) (2 ^ 32 - 1)
 
--- The value of the pointer at k of a scratch is put in place of that at p, trimmed, under no limit of words; or it is refused.
-pub record CopiesScratch (n : ℕ) (d : Segments) (k : Place) (lent after : List (List ℕ)) (s u : Segments) (p : Place) (result : Result ⊤ Error) : Type 0 where
+-- The pointer of a scratch, in the words that it has once it is set, and the words that are lent, before and after.
+pub record ScratchUse : Type 0 where
+  pub words : Segments
+  pub slot : Place
+  pub lent : List (List ℕ)
+  pub after : List (List ℕ)
+
+-- The pointer of a message that gets a value, and the message's words before and after.
+pub record SlotChange : Type 0 where
+  pub old : Segments
+  pub new : Segments
+  pub slot : Place
+
+-- That of a handle that writes.
+abbrev pub slot_change : {A : Type 0} → (A → List (List ℕ)) → PointerBuilder A → PointerBuilder A → SlotChange
+slot_change bytes old new = record { old = words_around bytes old; new = words_around bytes new; slot = place_view old.place }
+
+-- The scratch's value is put in place of the message's, trimmed, under no limit of words; or it is refused.
+pub record CopiesScratch (n : ℕ) (x : ScratchUse) (y : SlotChange) (result : Result ⊤ Error) : Type 0 where
   pub start : ReadLimiter
   pub end : ReadLimiter
   pub free : IsFree start
-  pub through : CopiesThrough n d k lent after s u p start result end
+  pub through : CopiesThrough n x.words x.slot x.lent x.after y.old y.new y.slot start result end
 
--- What is read is put into the scratch plainly, and from there in place of the value at p; or the scratch refuses it, and all else stands.
-abbrev pub ThroughScratch : Walk → ℕ → Segments → Place → List (List ℕ) → List (List ℕ) → Segments → Segments → Place → Walk
-ThroughScratch plain n d k lent after s u p old result new =
-    ((e : Error) × (result ≡ Err e) × (u ≡ s) × (after ≡ lent) × plain old (Err e) new) ⊎ (plain old (Ok tt) new × CopiesScratch n d k lent after s u p result)
+-- What is read is put into the scratch plainly, and from there in place of the message's value; or the scratch refuses it, and all else stands.
+abbrev pub ThroughScratch : Walk → ℕ → ScratchUse → SlotChange → Walk
+ThroughScratch plain n x y old result new =
+    ((e : Error) × (result ≡ Err e) × (y.new ≡ y.old) × (x.after ≡ x.lent) × plain old (Err e) new) ⊎ (plain old (Ok tt) new × CopiesScratch n x y result)
 
 -- What is there has no capability, and is put in place of the value at p, trimmed.
 pub record PutsTrimmed (there : Option Tree) (n : ℕ) (s u : Segments) (p : Place) : Type 0 where

@@ -16,12 +16,14 @@ use capnp_model::laws::values_as_a_relation;
 pub fn values_by_way_of_scratches()
     ensures structs { (v : StructView) (b d : Segments) (k : Place) (lent after : List (List ℕ))
         (s u : Segments) (p : Place) (old new : ReadLimiter) (n : ℕ) (t : Tree) → Owns n b k t
-        → ThroughScratch (SetsStruct v b d k) (level_above v.levels) d k lent after s u p old
-        (Ok tt) new → PutsStruct v s u p }
+        → ThroughScratch (SetsStruct v b d k) (level_above v.levels)
+        (record { words = d; slot = k; lent = lent; after = after })
+        (record { old = s; new = u; slot = p }) old (Ok tt) new → PutsStruct v s u p }
     ensures lists { (v : ListView) (b d : Segments) (k : Place) (lent after : List (List ℕ))
         (s u : Segments) (p : Place) (old new : ReadLimiter) (n : ℕ) (t : Tree) → Owns n b k t
-        → ThroughScratch (SetsList v b d k) (level_above v.levels) d k lent after s u p old
-        (Ok tt) new → PutsList v s u p }
+        → ThroughScratch (SetsList v b d k) (level_above v.levels)
+        (record { words = d; slot = k; lent = lent; after = after })
+        (record { old = s; new = u; slot = p }) old (Ok tt) new → PutsList v s u p }
 {
     values_as_a_relation();
     values_after_copies();

@@ -4,7 +4,7 @@ ghost use Rattle.std.specs.Prelude.{◌≡◌};
 ghost use Rattle.capnp_wire_objects.specs.Places.{place_view};
 ghost use Rattle.capnp_wire.specs.Views.{seen_struct, seen_list};
 ghost use Rattle.capnp_layout_builders.specs.Copied.{SetsStruct, SetsList};
-ghost use Rattle.capnp_layout_canonical.specs.Scratch.{HasSlot, words_around, StaysThere, level_above, CopiesScratch, ThroughScratch};
+ghost use Rattle.capnp_layout_canonical.specs.Scratch.{HasSlot, words_around, StaysThere, level_above, slot_change, CopiesScratch, ThroughScratch};
 
 use capnp_copy_arenas::arena::BuilderArena;
 use capnp_copy_values::canonical::copy_canonical_from;
@@ -36,9 +36,10 @@ fn copy_scratch<A: BuilderArena, C: BuilderArena>(
 ) -> Result<()>
     requires { HasSlot (words_around A.segments builder.old) builder.old.place }
     ensures same { StaysThere builder.old builder.new }
-    ensures copy { CopiesScratch (level_above levels) (words_around C.segments scratch.now)
-        (place_view scratch.now.place) lent.old lent.new (words_around A.segments builder.old)
-        (words_around A.segments builder.new) (place_view builder.old.place) result }
+    ensures copy { let d = words_around C.segments scratch.now in
+        let k = place_view scratch.now.place in CopiesScratch (level_above levels)
+        (record { words = d; slot = k; lent = lent.old; after = lent.new })
+        (slot_change A.segments builder.old builder.new) result }
     ensures books { A.books builder.new.memory.now.arena ≡ A.books builder.old.memory.now.arena }
 {
     let mut unlimited = ReadLimiter::new(None);
@@ -72,10 +73,9 @@ pub fn set_struct_canonical<A: BuilderArena, B: ReaderArena, C: BuilderArena>(
     ensures scratch { StaysThere scratch.old scratch.new }
     ensures copy { let d = words_around C.segments scratch.new in
         let k = place_view scratch.old.place in let v = seen_struct B.segments value.entry in
-        ThroughScratch (SetsStruct v (words_around C.segments scratch.old) d k)
-        (level_above v.levels) d k lent.old lent.new (words_around A.segments builder.old)
-        (words_around A.segments builder.new) (place_view builder.old.place) limiter.old result
-        limiter.new }
+        ThroughScratch (SetsStruct v (words_around C.segments scratch.old) d k) (level_above v.levels)
+        (record { words = d; slot = k; lent = lent.old; after = lent.new })
+        (slot_change A.segments builder.old builder.new) limiter.old result limiter.new }
     ensures books { (A.books builder.new.memory.now.arena ≡ A.books builder.old.memory.now.arena)
         × (C.books scratch.new.memory.now.arena ≡ C.books scratch.old.memory.now.arena) }
 {
@@ -105,10 +105,9 @@ pub fn set_list_canonical<A: BuilderArena, B: ReaderArena, C: BuilderArena>(
     ensures scratch { StaysThere scratch.old scratch.new }
     ensures copy { let d = words_around C.segments scratch.new in
         let k = place_view scratch.old.place in let v = seen_list B.segments value.entry in
-        ThroughScratch (SetsList v (words_around C.segments scratch.old) d k)
-        (level_above v.levels) d k lent.old lent.new (words_around A.segments builder.old)
-        (words_around A.segments builder.new) (place_view builder.old.place) limiter.old result
-        limiter.new }
+        ThroughScratch (SetsList v (words_around C.segments scratch.old) d k) (level_above v.levels)
+        (record { words = d; slot = k; lent = lent.old; after = lent.new })
+        (slot_change A.segments builder.old builder.new) limiter.old result limiter.new }
     ensures books { (A.books builder.new.memory.now.arena ≡ A.books builder.old.memory.now.arena)
         × (C.books scratch.new.memory.now.arena ≡ C.books scratch.old.memory.now.arena) }
 {

@@ -77,9 +77,9 @@ read_refused bytes f v i t x body some e h = sym (kind_read (schema_around f.par
 
 -- ---- a field
 
-pointer_body : (told : Error → Type 0) (s : Schema) (v : StructView) (i : ℕ) (ty : Ty) (d : Option Tree) (b : Bool) (u : Segments) (e : Error) → is_null_pointer (pointer_field v i) ≡ b → PointerRefused told b s v i ty d u e → BodyRefused told s (pointer_slot i ty d) v u e
+pointer_body : (told : Error → Type 0) (s : Schema) (v : StructView) (i : ℕ) (ty : Ty) (d : Option Tree) (b : Bool) (u : Segments) (e : Error) → is_null_pointer (pointer_field v i) ≡ b → PointerRefused told b (record { holder = v; at = i; around = s; ty = ty }) d u e → BodyRefused told s (pointer_slot i ty d) v u e
 unfolding FieldsRefused
-pointer_body told s v i ty d b u e is h = subst (λ (y : Bool). PointerRefused told y s v i ty d u e) (sym is) h
+pointer_body told s v i ty d b u e is h = subst (λ (y : Bool). PointerRefused told y (record { holder = v; at = i; around = s; ty = ty }) d u e) (sym is) h
 
 pub null_refused : (told : Error → Type 0) (s : Schema) (v : StructView) (u : Segments) (o : Option Entry) (i : ℕ) (ty : Ty) (d : Option Tree) → option_map (λ e. e.body) o ≡ Some (pointer_slot i ty d) → is_null_pointer (pointer_field v i) ≡ true → (r : Result ⊤ Error) → IfErr r (NullEntryRefused told s o u) → IfErr r (EntryRefused told s o v u)
 null_refused told s v u None i ty d body is r h = absurd (cc body)
@@ -88,7 +88,7 @@ null_refused told s v u (Some x) i ty d body is (Err e) h =
     let same = same_some body in
     subst (λ (y : Body). BodyRefused told s y v u e) (sym same) (pointer_body told s v i ty d true u e is (subst (λ (y : Body). NullBodyRefused told s y u e) same h))
 
-pub some_refused : (told : Error → Type 0) (s : Schema) (v : StructView) (u : Segments) (o : Option Entry) (i : ℕ) (ty : Ty) (d : Option Tree) → option_map (λ e. e.body) o ≡ Some (pointer_slot i ty d) → is_null_pointer (pointer_field v i) ≡ false → (r : Result ⊤ Error) → IfErr r (SomeRefused told s v i ty u) → IfErr r (EntryRefused told s o v u)
+pub some_refused : (told : Error → Type 0) (s : Schema) (v : StructView) (u : Segments) (o : Option Entry) (i : ℕ) (ty : Ty) (d : Option Tree) → option_map (λ e. e.body) o ≡ Some (pointer_slot i ty d) → is_null_pointer (pointer_field v i) ≡ false → (r : Result ⊤ Error) → IfErr r (SomeRefused told (record { holder = v; at = i; around = s; ty = ty }) u) → IfErr r (EntryRefused told s o v u)
 some_refused told s v u None i ty d body is r h = absurd (cc body)
 some_refused told s v u (Some x) i ty d body is (Ok y) h = tt
 some_refused told s v u (Some x) i ty d body is (Err e) h = subst (λ (y : Body). BodyRefused told s y v u e) (sym (same_some body)) (pointer_body told s v i ty d false u e is h)

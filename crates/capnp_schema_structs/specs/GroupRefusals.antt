@@ -84,13 +84,20 @@ ValueUnplaced u t e = ObjectUnplaced u t e ⊎ CopyUnplaced u t e
 
 -- ---- pointers
 
--- A pointer that isn't null: its type isn't set, or it can't be read as it, or its value isn't copied.
-abbrev pub SomeRefused : (Error → Type 0) → Schema → StructView → ℕ → Ty → Segments → Error → Type 0
-SomeRefused told s v i ty u e = (type_tested ty ≡ Err (kind_of e.kind)) ⊎ ((shown_behind s ty (pointer_field v i) ≡ Err (kind_of e.kind)) ⊎ ChildRefused told v i u e)
+-- A pointer of a struct that is read: which one, and the schema and type by which its value is read.
+pub record PointerRead : Type 0 where
+  pub holder : StructView
+  pub at : ℕ
+  pub around : Schema
+  pub ty : Ty
 
--- The same of a field.
-abbrev pub SomeFieldRefused : (Error → Type 0) → Field → StructView → ℕ → Ty → Segments → Error → Type 0
-SomeFieldRefused told f v i ty u e = SomeRefused told (schema_around f.parent) v i ty u e
+-- The pointer that a field of a type is read from.
+abbrev pub field_pointer : Field → StructView → ℕ → Ty → PointerRead
+field_pointer f v i ty = record { holder = v; at = i; around = schema_around f.parent; ty = ty }
+
+-- A pointer that isn't null: its type isn't set, or it can't be read as it, or its value isn't copied.
+abbrev pub SomeRefused : (Error → Type 0) → PointerRead → Segments → Error → Type 0
+SomeRefused told p u e = (type_tested p.ty ≡ Err (kind_of e.kind)) ⊎ ((shown_behind p.around p.ty (pointer_field p.holder p.at) ≡ Err (kind_of e.kind)) ⊎ ChildRefused told p.holder p.at u e)
 
 -- A null one of an active member: its type isn't set, or what it counts as finds no room: its default, else the empty value.
 abbrev pub NullRefused : (Error → Type 0) → Schema → Ty → Option Tree → Segments → Error → Type 0
@@ -111,9 +118,9 @@ abbrev pub NullFieldRefused : (Error → Type 0) → Field → Segments → Erro
 NullFieldRefused told f u e = NullEntryRefused told (schema_around f.parent) (entry_of_field f) u e
 
 -- A pointer that is null or isn't.
-abbrev pub PointerRefused : (Error → Type 0) → Bool → Schema → StructView → ℕ → Ty → Option Tree → Segments → Error → Type 0
-PointerRefused told true s v i ty d u e = NullRefused told s ty d u e
-PointerRefused told false s v i ty d u e = SomeRefused told s v i ty u e
+abbrev pub PointerRefused : (Error → Type 0) → Bool → PointerRead → Option Tree → Segments → Error → Type 0
+PointerRefused told true p d u e = NullRefused told p.around p.ty d u e
+PointerRefused told false p d u e = SomeRefused told p u e
 
 -- ---- fields
 
@@ -127,7 +134,7 @@ unfoldable mutual
   pub BodyRefused : (Error → Type 0) → Schema → Body → StructView → Segments → Error → Type 0
   BodyRefused told s (void_slot j) v u e = ⊥
   BodyRefused told s (plain_slot p at d) v u e = ⊥
-  BodyRefused told s (pointer_slot i ty d) v u e = PointerRefused told (is_null_pointer (pointer_field v i)) s v i ty d u e
+  BodyRefused told s (pointer_slot i ty d) v u e = PointerRefused told (is_null_pointer (pointer_field v i)) (record { holder = v; at = i; around = s; ty = ty }) d u e
   BodyRefused told s (group_slot (shape nid w p un fs)) v u e = FieldsRefused told s fs v u e
 
 abbrev pub EntryRefused : (Error → Type 0) → Schema → Option Entry → StructView → Segments → Error → Type 0

@@ -14,7 +14,7 @@ ghost use Rattle.capnp_schema_structs.specs.Edits.{IsThere};
 ghost use Rattle.capnp_schema_structs.specs.Inside.{HasFields};
 ghost use Rattle.capnp_schema_structs.specs.Puts.{answered};
 ghost use Rattle.capnp_schema_structs.specs.GroupFaults.{IsFieldFaultless, AreFaultless, IsGroupFaultless};
-ghost use Rattle.capnp_schema_structs.specs.GroupRefusals.{type_tested, NullFieldRefused, SomeFieldRefused, FieldRefused, OneRefused};
+ghost use Rattle.capnp_schema_structs.specs.GroupRefusals.{type_tested, NullFieldRefused, field_pointer, SomeRefused, FieldRefused, OneRefused};
 ghost use Rattle.capnp_schema_structs.specs.GroupWrites.{GroupSource};
 ghost use Rattle.capnp_schema_structs.specs.GroupSets.{IsNotNull, IsFaultlessInTurn, IsToldIfFaultless, WritesIn, WritesRead, IsPointerAt, SetsFields, copied_field, copied_turn, copied_fields, copied_group};
 
@@ -98,8 +98,9 @@ fn copy_some<'a, A: BuilderArena, B: ReaderArena>(
     requires some { IsNotNull (seen_struct B.segments source.now) index }
     ensures writes { WritesRead A.segments (seen_struct B.segments source.now) arena.old arena.new
         object (copied_field field.entry) result }
-    ensures why { IfErr result (SomeFieldRefused (IsSizeOrRefusal A.refuses) field.entry
-        (seen_struct B.segments source.now) index (ty_of ty) (words_in (A.segments arena.new))) }
+    ensures why { let pointer = field_pointer field.entry (seen_struct B.segments source.now) index
+        (ty_of ty) in IfErr result (SomeRefused (IsSizeOrRefusal A.refuses) pointer
+        (words_in (A.segments arena.new))) }
     ensures cause { IsToldIfFaultless (IsSizeOrRefusal A.refuses)
         (seen_struct B.segments source.now) (IsFieldFaultless field.entry) result }
     ensures grows { Grows (words_in (A.segments arena.old)) (words_in (A.segments arena.new)) }

@@ -149,9 +149,9 @@ keeps_fields-returns-in-Err-clause-breaks t c =
     let split : rest ≡ next ∷ more = first_and_rest rest next c.in-len1-up.len_at_least c.next-item.is in
     let all = older_fields c.args.versions.now c.args.levels c.args.node c.args.older.now in
     let count : member_count all ≡ c.member_count-count.result = count_is (λ g. kept_shape c.args.versions.now c.args.levels g) (names_in c.args.versions.now.names) c.args.node c.args.older.now ∙ sym c.member_count-count.ensures in
-    let x : IsNextFault c.args.versions.now c.args.levels c.args.node c.member_count-count.result c.loop-rest.left.now next c.in-Err.fault
-    = subst (λ (r : Result (Bor (List FieldRecord)) Fault). IfErr r (IsNextFault c.args.versions.now c.args.levels c.args.node c.member_count-count.result c.loop-rest.left.now next)) c.in-Err.is c.in_ok-others.ensures.fault in
-    subst (λ (b : Break). IsBreakOfFields c.args.versions.now c.args.levels c.args.node c.args.other c.args.older.now c.args.newer.now b) (sym c.break_of.ensures)
+    let x : IsNextFault c.args.versions.now c.args.levels c.member_count-count.result (record { id = c.args.node; fields = c.loop-rest.left.now }) next c.in-Err.fault
+    = subst (λ (r : Result (Bor (List FieldRecord)) Fault). IfErr r (IsNextFault c.args.versions.now c.args.levels c.member_count-count.result (record { id = c.args.node; fields = c.loop-rest.left.now }) next)) c.in-Err.is c.in_ok-others.ensures.fault in
+    subst (λ (b : Break). IsBreakOfFields c.args.versions.now c.args.levels (record { id = c.args.node; fields = c.args.older.now }) (record { id = c.args.other; fields = c.args.newer.now }) b) (sym c.break_of.ensures)
     (stops_at_fault c.args.versions.now c.args.levels c.args.node c.args.other c.args.older.now c.args.newer.now c.loop-rest.left.now rest next more c.member_count-count.result (length c.args.older.now - length c.loop-rest.left.now) (length c.args.newer.now - length rest) c.in-Err.fault
     c.loop-rest.invariant.stands split (sym count) refl refl x)
 

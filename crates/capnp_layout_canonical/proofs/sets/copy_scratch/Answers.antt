@@ -10,7 +10,7 @@ returns-clause-copy g c =
     let d = words_in (g.C.ReaderArena.segments c.args.scratch.now.memory.now.arena) in
     let s = words_in (g.A.ReaderArena.segments c.args.builder.now.memory.now.arena) in
     let u = words_in (g.A.ReaderArena.segments c.copy_canonical_from.new.arena) in
-    subst (λ (n : ℕ). CopiesScratch n d (place_view c.args.scratch.now.place) c.args.lent.now c.copy_canonical_from.new.lent s u (place_view c.args.builder.now.place) c.copy_canonical_from.result) c.levels_above-deep.ensures
+    subst (λ (n : ℕ). CopiesScratch n (record { words = d; slot = place_view c.args.scratch.now.place; lent = c.args.lent.now; after = c.copy_canonical_from.new.lent }) (record { old = s; new = u; slot = place_view c.args.builder.now.place }) c.copy_canonical_from.result) c.levels_above-deep.ensures
     (record {
       start = c.new-unlimited.result;
       end = c.copy_canonical_from.new.limiter;
