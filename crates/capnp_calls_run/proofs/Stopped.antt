@@ -42,7 +42,7 @@ pub fails_before : (why : Error → Type 0) → (s : Segments) (p : StructPlace)
 fails_before why s p root c e memory n section kids most owns = (stays_grown s, inl memory)
 
 -- a call that is done isn't written
-pub fails_written : (why : Error → Type 0) → (s u : Segments) (p : StructPlace) (root : StructSchema) (c : Call) (fault : RunFault) → TestsAt s p root c reply_done → GrowsAround s u p → (e : Error) → WhereDone s p root c.path c.verb (why e) → TellsWhy root c e fault → FailsAt why s u p root c fault
+pub fails_written : (why : Error → Type 0) → (s u : Segments) (p : StructPlace) (root : StructSchema) (c : Call) (fault : RunFault) → TestsAt s p root c reply_done → GrowsAround s u p → (e : Error) → WhereDone s p root c (why e) → TellsWhy root c e fault → FailsAt why s u p root c fault
 fails_written why s u p root c faults.Size tests grows e cause tells n section kids most owns =
     (grows n section kids owns, record { is_done = told_done (schema_around root) (outcome root c p.data_words (record { section = section; kids = kids })) (tests n section kids most owns); is_long = tells })
 fails_written why s u p root c (faults.Refused x) tests grows e cause tells n section kids most owns =
