@@ -25,7 +25,7 @@ on_ok (Ok x) P Q f h = f h
 on_ok (Err e) P Q f h = tt
 
 module _ (s u v : Segments) (p : Place) (schema : StructSchema) (default : Option (List (List ℕ))) (size : StructSize) (o : StructPlace) (words : size.data_words ≡ words_of_shape (shape_of_struct schema)) (pointers : size.pointers ≡ pointers_of_shape (shape_of_struct schema)) (got : StructGot default s u p size o) (d : Tree) (holds : HoldsDefaultOrNull default d) (verb : Verb) where
-  pub struct_written : (path : List Step) → starts_with_name path ≡ true → WritesWithin u v o schema path verb → EditsValueAt s v p (schema_around schema) (struct (id_of schema)) d path verb
+  pub struct_written : (path : List Step) → starts_with_name path ≡ true → WritesWithin u v o schema (record { path = path; verb = verb }) → EditsValueAt s v p (record { around = schema_around schema; ty = struct (id_of schema); default = d }) (record { path = path; verb = verb })
   struct_written [] named h = absurd (cc named)
   struct_written (index k ∷ rest) named h = absurd (cc named)
   struct_written (name n ∷ rest) named h = λ k t own is_done. (

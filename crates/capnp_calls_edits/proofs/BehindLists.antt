@@ -26,7 +26,7 @@ module _ (s u v : Segments) (slot : code.Place) (default : Option (List (List �
   some : 0 < o.count
   some = omega (arith, inside)
 
-  pub list_written : (d : Tree) → HoldsDefaultOrNull default d → (rest : List Step) (verb : Verb) → EditsElementAt u v o around ty k rest verb → EditsValueAt s v (place_view slot) around (list ty) d (index k ∷ rest) verb
+  pub list_written : (d : Tree) → HoldsDefaultOrNull default d → (rest : List Step) (verb : Verb) → EditsElementAt u v (record { place = o; at = k; around = around; ty = ty }) (record { path = rest; verb = verb }) → EditsValueAt s v (place_view slot) (record { around = around; ty = list ty; default = d }) (record { path = index k ∷ rest; verb = verb })
   list_written d holds rest verb written n t own is_done =
       let p = place_view slot in
       let x = got.value n t own in

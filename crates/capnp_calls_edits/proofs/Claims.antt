@@ -51,13 +51,13 @@ if_taken (Err e) told Takes h = h
 pub claims_alike : (s : Segments) (p : StructPlace) (A B : Cell → Type 0) (Claim : Type 0) → ((c : Cell) → B c → A c) → ClaimsWhere A s p Claim → ClaimsWhere B s p Claim
 claims_alike s p A B Claim f h n section kids own b = h n section kids own (f (cell section kids) b)
 
-pub path_claimed : (s : Segments) (p : StructPlace) (g : StructSchema) (path : List Step) (verb : Verb) (Claim : Type 0) → WhereDoneWithin s p g path verb Claim → WhereDone s p g path verb Claim
+pub path_claimed : (s : Segments) (p : StructPlace) (g : StructSchema) (path : List Step) (verb : Verb) (Claim : Type 0) → WhereDoneWithin s p g (record { path = path; verb = verb }) Claim → WhereDone s p g (record { path = path; verb = verb }) Claim
 path_claimed s p g path verb Claim h n section kids own is_done = h n section kids own (whole_within (schema_around g) (shape_of_struct g) path verb (cell section kids) is_done)
 
 -- ---- a field by its name
 
 -- a path that begins with no name is done nowhere
-pub no_name : (s : Segments) (p : StructPlace) (g : StructSchema) (path : List Step) (verb : Verb) (Claim : Type 0) → starts_with_name path ≡ false → WhereDoneWithin s p g path verb Claim
+pub no_name : (s : Segments) (p : StructPlace) (g : StructSchema) (path : List Step) (verb : Verb) (Claim : Type 0) → starts_with_name path ≡ false → WhereDoneWithin s p g (record { path = path; verb = verb }) Claim
 no_name s p g [] verb Claim e = λ n section kids own h. absurd h.1
 no_name s p g (index k ∷ rest) verb Claim e = λ n section kids own h. absurd h.1
 no_name s p g (name m ∷ rest) verb Claim e = absurd (cc e)
@@ -75,7 +75,7 @@ missing n (field m member body fs) e = by (bytes_eq m n) (missing n fs) e
     by false more h = more (unmapped (place_of_name n fs) h)
 
 -- nor one that begins with a name that the struct lacks
-pub no_field : (s : Segments) (p : StructPlace) (g : StructSchema) (n : List ℕ) (rest : List Step) (verb : Verb) (Claim : Type 0) → place_of_name n (fields_of_struct g) ≡ None → WhereDoneWithin s p g (name n ∷ rest) verb Claim
+pub no_field : (s : Segments) (p : StructPlace) (g : StructSchema) (n : List ℕ) (rest : List Step) (verb : Verb) (Claim : Type 0) → place_of_name n (fields_of_struct g) ≡ None → WhereDoneWithin s p g (record { path = name n ∷ rest; verb = verb }) Claim
 no_field s p g n rest verb Claim none = λ m section kids own h. (
     let around = schema_around g in
     let r : Record = shape_record (shape_of_struct g) h.0 section (read_child around kids) in
@@ -83,7 +83,7 @@ no_field s p g n rest verb Claim none = λ m section kids own h. (
     )
 
 module _ (s : Segments) (p : StructPlace) (f : Field) (r : FieldNode) (is : IsFieldRecord f.parent f.index r) (n : List ℕ) (rest : List Step) (verb : Verb) (Claim : Type 0) where
-  own_name : Some f.index ≡ place_of_name n (fields_of_struct f.parent) → WhereFieldDone s p f rest verb Claim → WhereDoneWithin s p f.parent (name n ∷ rest) verb Claim
+  own_name : Some f.index ≡ place_of_name n (fields_of_struct f.parent) → WhereFieldDone s p f (record { path = rest; verb = verb }) Claim → WhereDoneWithin s p f.parent (record { path = name n ∷ rest; verb = verb }) Claim
   own_name at h =
       let around = schema_around f.parent in
       let g = shape_of_struct f.parent in
@@ -95,17 +95,17 @@ module _ (s : Segments) (p : StructPlace) (f : Field) (r : FieldNode) (is : IsFi
       subst (λ o. IsFieldDone f rest verb o c) (sym is.entry) (all.0, here)
       )) h
 
-  pub name_claimed : (g : StructSchema) → f.parent ≡ g → Some f.index ≡ place_of_name n (fields_of_struct g) → WhereFieldDone s p f rest verb Claim → WhereDoneWithin s p g (name n ∷ rest) verb Claim
-  name_claimed g e = subst (λ x. Some f.index ≡ place_of_name n (fields_of_struct x) → WhereFieldDone s p f rest verb Claim → WhereDoneWithin s p x (name n ∷ rest) verb Claim) e own_name
+  pub name_claimed : (g : StructSchema) → f.parent ≡ g → Some f.index ≡ place_of_name n (fields_of_struct g) → WhereFieldDone s p f (record { path = rest; verb = verb }) Claim → WhereDoneWithin s p g (record { path = name n ∷ rest; verb = verb }) Claim
+  name_claimed g e = subst (λ x. Some f.index ≡ place_of_name n (fields_of_struct x) → WhereFieldDone s p f (record { path = rest; verb = verb }) Claim → WhereDoneWithin s p x (record { path = name n ∷ rest; verb = verb }) Claim) e own_name
 
 -- at the end
-pub end_claimed : (s : Segments) (p : StructPlace) (f : Field) (verb : Verb) (Claim : Type 0) → WhereFieldTakes f verb Claim → WhereFieldDone s p f [] verb Claim
+pub end_claimed : (s : Segments) (p : StructPlace) (f : Field) (verb : Verb) (Claim : Type 0) → WhereFieldTakes f verb Claim → WhereFieldDone s p f (record { path = []; verb = verb }) Claim
 end_claimed s p f verb Claim h = λ n section kids own all. h (cell section kids) (end_at f verb (entry_of_field f) (cell section kids) all)
 
 -- ---- a field by its body
 
 module _ (s : Segments) (p : StructPlace) (f : Field) (r : FieldNode) (is : IsFieldRecord f.parent f.index r) (verb : Verb) (Claim : Type 0) where
-  pub group_claimed : (g : StructSchema) → option_map (λ e. e.body) (entry_of_field f) ≡ Some (group_slot (shape_of_struct g)) → nodes_around g ≡ nodes_around f.parent → (path : List Step) → path ≢ [] → WhereDoneWithin s p g path verb Claim → WhereFieldDone s p f path verb Claim
+  pub group_claimed : (g : StructSchema) → option_map (λ e. e.body) (entry_of_field f) ≡ Some (group_slot (shape_of_struct g)) → nodes_around g ≡ nodes_around f.parent → (path : List Step) → path ≢ [] → WhereDoneWithin s p g (record { path = path; verb = verb }) Claim → WhereFieldDone s p f (record { path = path; verb = verb }) Claim
   group_claimed g same nodes [] some h = absurd (some refl)
   group_claimed g same nodes (st ∷ rest) some h =
       let around = schema_around f.parent in
@@ -116,7 +116,7 @@ module _ (s : Segments) (p : StructPlace) (f : Field) (r : FieldNode) (is : IsFi
       (subst (λ ns. ClaimsWhere (IsDoneWithin (schema_of ns) own (st ∷ rest) verb) s p Claim) nodes h)
 
   pub pointer_claimed : (i : ℕ) (ty : Ty) (d : Option Tree) → option_map (λ e. e.body) (entry_of_field f) ≡ Some (pointer_slot i ty d) → (q : Place) → i < p.pointers → q ≡ after (after (place_view p.start) p.data_words) i → (path : List Step) → path ≢ []
-      → WhereValueDone s q (schema_around f.parent) ty (default_or_null d) path verb Claim → WhereFieldDone s p f path verb Claim
+      → WhereValueDone s q (record { around = schema_around f.parent; ty = ty; default = default_or_null d }) (record { path = path; verb = verb }) Claim → WhereFieldDone s p f (record { path = path; verb = verb }) Claim
   pointer_claimed i ty d same q l e [] some h = absurd (some refl)
   pointer_claimed i ty d same q l e (st ∷ rest) some h = λ n section kids own all. (
       let around = schema_around f.parent in
@@ -137,7 +137,7 @@ module _ (s : Segments) (p : StructPlace) (f : Field) (r : FieldNode) (is : IsFi
   plain_done q at d (name n) rest x c h = h
   plain_done q at d (index k) rest x c h = h
 
-  pub void_claimed : (j : ℕ) → option_map (λ e. e.body) (entry_of_field f) ≡ Some (void_slot j) → (path : List Step) → path ≢ [] → WhereFieldDone s p f path verb Claim
+  pub void_claimed : (j : ℕ) → option_map (λ e. e.body) (entry_of_field f) ≡ Some (void_slot j) → (path : List Step) → path ≢ [] → WhereFieldDone s p f (record { path = path; verb = verb }) Claim
   void_claimed j same [] some = absurd (some refl)
   void_claimed j same (st ∷ rest) some = λ n section kids own all. (
       let c : Cell = cell section kids in
@@ -145,7 +145,7 @@ module _ (s : Segments) (p : StructPlace) (f : Field) (r : FieldNode) (is : IsFi
       absurd (void_done j st rest x.0 c x.1)
       )
 
-  pub plain_claimed : (q : PlainType) (at d : ℕ) → option_map (λ e. e.body) (entry_of_field f) ≡ Some (plain_slot q at d) → (path : List Step) → path ≢ [] → WhereFieldDone s p f path verb Claim
+  pub plain_claimed : (q : PlainType) (at d : ℕ) → option_map (λ e. e.body) (entry_of_field f) ≡ Some (plain_slot q at d) → (path : List Step) → path ≢ [] → WhereFieldDone s p f (record { path = path; verb = verb }) Claim
   plain_claimed q at d same [] some = absurd (some refl)
   plain_claimed q at d same (st ∷ rest) some = λ n section kids own all. (
       let c : Cell = cell section kids in
@@ -154,7 +154,7 @@ module _ (s : Segments) (p : StructPlace) (f : Field) (r : FieldNode) (is : IsFi
       )
 
   -- at a field without a pointer
-  pub place_claimed : (place : FieldPlace) → option_map (λ e. e.body) (entry_of_field f) ≡ Some (body_of_place place) → (path : List Step) → path ≢ [] → ((i : ℕ) (ty : SchemaType) (d : Option (Bor Value)) → place ≡ F.Pointer i ty d → ⊥) → ((g : StructSchema) → place ≡ F.Group g → ⊥) → WhereFieldDone s p f path verb Claim
+  pub place_claimed : (place : FieldPlace) → option_map (λ e. e.body) (entry_of_field f) ≡ Some (body_of_place place) → (path : List Step) → path ≢ [] → ((i : ℕ) (ty : SchemaType) (d : Option (Bor Value)) → place ≡ F.Pointer i ty d → ⊥) → ((g : StructSchema) → place ≡ F.Group g → ⊥) → WhereFieldDone s p f (record { path = path; verb = verb }) Claim
   place_claimed (F.Void o) body path some a b = void_claimed o body path some
   place_claimed (F.Plain ty o d) body path some a b = plain_claimed _ _ _ body path some
   place_claimed (F.Pointer i ty d) body path some a b = absurd (a i ty d refl)
@@ -209,7 +209,7 @@ module _ (s : Schema) (f : Body → Reading → Outcome Reading) (e : Ty → Rea
   goes_into (index j) ty (opaque t) h = absurd h
 
 -- where the steps into a value are done, it can go on there
-pub steps_into : (s : Schema) (ty : Ty) (d t : Tree) (st : Step) (rest : List Step) (verb : Verb) → IsDone (value_outcome s ty d (st ∷ rest) verb t) → GoesInto st ty
+pub steps_into : (s : Schema) (ty : Ty) (d t : Tree) (st : Step) (rest : List Step) (verb : Verb) → IsDone (value_outcome (record { around = s; ty = ty; default = d }) (st ∷ rest) verb t) → GoesInto st ty
 steps_into s ty d t st rest verb h = goes_into s (step_field s rest verb) (step_element s rest verb) st ty (opened s ty d (read s t ty)) h
 
 -- and the value can be read
@@ -236,7 +236,7 @@ module _ (s : Schema) (ty : Ty) (d : Tree) (st : Step) (f : Body → Reading →
   sound_default (record_as r) h = tt
   sound_default (opaque t) h = tt
 
-pub steps_read : (s : Schema) (ty : Ty) (d t : Tree) (st : Step) (rest : List Step) (verb : Verb) → IsDone (value_outcome s ty d (st ∷ rest) verb t) → HasNoFault (read s (opened_tree ty d t) ty)
+pub steps_read : (s : Schema) (ty : Ty) (d t : Tree) (st : Step) (rest : List Step) (verb : Verb) → IsDone (value_outcome (record { around = s; ty = ty; default = d }) (st ∷ rest) verb t) → HasNoFault (read s (opened_tree ty d t) ty)
 unfolding read
 steps_read s ty d null st rest verb h = sound_default s ty d st (step_field s rest verb) (step_element s rest verb) (read s d ty) h
 steps_read s ty d (capability i) st rest verb h = sound_there s ty d st (step_field s rest verb) (step_element s rest verb) (read s (capability i) ty) h
@@ -245,12 +245,12 @@ steps_read s ty d (plain_list size n x) st rest verb h = sound_there s ty d st (
 steps_read s ty d (pointer_list ts) st rest verb h = sound_there s ty d st (step_field s rest verb) (step_element s rest verb) (read s (pointer_list ts) ty) h
 steps_read s ty d (struct_list w p es) st rest verb h = sound_there s ty d st (step_field s rest verb) (step_element s rest verb) (read s (struct_list w p es) ty) h
 
-pub value_read : (s : Segments) (p : Place) (around : Schema) (ty : Ty) (d : Tree) (path : List Step) (verb : Verb) (Claim : Type 0) → WhereRead s p around ty d Claim → WhereValueDone s p around ty d path verb Claim
+pub value_read : (s : Segments) (p : Place) (around : Schema) (ty : Ty) (d : Tree) (path : List Step) (verb : Verb) (Claim : Type 0) → WhereRead s p (record { around = around; ty = ty; default = d }) Claim → WhereValueDone s p (record { around = around; ty = ty; default = d }) (record { path = path; verb = verb }) Claim
 value_read s p around ty d [] verb Claim h = λ n t own is_done. absurd is_done
 value_read s p around ty d (st ∷ rest) verb Claim h = λ n t own is_done. h n t own (steps_read around ty d t st rest verb is_done)
 
 -- a path that doesn't go into values of the type is done at none
-pub not_into : (s : Segments) (p : Place) (around : Schema) (ty : Ty) (d : Tree) (path : List Step) (verb : Verb) (Claim : Type 0) → ((st : Step) (rest : List Step) → path ≡ st ∷ rest → GoesInto st ty → ⊥) → WhereValueDone s p around ty d path verb Claim
+pub not_into : (s : Segments) (p : Place) (around : Schema) (ty : Ty) (d : Tree) (path : List Step) (verb : Verb) (Claim : Type 0) → ((st : Step) (rest : List Step) → path ≡ st ∷ rest → GoesInto st ty → ⊥) → WhereValueDone s p (record { around = around; ty = ty; default = d }) (record { path = path; verb = verb }) Claim
 not_into s p around ty d [] verb Claim never = λ n t own is_done. absurd is_done
 not_into s p around ty d (st ∷ rest) verb Claim never = λ n t own is_done. absurd (never st rest refl (steps_into around ty d t st rest verb is_done))
 

@@ -75,7 +75,7 @@ module _ (default : Option (List (List ℕ))) (d : Tree) (holds : HoldsDefaultOr
 
 -- ---- structs
 
-of_struct : (s : Schema) (id : ℕ) (d t : Tree) (st : Step) (rest : List Step) (verb : Verb) → IsDone (value_outcome s (struct id) d (st ∷ rest) verb t) → IsOfStruct (opened_tree (struct id) d t)
+of_struct : (s : Schema) (id : ℕ) (d t : Tree) (st : Step) (rest : List Step) (verb : Verb) → IsDone (value_outcome (record { around = s; ty = struct id; default = d }) (st ∷ rest) verb t) → IsOfStruct (opened_tree (struct id) d t)
 unfolding read
 of_struct s id null null st rest verb h = tt
 of_struct s id (capability i) null st rest verb h = absurd h
@@ -91,7 +91,7 @@ of_struct s id d (struct_list w p es) st rest verb h = absurd h
 
 -- a struct that isn't got is refused for memory alone
 pub no_struct_claimed : (default : Option (List (List ℕ))) (d : Tree) → HoldsDefaultOrNull default d → (old new : ArenaState) (slot : code.Place) (size : StructSize) (told : Error → Type 0) (e : Error) → StructLacking default old new slot size told e
-    → (around : Schema) (id : ℕ) (path : List Step) (verb : Verb) → WhereValueDone (words_in old.segments) (place_view slot) around (struct id) d path verb (told e)
+    → (around : Schema) (id : ℕ) (path : List Step) (verb : Verb) → WhereValueDone (words_in old.segments) (place_view slot) (record { around = around; ty = struct id; default = d }) (record { path = path; verb = verb }) (told e)
 no_struct_claimed default d holds old new slot size told e lacking around id [] verb = λ n t own is_done. absurd is_done
 no_struct_claimed default d holds old new slot size told e (inl b) around id (st ∷ rest) verb = λ n t own is_done. begun_told default d holds old new (place_view slot) told e b
 no_struct_claimed default d holds old new slot size told e (inr x) around id (st ∷ rest) verb = λ n t own is_done. (
@@ -104,7 +104,7 @@ no_struct_claimed default d holds old new slot size told e (inr x) around id (st
 
 module _ (s u : Segments) (p : Place) (schema : StructSchema) (default : Option (List (List ℕ))) (size : StructSize) (o : StructPlace) (words : size.data_words ≡ words_of_shape (shape_of_struct schema)) (pointers : size.pointers ≡ pointers_of_shape (shape_of_struct schema)) (got : StructGot default s u p size o) (d : Tree) (holds : HoldsDefaultOrNull default d) (verb : Verb) (Claim : Type 0) where
   -- what is claimed at the struct that is got is claimed at the pointer
-  pub struct_claimed : (path : List Step) → starts_with_name path ≡ true → WhereDoneWithin u o schema path verb Claim → WhereValueDone s p (schema_around schema) (struct (id_of schema)) d path verb Claim
+  pub struct_claimed : (path : List Step) → starts_with_name path ≡ true → WhereDoneWithin u o schema (record { path = path; verb = verb }) Claim → WhereValueDone s p (record { around = schema_around schema; ty = struct (id_of schema); default = d }) (record { path = path; verb = verb }) Claim
   struct_claimed [] named h = absurd (cc named)
   struct_claimed (index k ∷ rest) named h = absurd (cc named)
   struct_claimed (name n ∷ rest) named h = λ k t own is_done. (

@@ -43,7 +43,7 @@ use Rattle.capnp_calls_edits.proofs.ElementEnds.{set_done}
 -- ---- where a path ends
 
 pub put_claimed : (old new : ArenaState) (o : ListPlace) (g : ℕ → ℕ → Edit) (k : ℕ) (content : Content) (told : Error → Type 0) (around : Schema) (ty : Ty) (verb : Verb) (r : Result ⊤ Error) → ((c : Cell) → IsElementDone around ty [] verb c → (kind : Kind) → content ≡ refused_by kind → ⊥)
-    → PutsElementContent old new o g k content r → IfErr r (HasCause content told) → IfErr r (λ e. WhereElementTakes around ty verb (told e))
+    → PutsElementContent old new (record { place = o; at = k; edit = g }) content r → IfErr r (HasCause content told) → IfErr r (λ e. WhereElementTakes around ty verb (told e))
 put_claimed old new o g k content told around ty verb (Ok x) never h c = tt
 put_claimed old new o g k (refused_by kind) told around ty verb (Err e) never h c = λ cell is_done. absurd (never cell is_done kind refl)
 put_claimed old new o g k (bits_of n) told around ty verb (Err e) never h c = λ cell is_done. absurd (let no = h.0 in cc no)
@@ -193,11 +193,11 @@ message_never s ty t a b e Claim = λ c h. absurd (message_refused s t ty a b e 
 
 -- ---- where a path ends or goes on
 
-pub end_claimed : (s : Segments) (o : ListPlace) (around : Schema) (ty : Ty) (k : ℕ) (verb : Verb) (Claim : Type 0) → WhereElementTakes around ty verb Claim → WhereElementDone s o around ty k [] verb Claim
+pub end_claimed : (s : Segments) (o : ListPlace) (around : Schema) (ty : Ty) (k : ℕ) (verb : Verb) (Claim : Type 0) → WhereElementTakes around ty verb Claim → WhereElementDone s (record { place = o; at = k; around = around; ty = ty }) (record { path = []; verb = verb }) Claim
 end_claimed s o around ty k verb Claim h = λ n t is own is_done. h (cell_in t k) is_done
 
 pub struct_claimed : (s : Segments) (o : ListPlace) (k : ℕ) (p : StructPlace) → ((n : ℕ) (t : Tree) → IsListOf o t → OwnsObject n s (object_of_list o) t → IsElementStruct n s o k p t)
-    → (schema : StructSchema) (path : List Step) (verb : Verb) (Claim : Type 0) → path ≢ [] → WhereDoneWithin s p schema path verb Claim → WhereElementDone s o (schema_around schema) (struct (id_of schema)) k path verb Claim
+    → (schema : StructSchema) (path : List Step) (verb : Verb) (Claim : Type 0) → path ≢ [] → WhereDoneWithin s p schema (record { path = path; verb = verb }) Claim → WhereElementDone s (record { place = o; at = k; around = schema_around schema; ty = struct (id_of schema) }) (record { path = path; verb = verb }) Claim
 struct_claimed s o k p parts schema path verb Claim some h = λ n t is own is_done. (
     let x = parts n t is own in
     let c = cell_in t k in
@@ -205,7 +205,7 @@ struct_claimed s o k p parts schema path verb Claim some h = λ n t is own is_do
     )
 
 pub value_claimed : (s : Segments) (o : ListPlace) (k : ℕ) (q : code.Place) → ((n : ℕ) (t : Tree) → IsListOf o t → OwnsObject n s (object_of_list o) t → IsPointerOf n s o k q t)
-    → (around : Schema) (e : Ty) (path : List Step) (verb : Verb) (Claim : Type 0) → path ≢ [] → WhereValueDone s (place_view q) around (list e) null path verb Claim → WhereElementDone s o around (list e) k path verb Claim
+    → (around : Schema) (e : Ty) (path : List Step) (verb : Verb) (Claim : Type 0) → path ≢ [] → WhereValueDone s (place_view q) (record { around = around; ty = list e; default = null }) (record { path = path; verb = verb }) Claim → WhereElementDone s (record { place = o; at = k; around = around; ty = list e }) (record { path = path; verb = verb }) Claim
 value_claimed s o k q parts around e path verb Claim some h = λ n t is own is_done. (
     let x = parts n t is own in
     let c = cell_in t k in
@@ -216,7 +216,7 @@ steps_of : (s : Schema) (ty : Ty) (st : Step) (rest : List Step) (verb : Verb) (
 unfolding step_element
 steps_of s ty st rest verb c h = goes_into s (step_field s rest verb) (step_element s rest verb) st ty (opened s ty null (element_as s ty h.0 c.section (read_child s c.kids))) h.1
 
-pub not_into : (s : Segments) (o : ListPlace) (around : Schema) (ty : Ty) (k : ℕ) (path : List Step) (verb : Verb) (Claim : Type 0) → path ≢ [] → ((st : Step) → GoesInto st ty → ⊥) → WhereElementDone s o around ty k path verb Claim
+pub not_into : (s : Segments) (o : ListPlace) (around : Schema) (ty : Ty) (k : ℕ) (path : List Step) (verb : Verb) (Claim : Type 0) → path ≢ [] → ((st : Step) → GoesInto st ty → ⊥) → WhereElementDone s (record { place = o; at = k; around = around; ty = ty }) (record { path = path; verb = verb }) Claim
 not_into s o around ty k [] verb Claim some never = absurd (some refl)
 not_into s o around ty k (st ∷ rest) verb Claim some never = λ n t is own is_done. absurd (never st (steps_of around ty st rest verb (cell_in t k) is_done))
 

@@ -154,7 +154,7 @@ module _ (s : Schema) (ty : Ty) (rest : List Step) (verb : Verb) where
   in_default (struct_list w p es) k h = in_structs k es (defaulted s ty rest verb k (is_list_of (struct_list w p es) ty) _ h)
 
   -- where the steps into the value are done, the list has the element
-  pub in_list : (d t : Tree) (k : ℕ) → IsDone (value_outcome s (list ty) d (index k ∷ rest) verb t) → k < list_count (opened_tree (list ty) d t)
+  pub in_list : (d t : Tree) (k : ℕ) → IsDone (value_outcome (record { around = s; ty = list ty; default = d }) (index k ∷ rest) verb t) → k < list_count (opened_tree (list ty) d t)
   unfolding read
   in_list d null k h = in_default d k h
   in_list d (capability i) k h = absurd h
@@ -221,7 +221,7 @@ struct_is (list ty) id e = absurd (cc e)
 
 module _ (default : Option (List (List ℕ))) (d : Tree) (holds : HoldsDefaultOrNull default d) (slot : code.Place) (around : Schema) (ty : Ty) where
   -- structs aren't got of what can be read for memory alone
-  pub no_structs_claimed : ListsAreRead → (old m : ArenaState) (told : Error → Type 0) (e : Error) (id : ℕ) → struct_named ty ≡ Some id → Begun default old m (place_view slot) told → (IsOk (list_there (words_in m.segments) slot) → told e) → WhereRead (words_in old.segments) (place_view slot) around (list ty) d (told e)
+  pub no_structs_claimed : ListsAreRead → (old m : ArenaState) (told : Error → Type 0) (e : Error) (id : ℕ) → struct_named ty ≡ Some id → Begun default old m (place_view slot) told → (IsOk (list_there (words_in m.segments) slot) → told e) → WhereRead (words_in old.segments) (place_view slot) (record { around = around; ty = list ty; default = d }) (told e)
   no_structs_claimed law old m told e id named b why = λ n t own sound. (
       let v : Tree = opened_tree (list ty) d t in
       let there = begun_there default d holds old m (place_view slot) told b (list ty) n t own in
@@ -241,7 +241,7 @@ module _ (default : Option (List (List ℕ))) (d : Tree) (holds : HoldsDefaultOr
 
   -- it is never refused where it can be read
   pub never_refused : ListsAreRead → (s u : Segments) → Gets default s u (place_view slot) (as_list around ty) → (expected : ElementSize) → size_number expected ≡ expected_size ty → (r : Result ListPlace Error) → seen (λ o. o) r ≡ list_named taker.Reader u slot expected
-      → (Claim : Error → Type 0) → IfErr r (λ e. WhereRead s (place_view slot) around (list ty) d (Claim e))
+      → (Claim : Error → Type 0) → IfErr r (λ e. WhereRead s (place_view slot) (record { around = around; ty = list ty; default = d }) (Claim e))
   never_refused law s u got expected same (Ok o) is Claim = tt
   never_refused law s u got expected same (Err e) is Claim = λ n t own sound. (
       let v : Tree = opened_tree (list ty) d t in
@@ -253,7 +253,7 @@ module _ (default : Option (List (List ℕ))) (d : Tree) (holds : HoldsDefaultOr
 
   module _ (s u : Segments) (o : ListPlace) (got : ListBehind default s u slot around ty o) (k : ℕ) (rest : List Step) (verb : Verb) (Claim : Type 0) where
     -- no element is behind the last
-    pub behind_claimed : o.count ≤ k → WhereValueDone s (place_view slot) around (list ty) d (index k ∷ rest) verb Claim
+    pub behind_claimed : o.count ≤ k → WhereValueDone s (place_view slot) (record { around = around; ty = list ty; default = d }) (record { path = index k ∷ rest; verb = verb }) Claim
     behind_claimed l = λ n t own is_done. (
         let v : Tree = opened_tree (list ty) d t in
         let there = got_there s u got.value n t own in
@@ -279,7 +279,7 @@ module _ (default : Option (List (List ℕ))) (d : Tree) (holds : HoldsDefaultOr
           object_of_pointer (n + 64) u p found w leads.1 now
 
       -- what is claimed at the element is claimed at the pointer
-      pub element_claimed : WhereElementDone u o around ty k rest verb Claim → WhereValueDone s (place_view slot) around (list ty) d (index k ∷ rest) verb Claim
+      pub element_claimed : WhereElementDone u (record { place = o; at = k; around = around; ty = ty }) (record { path = rest; verb = verb }) Claim → WhereValueDone s (place_view slot) (record { around = around; ty = list ty; default = d }) (record { path = index k ∷ rest; verb = verb }) Claim
       element_claimed h = λ n t own is_done. (
           let w : Tree = as_list around ty (opened_tree (list ty) d t) in
           let object = object_got n t own in
@@ -287,7 +287,7 @@ module _ (default : Option (List (List ℕ))) (d : Tree) (holds : HoldsDefaultOr
           )
 
       -- its elements are there under their type
-      pub unheld_claimed : (e : SchemaType) → ty_of e ≡ ty → (Holds o ty × HoldsStructs around o ty → ⊥) → WhereValueDone s (place_view slot) around (list ty) d (index k ∷ rest) verb Claim
+      pub unheld_claimed : (e : SchemaType) → ty_of e ≡ ty → (Holds o ty × HoldsStructs around o ty → ⊥) → WhereValueDone s (place_view slot) (record { around = around; ty = list ty; default = d }) (record { path = index k ∷ rest; verb = verb }) Claim
       unheld_claimed e of never = λ n t own is_done. (
           let v : Tree = opened_tree (list ty) d t in
           let w : Tree = as_list around ty v in

@@ -32,7 +32,7 @@ content_is s e (pointer_list ts) h = list_done s (list e) (pointer_list ts) (is_
 content_is s e (struct_list w p es) h = list_done s (list e) (struct_list w p es) (is_list_of (struct_list w p es) e) h
 
 message_written : (s u : Segments) (o : ListPlace) (k : ℕ) (q : code.Place) → ((n : ℕ) (t : Tree) → IsListOf o t → OwnsObject n s (object_of_list o) t → IsPointerOf n s o k q t)
-    → (around : Schema) (e : Ty) (t : Tree) → PutsAny s u (place_view q) (message_root t) → EditsElementAt s u o around (list e) k [] (set_to (message t))
+    → (around : Schema) (e : Ty) (t : Tree) → PutsAny s u (place_view q) (message_root t) → EditsElementAt s u (record { place = o; at = k; around = around; ty = list e }) (record { path = []; verb = set_to (message t) })
 message_written s u o k q parts around e t puts n v is own is_done =
     let new : Tree = message_root t in
     let x = parts n v is own in
@@ -44,8 +44,8 @@ message_written s u o k q parts around e t puts n v is own is_done =
     (w.0, subst (λ (f : ℕ → ℕ → Edit). ReplacesObject (n + w.0) s u (object_of_list o) (edit_list f k v)) same lifted)
 
 pub list_set : {X E : Type 0} (s u : Segments) (o : ListPlace) (k : ℕ) (q : code.Place) → ((n : ℕ) (t : Tree) → IsListOf o t → OwnsObject n s (object_of_list o) t → IsPointerOf n s o k q t)
-    → (around : Schema) (ty e : Ty) (t : Tree) → list e ≡ ty → (r : Result X E) → OnOk r (PutsAny s u (place_view q) (message_root t)) → OnOk r (EditsElementAt s u o around ty k [] (set_to (message t)))
-list_set s u o k q parts around ty e t same (Ok x) puts = subst (λ y. EditsElementAt s u o around y k [] (set_to (message t))) same (message_written s u o k q parts around e t puts)
+    → (around : Schema) (ty e : Ty) (t : Tree) → list e ≡ ty → (r : Result X E) → OnOk r (PutsAny s u (place_view q) (message_root t)) → OnOk r (EditsElementAt s u (record { place = o; at = k; around = around; ty = ty }) (record { path = []; verb = set_to (message t) }))
+list_set s u o k q parts around ty e t same (Ok x) puts = subst (λ y. EditsElementAt s u (record { place = o; at = k; around = around; ty = y }) (record { path = []; verb = set_to (message t) })) same (message_written s u o k q parts around e t puts)
 list_set s u o k q parts around ty e t same (Err x) puts = tt
 
 -- ---- an element that is a struct
@@ -60,7 +60,7 @@ struct_value n s u p around id c (pointer_list ts) h takes own = absurd h
 struct_value n s u p around id c (struct_list w j es) h takes own = absurd h
 
 struct_written : (s u : Segments) (o : ListPlace) (k : ℕ) (p : StructPlace) → ((n : ℕ) (t : Tree) → IsListOf o t → OwnsObject n s (object_of_list o) t → IsElementStruct n s o k p t)
-    → (around : Schema) (id : ℕ) (t : Tree) → TakesTree s u p (message_root t) → EditsElementAt s u o around (struct id) k [] (set_to (message t))
+    → (around : Schema) (id : ℕ) (t : Tree) → TakesTree s u p (message_root t) → EditsElementAt s u (record { place = o; at = k; around = around; ty = struct id }) (record { path = []; verb = set_to (message t) })
 struct_written s u o k p parts around id t takes n v is own is_done =
     let x = parts n v is own in
     let c = cell_in v k in
@@ -70,6 +70,6 @@ struct_written s u o k p parts around id t takes n v is own is_done =
     (65, x.lifts (n + 65) u (edit_element around [] (set_to (message t)) (struct id)) (omega arith) here)
 
 pub struct_set : {X E : Type 0} (s u : Segments) (o : ListPlace) (k : ℕ) (p : StructPlace) → ((n : ℕ) (t : Tree) → IsListOf o t → OwnsObject n s (object_of_list o) t → IsElementStruct n s o k p t)
-    → (around : Schema) (ty : Ty) (id : ℕ) (t : Tree) → struct id ≡ ty → (r : Result X E) → OnOk r (TakesTree s u p (message_root t)) → OnOk r (EditsElementAt s u o around ty k [] (set_to (message t)))
-struct_set s u o k p parts around ty id t same (Ok x) takes = subst (λ y. EditsElementAt s u o around y k [] (set_to (message t))) same (struct_written s u o k p parts around id t takes)
+    → (around : Schema) (ty : Ty) (id : ℕ) (t : Tree) → struct id ≡ ty → (r : Result X E) → OnOk r (TakesTree s u p (message_root t)) → OnOk r (EditsElementAt s u (record { place = o; at = k; around = around; ty = ty }) (record { path = []; verb = set_to (message t) }))
+struct_set s u o k p parts around ty id t same (Ok x) takes = subst (λ y. EditsElementAt s u (record { place = o; at = k; around = around; ty = y }) (record { path = []; verb = set_to (message t) })) same (struct_written s u o k p parts around id t takes)
 struct_set s u o k p parts around ty id t same (Err x) takes = tt

@@ -50,7 +50,7 @@ struct_edits s id (name n ∷ rest) verb words pointers c some h = by (s.shape_o
     by (shape nid w p union fs) = refl
 
 module _ (s u : Segments) (o : ListPlace) (k : ℕ) (p : StructPlace) (parts : (n : ℕ) (t : Tree) → IsListOf o t → OwnsObject n s (object_of_list o) t → IsElementStruct n s o k p t) where
-  pub element_written : (schema : StructSchema) (path : List Step) (verb : Verb) → path ≢ [] → WritesWithin s u p schema path verb → EditsElementAt s u o (schema_around schema) (struct (id_of schema)) k path verb
+  pub element_written : (schema : StructSchema) (path : List Step) (verb : Verb) → path ≢ [] → WritesWithin s u p schema (record { path = path; verb = verb }) → EditsElementAt s u (record { place = o; at = k; around = schema_around schema; ty = struct (id_of schema) }) (record { path = path; verb = verb })
   element_written schema path verb some h n t is own is_done =
       let around = schema_around schema in
       let id = id_of schema in
@@ -79,26 +79,26 @@ element_wide o k p g at has schema e =
 
 -- ---- an element that is a pointer to a list
 
-pub value_within : (s : Schema) (e : Ty) (path : List Step) (verb : Verb) (c : Cell) → path ≢ [] → IsElementDone s (list e) path verb c → IsDone (value_outcome s (list e) null path verb (child c.kids 0))
+pub value_within : (s : Schema) (e : Ty) (path : List Step) (verb : Verb) (c : Cell) → path ≢ [] → IsElementDone s (list e) path verb c → IsDone (value_outcome (record { around = s; ty = list e; default = null }) path verb (child c.kids 0))
 unfolding step_element
 value_within s e [] verb c some h = absurd (some refl)
 value_within s e (st ∷ rest) verb c some h =
     subst (λ r. IsDone (through_value s st (step_field s rest verb) (step_element s rest verb) (list e) (opened s (list e) null r))) (read_child-is s c.kids 0 (list e)) h.1
 
-value_edits : (s : Schema) (e : Ty) (path : List Step) (verb : Verb) → path ≢ [] → (words pointers : ℕ) (c : Cell) → on_child (value_edit s (list e) null path verb) words pointers c ≡ edit_element s path verb (list e) words pointers c
+value_edits : (s : Schema) (e : Ty) (path : List Step) (verb : Verb) → path ≢ [] → (words pointers : ℕ) (c : Cell) → on_child (value_edit (record { around = s; ty = list e; default = null }) path verb) words pointers c ≡ edit_element s path verb (list e) words pointers c
 unfolding edit_element
 value_edits s e [] verb some words pointers c = absurd (some refl)
 value_edits s e (name n ∷ rest) verb some words pointers c = ap (λ x. put_child 0 (edit_value s (name n) (edit_field s rest verb) (edit_element s rest verb) (list e) x) c) (opened_null (list e) (child c.kids 0))
 value_edits s e (index j ∷ rest) verb some words pointers c = ap (λ x. put_child 0 (edit_value s (index j) (edit_field s rest verb) (edit_element s rest verb) (list e) x) c) (opened_null (list e) (child c.kids 0))
 
 module _ (s u : Segments) (o : ListPlace) (k : ℕ) (q : code.Place) (parts : (n : ℕ) (t : Tree) → IsListOf o t → OwnsObject n s (object_of_list o) t → IsPointerOf n s o k q t) where
-  pub value_written : (around : Schema) (e : Ty) (path : List Step) (verb : Verb) → path ≢ [] → EditsValueAt s u (place_view q) around (list e) null path verb → EditsElementAt s u o around (list e) k path verb
+  pub value_written : (around : Schema) (e : Ty) (path : List Step) (verb : Verb) → path ≢ [] → EditsValueAt s u (place_view q) (record { around = around; ty = list e; default = null }) (record { path = path; verb = verb }) → EditsElementAt s u (record { place = o; at = k; around = around; ty = list e }) (record { path = path; verb = verb })
   value_written around e path verb some h n t is own is_done =
       let x = parts n t is own in
       let c = cell_in t k in
       let w = h n (child c.kids 0) x.owns (value_within around e path verb c some is_done) in
-      let lifted = x.lifts (n + w.0) u (value_edit around (list e) null path verb) (omega arith) w.1 in
-      let same : on_child (value_edit around (list e) null path verb) ≡ edit_element around path verb (list e) = λ j words pointers c. value_edits around e path verb some words pointers c j in
+      let lifted = x.lifts (n + w.0) u (value_edit (record { around = around; ty = list e; default = null }) path verb) (omega arith) w.1 in
+      let same : on_child (value_edit (record { around = around; ty = list e; default = null }) path verb) ≡ edit_element around path verb (list e) = λ j words pointers c. value_edits around e path verb some words pointers c j in
       (w.0, subst (λ (f : ℕ → ℕ → Edit). ReplacesObject (n + w.0) s u (object_of_list o) (edit_list f k t)) same lifted)
 
   pub value_grows : GrowsBehind s u (place_view q) → GrowsIn s u o

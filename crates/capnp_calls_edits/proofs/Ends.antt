@@ -38,10 +38,10 @@ last_edit f verb (Some e) c = refl
 
 module _ (s u : Segments) (p : StructPlace) (f : Field) (verb : Verb) where
   -- another edit that makes the same of each struct
-  same_end : (g : Edit) → ((c : Cell) → g c ≡ edit_at f [] verb (entry_of_field f) c) → EditsWhere (IsDoneAt f [] verb (entry_of_field f)) s u p g → WritesField s u p f [] verb
+  same_end : (g : Edit) → ((c : Cell) → g c ≡ edit_at f [] verb (entry_of_field f) c) → EditsWhere (IsDoneAt f [] verb (entry_of_field f)) s u p g → WritesField s u p f (record { path = []; verb = verb })
   same_end g same h = edits_alike s u p (IsDoneAt f [] verb (entry_of_field f)) (IsDoneAt f [] verb (entry_of_field f)) g (edit_at f [] verb (entry_of_field f)) (λ c is_done. (is_done, same c)) h
 
-  pub edited_end : Edits s u p (edit_of f verb) → WritesField s u p f [] verb
+  pub edited_end : Edits s u p (edit_of f verb) → WritesField s u p f (record { path = []; verb = verb })
   edited_end h = same_end (edit_of f verb) (last_edit f verb (entry_of_field f)) (edits_any s u p (IsDoneAt f [] verb (entry_of_field f)) (edit_of f verb) h)
 
 -- ---- content that was put
@@ -56,7 +56,7 @@ never_refused old new p g (refused_by k) x h kind e = absurd cc
 never_refused old new p g (bits_of n) x h kind e = absurd (cc e)
 never_refused old new p g (object t) x h kind e = absurd (cc e)
 
-pub put_end : {X : Type 0} (old new : ArenaState) (p : StructPlace) (f : Field) (verb : Verb) (k : Content) (x : Result X Error) → PutsContent old new p (edit_of f verb) k x → OnOk x (WritesField (words_in old.segments) (words_in new.segments) p f [] verb)
+pub put_end : {X : Type 0} (old new : ArenaState) (p : StructPlace) (f : Field) (verb : Verb) (k : Content) (x : Result X Error) → PutsContent old new p (edit_of f verb) k x → OnOk x (WritesField (words_in old.segments) (words_in new.segments) p f (record { path = []; verb = verb }))
 put_end old new p f verb k (Ok x) h =
     same_end (words_in old.segments) (words_in new.segments) p f verb (edit_of f verb) (last_edit f verb (entry_of_field f))
     (puts_any (IsDoneAt f [] verb (entry_of_field f)) old new p (edit_of f verb) k x h)
@@ -81,12 +81,12 @@ module _ (f : Field) (r : FieldNode) (is : IsFieldRecord f.parent f.index r) (b 
       ap (λ x. put_content b x (marked f c)) (sym e) ∙ ap (λ o. put_content b (slot_content around verb b) (marked_in union o c)) is.entry
       ∙ slot_put around verb b slot (mark union r.member c) ∙ last_step around verb union r.member b c ∙ edit_is f r is b same [] verb c
 
-  pub bits_end : (s u : Segments) (p : StructPlace) → IsSlot b → (n : ℕ) → slot_content (schema_around f.parent) verb b ≡ bits_of n → Edits s u p (λ c. put_content b (bits_of n) (marked f c)) → WritesField s u p f [] verb
+  pub bits_end : (s u : Segments) (p : StructPlace) → IsSlot b → (n : ℕ) → slot_content (schema_around f.parent) verb b ≡ bits_of n → Edits s u p (λ c. put_content b (bits_of n) (marked f c)) → WritesField s u p f (record { path = []; verb = verb })
   bits_end s u p slot n e h =
       same_end s u p f verb (λ c. put_content b (bits_of n) (marked f c)) (put_is slot (bits_of n) e) (edits_any s u p (IsDoneAt f [] verb (entry_of_field f)) (λ c. put_content b (bits_of n) (marked f c)) h)
 
 pub plain_end : (f : Field) (r : FieldNode) → IsFieldRecord f.parent f.index r → (q : PlainType) (o d n w : ℕ) → option_map (λ e. e.body) (entry_of_field f) ≡ Some (plain_slot q (width q * o) d)
-    → (v : CallValue) → plain_content q v ≡ bits_of n → w ≡ width q → (s m u : Segments) (p : StructPlace) → Edits s m p (marked f) → SetsBits m u p (w * o) w (bit_xor n d) → WritesField s u p f [] (set_to v)
+    → (v : CallValue) → plain_content q v ≡ bits_of n → w ≡ width q → (s m u : Segments) (p : StructPlace) → Edits s m p (marked f) → SetsBits m u p (w * o) w (bit_xor n d) → WritesField s u p f (record { path = []; verb = set_to v })
 plain_end f r is q o d n w same v given e s m u p h k =
     let put = subst (λ w. SetsBits m u p (w * o) w (bit_xor n d)) e k in
     bits_end f r is (plain_slot q (width q * o) d) same (set_to v) s u p (is_plain q (width q * o) d) n given (edits_then s m u p (marked f) (put_bits (width q * o) (width q) (bit_xor n d)) h put)
@@ -132,19 +132,19 @@ module _ {A : Type 0} (f : Field) (r : FieldNode) (is : IsFieldRecord f.parent f
       let not_here : (k : Kind) → flat_content v e.body ≡ refused_by k → ⊥ = λ k h. never k (ap (set_content v) is.entry ∙ h) in
       ap (λ o. set_entry union v o c) is.entry ∙ same around e.body (mark union e.member c) not_here ∙ last_step around verb union e.member e.body c ∙ ap (λ o. edit_at f [] verb o c) (sym is.entry)
 
-  pub flat_end : (old new : ArenaState) (p : StructPlace) (x : ⊤) → PutsContent old new p (set_edit f v) (set_content v (entry_of_field f)) (Ok x) → WritesField (words_in old.segments) (words_in new.segments) p f [] verb
+  pub flat_end : (old new : ArenaState) (p : StructPlace) (x : ⊤) → PutsContent old new p (set_edit f v) (set_content v (entry_of_field f)) (Ok x) → WritesField (words_in old.segments) (words_in new.segments) p f (record { path = []; verb = verb })
   flat_end old new p x h =
       same_end (words_in old.segments) (words_in new.segments) p f verb (set_edit f v) (flat_edit (never_refused old new p (set_edit f v) (set_content v (entry_of_field f)) x h))
       (puts_any (IsDoneAt f [] verb (entry_of_field f)) old new p (set_edit f v) (set_content v (entry_of_field f)) x h)
 
 pub text_end : (A : Type 0) (f : Field) (r : FieldNode) → IsFieldRecord f.parent f.index r → (t : TextReader) (bytes : List ℕ) → t.0.now ≡ bytes → (old new : ArenaState) (p : StructPlace) (x : Result ⊤ Error)
-    → PutsContent old new p (set_edit {A = A} f (value.Text t)) (set_content {A = A} (value.Text t) (entry_of_field f)) x → OnOk x (WritesField (words_in old.segments) (words_in new.segments) p f [] (set_to (text_value bytes)))
+    → PutsContent old new p (set_edit {A = A} f (value.Text t)) (set_content {A = A} (value.Text t) (entry_of_field f)) x → OnOk x (WritesField (words_in old.segments) (words_in new.segments) p f (record { path = []; verb = set_to (text_value bytes) }))
 text_end A f r is t bytes e old new p (Ok x) h =
-    subst (λ bs. WritesField (words_in old.segments) (words_in new.segments) p f [] (set_to (text_value bs))) e (flat_end {A = A} f r is (value.Text t) (set_to (text_value t.0.now)) (λ s body c never. text_same A s t body c never) old new p x h)
+    subst (λ bs. WritesField (words_in old.segments) (words_in new.segments) p f (record { path = []; verb = set_to (text_value bs) })) e (flat_end {A = A} f r is (value.Text t) (set_to (text_value t.0.now)) (λ s body c never. text_same A s t body c never) old new p x h)
 text_end A f r is t bytes e old new p (Err x) h = tt
 
 pub data_end : (A : Type 0) (f : Field) (r : FieldNode) → IsFieldRecord f.parent f.index r → (bs : Bor (List ℕ)) (bytes : List ℕ) → bs.now ≡ bytes → (old new : ArenaState) (p : StructPlace) (x : Result ⊤ Error)
-    → PutsContent old new p (set_edit {A = A} f (value.Data bs)) (set_content {A = A} (value.Data bs) (entry_of_field f)) x → OnOk x (WritesField (words_in old.segments) (words_in new.segments) p f [] (set_to (blob_value bytes)))
+    → PutsContent old new p (set_edit {A = A} f (value.Data bs)) (set_content {A = A} (value.Data bs) (entry_of_field f)) x → OnOk x (WritesField (words_in old.segments) (words_in new.segments) p f (record { path = []; verb = set_to (blob_value bytes) }))
 data_end A f r is bs bytes e old new p (Ok x) h =
-    subst (λ ys. WritesField (words_in old.segments) (words_in new.segments) p f [] (set_to (blob_value ys))) e (flat_end {A = A} f r is (value.Data bs) (set_to (blob_value bs.now)) (λ s body c never. data_same A s bs body c never) old new p x h)
+    subst (λ ys. WritesField (words_in old.segments) (words_in new.segments) p f (record { path = []; verb = set_to (blob_value ys) })) e (flat_end {A = A} f r is (value.Data bs) (set_to (blob_value bs.now)) (λ s body c never. data_same A s bs body c never) old new p x h)
 data_end A f r is bs bytes e old new p (Err x) h = tt

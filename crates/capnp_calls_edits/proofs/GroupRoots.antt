@@ -96,7 +96,7 @@ module _ (law : SetsByWrites) (from : Cell) (t : Tree) (words : ℕ) (is : messa
   entry_set f g None body c = absurd (cc body)
   entry_set f g (Some e) body c = by_writes (schema_around f.parent) (union_in (shape_of_struct f.parent)) g e (same_some body) c
 
-  pub group_set : (f : Field) (g : Shape) → option_map (λ e. e.body) (entry_of_field f) ≡ Some (group_slot g) → (s u : Segments) (p : StructPlace) (r : Result ⊤ Error) → WritesAsFar s u p (copied_field f (in_words from)) r → OnOk r (WritesField s u p f [] (set_to (message t)))
+  pub group_set : (f : Field) (g : Shape) → option_map (λ e. e.body) (entry_of_field f) ≡ Some (group_slot g) → (s u : Segments) (p : StructPlace) (r : Result ⊤ Error) → WritesAsFar s u p (copied_field f (in_words from)) r → OnOk r (WritesField s u p f (record { path = []; verb = set_to (message t) }))
   group_set f g body s u p (Ok x) h =
       edits_alike s u p (λ c. Unit {0}) (IsDoneAt f [] (set_to (message t)) (entry_of_field f)) (after_writes (copied_field f (in_words from))) (edit_at f [] (set_to (message t)) (entry_of_field f)) (λ c all. (tt, entry_set f g (entry_of_field f) body c)) (λ n section kids o any. h n section kids o)
   group_set f g body s u p (Err e) h = tt

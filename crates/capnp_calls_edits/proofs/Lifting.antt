@@ -68,12 +68,12 @@ module _ (s u v : Segments) (p : Place) (o : StructPlace) (Holds : Cell → Type
 -- ---- a child of a struct
 
 module _ (s u : Segments) (p : StructPlace) (i : ℕ) (r : Place) (around : Schema) (ty : Ty) (d : Tree) (path : List Step) (verb : Verb) where
-  pub through_child : i < p.pointers → r ≡ after (after (place_view p.start) p.data_words) i → EditsValueAt s u r around ty d path verb
-      → EditsWhere (λ c. IsDone (value_outcome around ty d path verb (child c.kids i))) s u p (λ c. put_child i (value_edit around ty d path verb (child c.kids i)) c)
+  pub through_child : i < p.pointers → r ≡ after (after (place_view p.start) p.data_words) i → EditsValueAt s u r (record { around = around; ty = ty; default = d }) (record { path = path; verb = verb })
+      → EditsWhere (λ c. IsDone (value_outcome (record { around = around; ty = ty; default = d }) path verb (child c.kids i))) s u p (λ c. put_child i (value_edit (record { around = around; ty = ty; default = d }) path verb (child c.kids i)) c)
   through_child l e h n section kids o done =
       let owned = child_of_struct n s (place_view p.start) p.data_words p.pointers i p.data_words section kids l o in
       let t : Tree = child kids i in
-      let new : Tree = value_edit around ty d path verb t in
+      let new : Tree = value_edit (record { around = around; ty = ty; default = d }) path verb t in
       let w = h n t (subst (λ q. Owns n s q t) (sym e) owned) done in
       let here = subst (λ q. Replaces (n + w.0) s u q new) e w.1 in
       let more = object_owned_more n (n + w.0) s (object_of_struct p) (structure p.data_words section kids) (omega arith) o in

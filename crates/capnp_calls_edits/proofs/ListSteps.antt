@@ -144,7 +144,7 @@ module _ (s : Schema) (ty : Ty) (rest : List Step) (verb : Verb) where
   of_default (struct_list w p es) k h = structs_as ty w p es k (defaulted k (is_list_of (struct_list w p es) ty) _ h)
 
   -- where the steps into the value are done, the rest is done at the element of the list that is got
-  pub element_done : (d t : Tree) (k : ℕ) → IsDone (value_outcome s (list ty) d (index k ∷ rest) verb t) → Done (cell_in (as_list s ty (opened_tree (list ty) d t)) k)
+  pub element_done : (d t : Tree) (k : ℕ) → IsDone (value_outcome (record { around = s; ty = list ty; default = d }) (index k ∷ rest) verb t) → Done (cell_in (as_list s ty (opened_tree (list ty) d t)) k)
   unfolding read
   element_done d null k h = of_default d k h
   element_done d (capability i) k h = absurd h

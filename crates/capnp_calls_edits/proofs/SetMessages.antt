@@ -88,7 +88,7 @@ module _ (s : Schema) (union member : Option ℕ) (i : ℕ) (d : Option Tree) (c
 -- ---- the field is set
 
 pub message_end : (f : Field) (r : FieldNode) (is : IsFieldRecord f.parent f.index r) (i : ℕ) (ty : Ty) (d : Option Tree) → option_map (λ e. e.body) (entry_of_field f) ≡ Some (pointer_slot i ty d) → takes_message ty ≡ true → (t : Tree) (s m u : Segments) (p : StructPlace) (q : Place)
-    → i < p.pointers → q ≡ after (after (place_view p.start) p.data_words) i → PutsAny s m q (message_root t) → Edits m u p (marked f) → WritesField s u p f [] (set_to (message t))
+    → i < p.pointers → q ≡ after (after (place_view p.start) p.data_words) i → PutsAny s m q (message_root t) → Edits m u p (marked f) → WritesField s u p f (record { path = []; verb = set_to (message t) })
 message_end f r is i ty d same takes t s m u p q l at puts marks n section kids o done =
     let around = schema_around f.parent in
     let union = union_in (shape_of_struct f.parent) in

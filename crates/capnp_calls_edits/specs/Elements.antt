@@ -5,7 +5,7 @@ use Rattle.capnp_model.specs.Trees.{Tree, null, capability, Trees, structure, pl
 use Rattle.capnp_model.specs.Schemas.{Ty, Shape, Schema}
 use Rattle.capnp_model.specs.Readings.{Extent, is_accepted_as, expected_size, shape_record, read_child, body_of, element_as}
 use Rattle.capnp_model.specs.Printing.{fields_in}
-use Rattle.capnp_model.specs.Calls.{Step, Verb}
+use Rattle.capnp_model.specs.Calls.{Step, Verb, Call}
 use Rattle.capnp_model.specs.Steps.{step_path, step_field, step_element}
 use Rattle.capnp_model.specs.Edits.{Cell, as_list, edit_list, edit_element}
 use Rattle.capnp_wire_objects.specs.declared.place.Place as code
@@ -26,6 +26,7 @@ use Rattle.capnp_values_queries.specs.declared.structs.StructSchema.{StructSchem
 use Rattle.capnp_values_queries.specs.declared.fields.Field.{Field}
 use Rattle.capnp_schema_lists.specs.Lists.{IsListThere, IsListOf}
 use Rattle.capnp_schema_lists.specs.Parts.{cell_in}
+use Rattle.capnp_schema_lists.specs.Places.{ElementAt}
 use Rattle.capnp_calls.specs.Sizes.{IsDone}
 use Rattle.capnp_calls.specs.Paths.{shape_edit}
 use Rattle.capnp_calls_edits.specs.Written.{EditsWhere, ClaimsWhere, edit_at}
@@ -39,12 +40,12 @@ abbrev pub IsDoneWithin : Schema → Shape → List Step → Verb → Cell → T
 IsDoneWithin s g path verb c = (e : Extent) × IsDone (step_path s (fields_in g) path verb (shape_record g e c.section (read_child s c.kids)))
 
 -- Where it does, the struct's data and children become what the call's edit makes of them.
-abbrev pub WritesWithin : Segments → Segments → StructPlace → StructSchema → List Step → Verb → Type 0
-WritesWithin s u p g path verb = EditsWhere (IsDoneWithin (schema_around g) (shape_of_struct g) path verb) s u p (shape_edit (schema_around g) (shape_of_struct g) path verb)
+abbrev pub WritesWithin : Segments → Segments → StructPlace → StructSchema → Call → Type 0
+WritesWithin s u p g c = EditsWhere (IsDoneWithin (schema_around g) (shape_of_struct g) c.path c.verb) s u p (shape_edit (schema_around g) (shape_of_struct g) c.path c.verb)
 
 -- Where the record machine does the call so: the claim.
-abbrev pub WhereDoneWithin : Segments → StructPlace → StructSchema → List Step → Verb → Type 0 → Type 0
-WhereDoneWithin s p g path verb Claim = ClaimsWhere (IsDoneWithin (schema_around g) (shape_of_struct g) path verb) s p Claim
+abbrev pub WhereDoneWithin : Segments → StructPlace → StructSchema → Call → Type 0 → Type 0
+WhereDoneWithin s p g c Claim = ClaimsWhere (IsDoneWithin (schema_around g) (shape_of_struct g) c.path c.verb) s p Claim
 
 -- The record machine does the rest of a call at a field that is active, read to some extent; at none it does nothing.
 abbrev pub IsFieldDone : Field → List Step → Verb → Option Entry → Cell → Type 0
@@ -52,12 +53,12 @@ IsFieldDone f path verb None c = ⊥
 IsFieldDone f path verb (Some e) c = let s = schema_around f.parent in (x : Extent) × IsDone (step_field s path verb e.body (body_of e.body x c.section (read_child s c.kids)))
 
 -- Where it does, the struct becomes what it makes of it.
-abbrev pub WritesFieldWithin : Segments → Segments → StructPlace → Field → List Step → Verb → Type 0
-WritesFieldWithin s u p f path verb = EditsWhere (IsFieldDone f path verb (entry_of_field f)) s u p (edit_at f path verb (entry_of_field f))
+abbrev pub WritesFieldWithin : Segments → Segments → StructPlace → Field → Call → Type 0
+WritesFieldWithin s u p f c = EditsWhere (IsFieldDone f c.path c.verb (entry_of_field f)) s u p (edit_at f c.path c.verb (entry_of_field f))
 
 -- Where it does: the claim.
-abbrev pub WhereFieldDone : Segments → StructPlace → Field → List Step → Verb → Type 0 → Type 0
-WhereFieldDone s p f path verb Claim = ClaimsWhere (IsFieldDone f path verb (entry_of_field f)) s p Claim
+abbrev pub WhereFieldDone : Segments → StructPlace → Field → Call → Type 0 → Type 0
+WhereFieldDone s p f c Claim = ClaimsWhere (IsFieldDone f c.path c.verb (entry_of_field f)) s p Claim
 
 -- ---- at an element
 
@@ -65,16 +66,16 @@ WhereFieldDone s p f path verb Claim = ClaimsWhere (IsFieldDone f path verb (ent
 abbrev pub IsElementDone : Schema → Ty → List Step → Verb → Cell → Type 0
 IsElementDone s ty path verb c = (e : Extent) × IsDone (step_element s path verb ty (element_as s ty e c.section (read_child s c.kids)))
 
--- Whatever elements the list has: where the rest of a call is done at the one of an index, that
+-- Whatever elements the list has: where the rest of a call is done at the one of the index, that
 -- becomes what it makes of it. Some levels of pointers may be new, and nothing else changes.
-abbrev pub EditsElementAt : Segments → Segments → ListPlace → Schema → Ty → ℕ → List Step → Verb → Type 0
-EditsElementAt s u o around ty k path verb =
-    (n : ℕ) (t : Tree) → IsListOf o t → OwnsObject n s (object_of_list o) t → IsElementDone around ty path verb (cell_in t k)
-    → (more : ℕ) × ReplacesObject (n + more) s u (object_of_list o) (edit_list (edit_element around path verb ty) k t)
+abbrev pub EditsElementAt : Segments → Segments → ElementAt → Call → Type 0
+EditsElementAt s u x c =
+    (n : ℕ) (t : Tree) → IsListOf x.place t → OwnsObject n s (object_of_list x.place) t → IsElementDone x.around x.ty c.path c.verb (cell_in t x.at)
+    → (more : ℕ) × ReplacesObject (n + more) s u (object_of_list x.place) (edit_list (edit_element x.around c.path c.verb x.ty) x.at t)
 
 -- Where it is done at that element: the claim.
-abbrev pub WhereElementDone : Segments → ListPlace → Schema → Ty → ℕ → List Step → Verb → Type 0 → Type 0
-WhereElementDone s o around ty k path verb Claim = (n : ℕ) (t : Tree) → IsListOf o t → OwnsObject n s (object_of_list o) t → IsElementDone around ty path verb (cell_in t k) → Claim
+abbrev pub WhereElementDone : Segments → ElementAt → Call → Type 0 → Type 0
+WhereElementDone s x c Claim = (n : ℕ) (t : Tree) → IsListOf x.place t → OwnsObject n s (object_of_list x.place) t → IsElementDone x.around x.ty c.path c.verb (cell_in t x.at) → Claim
 
 -- Where the record machine does the end of a call at an element, whatever stands there: the claim.
 abbrev pub WhereElementTakes : Schema → Ty → Verb → Type 0 → Type 0

@@ -5,7 +5,7 @@ use Rattle.capnp_model.specs.Segments.{Segments, Place}
 use Rattle.capnp_model.specs.Trees.{Tree, null, Trees, structure}
 use Rattle.capnp_model.specs.Schemas.{Ty, void, plain, text, blob, untyped, interface, struct, list, Shape, group_slot, Schema}
 use Rattle.capnp_model.specs.Readings.{Reading, inactive, null_pointer, fault, number, text_of, blob_of, list_of, record_as, opaque, read}
-use Rattle.capnp_model.specs.Calls.{Step, Verb, CallValue, whole_number, truth, enumerant, text_value, blob_value, message}
+use Rattle.capnp_model.specs.Calls.{Step, Verb, Call, CallValue, whole_number, truth, enumerant, text_value, blob_value, message}
 use Rattle.capnp_model.specs.Steps.{Outcome, refused, opened, through_value, step_field, step_element}
 use Rattle.capnp_model.specs.Edits.{Cell, Edit, opened_tree, edit_value, edit_field, edit_element}
 use Rattle.capnp_model_writes.specs.Footprints.{Owns, OwnsObject}
@@ -36,13 +36,13 @@ ClaimsWhere Holds s p Claim =
 -- ---- at a struct or a group
 
 -- Where the record machine does the call at the struct: the claim.
-abbrev pub WhereDone : Segments → StructPlace → StructSchema → List Step → Verb → Type 0 → Type 0
-WhereDone s p g path verb Claim = ClaimsWhere (λ c. IsDone (shape_outcome (schema_around g) (shape_of_struct g) path verb c)) s p Claim
+abbrev pub WhereDone : Segments → StructPlace → StructSchema → Call → Type 0 → Type 0
+WhereDone s p g call Claim = ClaimsWhere (λ c. IsDone (shape_outcome (schema_around g) (shape_of_struct g) call.path call.verb c)) s p Claim
 
 -- Where the record machine does the call at the struct: its data and children become what the call's edit makes of them.
-abbrev pub WritesPath : Segments → Segments → StructPlace → StructSchema → List Step → Verb → Type 0
-WritesPath s u p g path verb =
-    EditsWhere (λ c. IsDone (shape_outcome (schema_around g) (shape_of_struct g) path verb c)) s u p (shape_edit (schema_around g) (shape_of_struct g) path verb)
+abbrev pub WritesPath : Segments → Segments → StructPlace → StructSchema → Call → Type 0
+WritesPath s u p g call =
+    EditsWhere (λ c. IsDone (shape_outcome (schema_around g) (shape_of_struct g) call.path call.verb c)) s u p (shape_edit (schema_around g) (shape_of_struct g) call.path call.verb)
 
 -- ---- at a field
 
@@ -57,8 +57,8 @@ edit_at f path verb None c = c
 edit_at f path verb (Some e) c = edit_field (schema_around f.parent) path verb (union_in (shape_of_struct f.parent)) e.member e.body c
 
 -- Where the rest of a call is done at a field, the struct becomes what it makes of it.
-abbrev pub WritesField : Segments → Segments → StructPlace → Field → List Step → Verb → Type 0
-WritesField s u p f path verb = EditsWhere (IsDoneAt f path verb (entry_of_field f)) s u p (edit_at f path verb (entry_of_field f))
+abbrev pub WritesField : Segments → Segments → StructPlace → Field → Call → Type 0
+WritesField s u p f c = EditsWhere (IsDoneAt f c.path c.verb (entry_of_field f)) s u p (edit_at f c.path c.verb (entry_of_field f))
 
 -- Where the record machine does the end of a call at a field, whatever the struct has: the claim.
 abbrev pub WhereFieldTakes : Field → Verb → Type 0 → Type 0
@@ -79,24 +79,30 @@ IsGroup o = (g : Shape) × (option_map (λ e. e.body) o ≡ Some (group_slot g))
 
 -- ---- at a pointer's value
 
+-- How a pointer's value is read: the schema, its type, and the default that null stands for.
+pub record TypedValue : Type 0 where
+  pub around : Schema
+  pub ty : Ty
+  pub default : Tree
+
 -- What the record machine makes of the steps into a pointer's value of a type; null is its default, else the empty value.
-abbrev pub value_outcome : Schema → Ty → Tree → List Step → Verb → Tree → Outcome Reading
-value_outcome s ty d [] verb t = refused WrongStep
-value_outcome s ty d (st ∷ path) verb t = through_value s st (step_field s path verb) (step_element s path verb) ty (opened s ty d (read s t ty))
+abbrev pub value_outcome : TypedValue → List Step → Verb → Tree → Outcome Reading
+value_outcome v [] verb t = refused WrongStep
+value_outcome v (st ∷ path) verb t = through_value v.around st (step_field v.around path verb) (step_element v.around path verb) v.ty (opened v.around v.ty v.default (read v.around t v.ty))
 
 -- What stands after it.
-abbrev pub value_edit : Schema → Ty → Tree → List Step → Verb → Tree → Tree
-value_edit s ty d [] verb t = t
-value_edit s ty d (st ∷ path) verb t = edit_value s st (edit_field s path verb) (edit_element s path verb) ty (opened_tree ty d t)
+abbrev pub value_edit : TypedValue → List Step → Verb → Tree → Tree
+value_edit v [] verb t = t
+value_edit v (st ∷ path) verb t = edit_value v.around st (edit_field v.around path verb) (edit_element v.around path verb) v.ty (opened_tree v.ty v.default t)
 
 -- Whatever value is owned there at which the steps are done becomes what they make of it, where some levels of pointers may be new, and nothing else changes.
-abbrev pub EditsValueAt : Segments → Segments → Place → Schema → Ty → Tree → List Step → Verb → Type 0
-EditsValueAt s u p around ty d path verb =
-    (n : ℕ) (t : Tree) → Owns n s p t → IsDone (value_outcome around ty d path verb t) → (more : ℕ) × Replaces (n + more) s u p (value_edit around ty d path verb t)
+abbrev pub EditsValueAt : Segments → Segments → Place → TypedValue → Call → Type 0
+EditsValueAt s u p v c =
+    (n : ℕ) (t : Tree) → Owns n s p t → IsDone (value_outcome v c.path c.verb t) → (more : ℕ) × Replaces (n + more) s u p (value_edit v c.path c.verb t)
 
 -- Whatever value is owned there at which the steps are done: the claim.
-abbrev pub WhereValueDone : Segments → Place → Schema → Ty → Tree → List Step → Verb → Type 0 → Type 0
-WhereValueDone s p around ty d path verb Claim = (n : ℕ) (t : Tree) → Owns n s p t → IsDone (value_outcome around ty d path verb t) → Claim
+abbrev pub WhereValueDone : Segments → Place → TypedValue → Call → Type 0 → Type 0
+WhereValueDone s p v c Claim = (n : ℕ) (t : Tree) → Owns n s p t → IsDone (value_outcome v c.path c.verb t) → Claim
 
 -- A reading without a fault.
 abbrev pub HasNoFault : Reading → Type 0
@@ -111,8 +117,8 @@ HasNoFault (record_as r) = Unit {0}
 HasNoFault (opaque t) = Unit {0}
 
 -- Whatever value is owned there that can be read as one of the type, null as its default: the claim.
-abbrev pub WhereRead : Segments → Place → Schema → Ty → Tree → Type 0 → Type 0
-WhereRead s p around ty d Claim = (n : ℕ) (t : Tree) → Owns n s p t → HasNoFault (read around (opened_tree ty d t) ty) → Claim
+abbrev pub WhereRead : Segments → Place → TypedValue → Type 0 → Type 0
+WhereRead s p v Claim = (n : ℕ) (t : Tree) → Owns n s p t → HasNoFault (read v.around (opened_tree v.ty v.default t) v.ty) → Claim
 
 -- The words of a default, if there is one, hold this value, at most 64 levels deep; no default is null.
 abbrev pub HoldsDefaultOrNull : Option (List (List ℕ)) → Tree → Type 0

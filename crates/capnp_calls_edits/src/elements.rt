@@ -51,8 +51,9 @@ fn set_plain<A: BuilderArena>(
     requires index { index < list.count }
     requires holds { Holds list (ty_of ty) }
     ensures writes { (s : Schema) → OnOk result (EditsElementAt (words_in (A.segments arena.old))
-        (words_in (A.segments arena.new)) list s (ty_of ty) index []
-        (set_to (slot_value_view value.now))) }
+        (words_in (A.segments arena.new))
+        (record { place = list; at = index; around = s; ty = ty_of ty })
+        (record { path = []; verb = set_to (slot_value_view value.now) })) }
     ensures grows { Grows (words_in (A.segments arena.old)) (words_in (A.segments arena.new)) }
     ensures cause { (s : Schema) → is_single (slot_value_view value.now) ≡ true
         → IfErr result (λ e. WhereElementTakes s (ty_of ty)
@@ -86,8 +87,9 @@ fn set_message<A: BuilderArena>(
     requires holds { Holds list (ty_of ty) }
     requires structs { (id : ℕ) → struct id ≡ ty_of ty → size_number list.size ≡ 7 }
     ensures writes { (s : Schema) → OnOk result (EditsElementAt (words_in (A.segments arena.old))
-        (words_in (A.segments arena.new)) list s (ty_of ty) index []
-        (set_to (message (tree_of_message value.now)))) }
+        (words_in (A.segments arena.new))
+        (record { place = list; at = index; around = s; ty = ty_of ty })
+        (record { path = []; verb = set_to (message (tree_of_message value.now)) })) }
     ensures grows { BytesGrowIn (A.segments arena.old) (A.segments arena.new) list }
     ensures cause { (s : Schema) → IfErr result (λ e.
         WhereElementTakes s (ty_of ty) (set_to (message (tree_of_message value.now)))
@@ -125,8 +127,9 @@ fn set_value<A: BuilderArena>(
     requires holds { Holds list (ty_of ty) }
     requires structs { (id : ℕ) → struct id ≡ ty_of ty → size_number list.size ≡ 7 }
     ensures writes { (s : Schema) → OnOk result (EditsElementAt (words_in (A.segments arena.old))
-        (words_in (A.segments arena.new)) list s (ty_of ty) index []
-        (set_to (slot_value_view value.now))) }
+        (words_in (A.segments arena.new))
+        (record { place = list; at = index; around = s; ty = ty_of ty })
+        (record { path = []; verb = set_to (slot_value_view value.now) })) }
     ensures grows { BytesGrowIn (A.segments arena.old) (A.segments arena.new) list }
     ensures cause { (s : Schema) → IfErr result (λ e.
         WhereElementTakes s (ty_of ty) (set_to (slot_value_view value.now))
@@ -165,8 +168,9 @@ pub(crate) fn write_element_end<A: BuilderArena>(
     requires sizes { HoldsStructs (schema_of (nodes_of set.now)) list (ty_of ty) }
     requires known { is_type_of (nodes_of set.now) ty ≡ true }
     ensures writes { OnOk result (EditsElementAt (words_in (A.segments arena.old))
-        (words_in (A.segments arena.new)) list (schema_of (nodes_of set.now)) (ty_of ty) index []
-        (action_view action.now)) }
+        (words_in (A.segments arena.new))
+        (record { place = list; at = index; around = schema_of (nodes_of set.now); ty = ty_of ty })
+        (record { path = []; verb = action_view action.now })) }
     ensures grows { BytesGrowIn (A.segments arena.old) (A.segments arena.new) list }
     ensures cause { IfErr result (λ e. WhereElementTakes (schema_of (nodes_of set.now)) (ty_of ty)
         (action_view action.now) (IsSizeOrRefusal A.refuses e)) }

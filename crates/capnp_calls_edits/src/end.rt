@@ -29,7 +29,8 @@ pub(crate) fn write_end<A: BuilderArena>(
     requires there { IsThere (words_in (A.segments arena.old)) object }
     requires wide { HoldsShape object (shape_of_struct field.parent) }
     ensures writes { OnOk result (WritesField (words_in (A.segments arena.old))
-        (words_in (A.segments arena.new)) object field.entry [] (action_view action.now)) }
+        (words_in (A.segments arena.new)) object field.entry
+        (record { path = []; verb = action_view action.now })) }
     ensures grows { Grows (words_in (A.segments arena.old)) (words_in (A.segments arena.new)) }
     ensures cause { IfErr result (λ e. WhereFieldTakes field.entry (action_view action.now)
         (IsSizeOrRefusal A.refuses e)) }

@@ -45,9 +45,10 @@ fn begin_list<A: BuilderArena>(
         (words_in (A.segments arena.old)) (words_in (A.segments arena.new)) (place_view slot)
         (as_list (schema_of (nodes_of set.now)) (ty_of ty))) }
     ensures grows { BytesGrowBehind (A.segments arena.old) (A.segments arena.new) slot }
-    ensures cause { (d : Tree) → HoldsDefaultOrNull (option_copied default.entry) d
-        → IfErr result (λ e. WhereRead (words_in (A.segments arena.old)) (place_view slot)
-        (schema_of (nodes_of set.now)) (list (ty_of ty)) d (IsSizeOrRefusal A.refuses e)) }
+    ensures cause { (d : Tree) → HoldsDefaultOrNull (option_copied default.entry) d → IfErr result
+        (λ e. WhereRead (words_in (A.segments arena.old)) (place_view slot)
+        (record { around = schema_of (nodes_of set.now); ty = list (ty_of ty); default = d })
+        (IsSizeOrRefusal A.refuses e)) }
     ensures books { A.books arena.new ≡ A.books arena.old }
 {
     changes_of_values();
@@ -83,9 +84,10 @@ pub(crate) fn list_behind<A: BuilderArena>(
         (words_in (A.segments arena.old)) (words_in (A.segments arena.new)) slot
         (schema_of (nodes_of set.now)) (ty_of ty)) }
     ensures grows { BytesGrowBehind (A.segments arena.old) (A.segments arena.new) slot }
-    ensures cause { (d : Tree) → HoldsDefaultOrNull (option_copied default.entry) d
-        → IfErr result (λ e. WhereRead (words_in (A.segments arena.old)) (place_view slot)
-        (schema_of (nodes_of set.now)) (list (ty_of ty)) d (IsSizeOrRefusal A.refuses e)) }
+    ensures cause { (d : Tree) → HoldsDefaultOrNull (option_copied default.entry) d → IfErr result
+        (λ e. WhereRead (words_in (A.segments arena.old)) (place_view slot)
+        (record { around = schema_of (nodes_of set.now); ty = list (ty_of ty); default = d })
+        (IsSizeOrRefusal A.refuses e)) }
     ensures books { A.books arena.new ≡ A.books arena.old }
 {
     gets_are_readings();

@@ -109,8 +109,8 @@ fn set_group<A: BuilderArena>(
     requires wide { HoldsShape object (shape_of_struct field.parent) }
     requires group { IsGroup (entry_of_field field) }
     ensures writes { OnOk result (WritesField (words_in (A.segments arena.old))
-        (words_in (A.segments arena.new)) object field.entry []
-        (set_to (message (tree_of_message value.now)))) }
+        (words_in (A.segments arena.new)) object field.entry
+        (record { path = []; verb = set_to (message (tree_of_message value.now)) })) }
     ensures grows { Grows (words_in (A.segments arena.old)) (words_in (A.segments arena.new)) }
     ensures cause { IfErr result (λ e. WhereFieldTakes field.entry
         (set_to (message (tree_of_message value.now))) (IsSizeOrRefusal A.refuses e)) }
@@ -135,8 +135,8 @@ pub(crate) fn set_message<A: BuilderArena>(
     requires there { IsThere (words_in (A.segments arena.old)) object }
     requires wide { HoldsShape object (shape_of_struct field.parent) }
     ensures writes { OnOk result (WritesField (words_in (A.segments arena.old))
-        (words_in (A.segments arena.new)) object field.entry []
-        (set_to (message (tree_of_message value.now)))) }
+        (words_in (A.segments arena.new)) object field.entry
+        (record { path = []; verb = set_to (message (tree_of_message value.now)) })) }
     ensures grows { Grows (words_in (A.segments arena.old)) (words_in (A.segments arena.new)) }
     ensures cause { IfErr result (λ e. WhereFieldTakes field.entry
         (set_to (message (tree_of_message value.now))) (IsSizeOrRefusal A.refuses e)) }

@@ -6,7 +6,7 @@ ghost use Rattle.capnp_units.specs.Segments.{words_in};
 ghost use Rattle.capnp_records.specs.Sets.{nodes_of};
 ghost use Rattle.capnp_values_queries.specs.Structs.{schema_around, shape_of_struct, id_of};
 ghost use Rattle.capnp_values_queries.specs.Types.{ty_of, is_type_of};
-ghost use Rattle.capnp_calls.specs.CallViews.{step_view, action_view};
+ghost use Rattle.capnp_calls.specs.CallViews.{step_view};
 ghost use Rattle.capnp_calls.specs.Resolved.{call_of, IsResolved};
 ghost use Rattle.capnp_calls.specs.Roots.{starts_with_name};
 ghost use Rattle.capnp_copy_arenas.specs.Refusals.{IsSizeOrRefusal};
@@ -17,7 +17,7 @@ ghost use Rattle.capnp_schema_lists.specs.Elements.{Holds, HoldsStructs};
 ghost use Rattle.capnp_calls.specs.Ways.{IsWay};
 ghost use Rattle.capnp_calls_edits.specs.Written.{WritesPath, WhereDone, HoldsDefaultOrNull};
 ghost use Rattle.capnp_calls_edits.specs.Elements.{WritesWithin, WhereDoneWithin, WritesFieldWithin, WhereFieldDone};
-ghost use Rattle.capnp_calls_edits.specs.Behind.{steps_in, HoldsInside, WritesBehind, FailsBehind, WritesAtElement, FailsAtElement, BytesGrowBehind, BytesGrowAround, BytesGrowIn};
+ghost use Rattle.capnp_calls_edits.specs.Behind.{call_left, HoldsInside, WritesBehind, FailsBehind, WritesAtElement, FailsAtElement, BytesGrowBehind, BytesGrowAround, BytesGrowIn};
 ghost use Rattle.capnp_values.specs.Shown.{schema_in};
 
 use crate::default::default_of;
@@ -85,12 +85,10 @@ pub fn write_path<A: BuilderArena>(
     requires wide { HoldsShape object (shape_of_struct schema) }
     requires resolved { IsResolved schema call.now }
     ensures writes { OnOk result (WritesPath (words_in (A.segments arena.old))
-        (words_in (A.segments arena.new)) object schema.entry (call_of call.now).path
-        (call_of call.now).verb) }
+        (words_in (A.segments arena.new)) object schema.entry (call_of call.now)) }
     ensures grows { BytesGrowAround (A.segments arena.old) (A.segments arena.new) object }
     ensures cause { IfErr result (λ e. WhereDone (words_in (A.segments arena.old)) object
-        schema.entry (call_of call.now).path (call_of call.now).verb
-        (IsSizeOrRefusal A.refuses e)) }
+        schema.entry (call_of call.now) (IsSizeOrRefusal A.refuses e)) }
     ensures books { A.books arena.new ≡ A.books arena.old }
 {
     write_steps(
@@ -118,12 +116,10 @@ fn write_steps<A: BuilderArena>(
     requires wide { HoldsShape object (shape_of_struct schema) }
     requires way { IsWay (schema_around schema) (map step_view path.now) way.now }
     ensures writes { OnOk result (WritesWithin (words_in (A.segments arena.old))
-        (words_in (A.segments arena.new)) object schema.entry (map step_view path.now)
-        (action_view action.now)) }
+        (words_in (A.segments arena.new)) object schema.entry (call_left path.now action.now)) }
     ensures grows { BytesGrowAround (A.segments arena.old) (A.segments arena.new) object }
     ensures cause { IfErr result (λ e. WhereDoneWithin (words_in (A.segments arena.old)) object
-        schema.entry (map step_view path.now) (action_view action.now)
-        (IsSizeOrRefusal A.refuses e)) }
+        schema.entry (call_left path.now action.now) (IsSizeOrRefusal A.refuses e)) }
     ensures books { A.books arena.new ≡ A.books arena.old }
 {
     let Some((name, rest)) = first_name(path) else {
@@ -154,12 +150,10 @@ fn write_behind<A: BuilderArena>(
     requires some { map step_view rest.now ≢ [] }
     requires way { IsWay (schema_around field.parent) (map step_view rest.now) way.now }
     ensures writes { OnOk result (WritesFieldWithin (words_in (A.segments arena.old))
-        (words_in (A.segments arena.new)) object field.entry (map step_view rest.now)
-        (action_view action.now)) }
+        (words_in (A.segments arena.new)) object field.entry (call_left rest.now action.now)) }
     ensures grows { BytesGrowAround (A.segments arena.old) (A.segments arena.new) object }
     ensures cause { IfErr result (λ e. WhereFieldDone (words_in (A.segments arena.old)) object
-        field.entry (map step_view rest.now) (action_view action.now)
-        (IsSizeOrRefusal A.refuses e)) }
+        field.entry (call_left rest.now action.now) (IsSizeOrRefusal A.refuses e)) }
     ensures books { A.books arena.new ≡ A.books arena.old }
 {
     // For the proof, which cites the record of the field's parent and what it says of the field.
@@ -197,12 +191,14 @@ fn write_value<A: BuilderArena>(
     requires known { is_type_of (nodes_of set.now) ty ≡ true }
     requires way { IsWay (schema_of (nodes_of set.now)) (map step_view path.now) way.now }
     ensures writes { WritesBehind (HoldsInside (ty_of ty) (option_copied default.entry))
-        (A.segments arena.old) (A.segments arena.new) slot (schema_in set.now) (ty_of ty)
-        (steps_in path.now) (action_view action.now) result }
+        (A.segments arena.old) (A.segments arena.new)
+        (record { slot = slot; around = schema_in set.now; ty = ty_of ty })
+        (call_left path.now action.now) result }
     ensures grows { BytesGrowBehind (A.segments arena.old) (A.segments arena.new) slot }
     ensures cause { FailsBehind (HoldsInside (ty_of ty) (option_copied default.entry))
-        (IsSizeOrRefusal A.refuses) (A.segments arena.old) slot (schema_in set.now) (ty_of ty)
-        (steps_in path.now) (action_view action.now) result }
+        (IsSizeOrRefusal A.refuses) (A.segments arena.old)
+        (record { slot = slot; around = schema_in set.now; ty = ty_of ty })
+        (call_left path.now action.now) result }
     ensures books { A.books arena.new ≡ A.books arena.old }
 {
     match ty.which() {
@@ -234,12 +230,14 @@ fn write_struct<A: BuilderArena>(
     requires named { starts_with_name (map step_view path.now) ≡ true }
     requires way { IsWay (schema_around schema) (map step_view path.now) way.now }
     ensures writes { WritesBehind (HoldsDefaultOrNull (option_copied default.entry))
-        (A.segments arena.old) (A.segments arena.new) slot (schema_around schema.entry)
-        (struct (id_of schema.entry)) (steps_in path.now) (action_view action.now) result }
+        (A.segments arena.old) (A.segments arena.new) (record
+        { slot = slot; around = schema_around schema.entry; ty = struct (id_of schema.entry) })
+        (call_left path.now action.now) result }
     ensures grows { BytesGrowBehind (A.segments arena.old) (A.segments arena.new) slot }
     ensures cause { FailsBehind (HoldsDefaultOrNull (option_copied default.entry))
-        (IsSizeOrRefusal A.refuses) (A.segments arena.old) slot (schema_around schema.entry)
-        (struct (id_of schema.entry)) (steps_in path.now) (action_view action.now) result }
+        (IsSizeOrRefusal A.refuses) (A.segments arena.old) (record
+        { slot = slot; around = schema_around schema.entry; ty = struct (id_of schema.entry) })
+        (call_left path.now action.now) result }
     ensures books { A.books arena.new ≡ A.books arena.old }
 {
     let inner = struct_or_default(arena, slot, struct_size(schema), default)?;
@@ -264,12 +262,14 @@ fn write_list<A: BuilderArena>(
     requires known { is_type_of (nodes_of set.now) element ≡ true }
     requires way { IsWay (schema_of (nodes_of set.now)) (map step_view path.now) way.now }
     ensures writes { WritesBehind (HoldsDefaultOrNull (option_copied default.entry))
-        (A.segments arena.old) (A.segments arena.new) slot (schema_in set.now)
-        (list (ty_of element)) (steps_in path.now) (action_view action.now) result }
+        (A.segments arena.old) (A.segments arena.new)
+        (record { slot = slot; around = schema_in set.now; ty = list (ty_of element) })
+        (call_left path.now action.now) result }
     ensures grows { BytesGrowBehind (A.segments arena.old) (A.segments arena.new) slot }
     ensures cause { FailsBehind (HoldsDefaultOrNull (option_copied default.entry))
-        (IsSizeOrRefusal A.refuses) (A.segments arena.old) slot (schema_in set.now)
-        (list (ty_of element)) (steps_in path.now) (action_view action.now) result }
+        (IsSizeOrRefusal A.refuses) (A.segments arena.old)
+        (record { slot = slot; around = schema_in set.now; ty = list (ty_of element) })
+        (call_left path.now action.now) result }
     ensures books { A.books arena.new ≡ A.books arena.old }
 {
     let Some((index, rest)) = first_index(path) else {
@@ -304,11 +304,13 @@ fn write_element<A: BuilderArena>(
     requires sizes { HoldsStructs (schema_of (nodes_of set.now)) list (ty_of ty) }
     requires known { is_type_of (nodes_of set.now) ty ≡ true }
     requires way { IsWay (schema_of (nodes_of set.now)) (map step_view rest.now) way.now }
-    ensures writes { OnOk result (WritesAtElement (A.segments arena.old) (A.segments arena.new) list
-        (schema_in set.now) (ty_of ty) index (steps_in rest.now) (action_view action.now)) }
+    ensures writes { OnOk result (WritesAtElement (A.segments arena.old) (A.segments arena.new)
+        (record { place = list; at = index; around = schema_in set.now; ty = ty_of ty })
+        (call_left rest.now action.now)) }
     ensures grows { BytesGrowIn (A.segments arena.old) (A.segments arena.new) list }
     ensures cause { IfErr result (FailsAtElement (IsSizeOrRefusal A.refuses) (A.segments arena.old)
-        list (schema_in set.now) (ty_of ty) index (steps_in rest.now) (action_view action.now)) }
+        (record { place = list; at = index; around = schema_in set.now; ty = ty_of ty })
+        (call_left rest.now action.now)) }
     ensures books { A.books arena.new ≡ A.books arena.old }
 {
     if rest.is_empty() {

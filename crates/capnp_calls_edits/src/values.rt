@@ -38,8 +38,8 @@ fn set_plain<A: BuilderArena>(
     requires there { IsThere (words_in (A.segments arena.old)) object }
     requires wide { HoldsShape object (shape_of_struct field.parent) }
     ensures writes { OnOk result (WritesField (words_in (A.segments arena.old))
-        (words_in (A.segments arena.new)) object field.entry []
-        (set_to (slot_value_view value.now))) }
+        (words_in (A.segments arena.new)) object field.entry
+        (record { path = []; verb = set_to (slot_value_view value.now) })) }
     ensures grows { Grows (words_in (A.segments arena.old)) (words_in (A.segments arena.new)) }
     ensures cause { is_single (slot_value_view value.now) ≡ true → IfErr result (λ e.
         WhereFieldTakes field.entry (set_to (slot_value_view value.now))
@@ -83,8 +83,8 @@ pub(crate) fn set_value<A: BuilderArena>(
     requires there { IsThere (words_in (A.segments arena.old)) object }
     requires wide { HoldsShape object (shape_of_struct field.parent) }
     ensures writes { OnOk result (WritesField (words_in (A.segments arena.old))
-        (words_in (A.segments arena.new)) object field.entry []
-        (set_to (slot_value_view value.now))) }
+        (words_in (A.segments arena.new)) object field.entry
+        (record { path = []; verb = set_to (slot_value_view value.now) })) }
     ensures grows { Grows (words_in (A.segments arena.old)) (words_in (A.segments arena.new)) }
     ensures cause { IfErr result (λ e. WhereFieldTakes field.entry
         (set_to (slot_value_view value.now)) (IsSizeOrRefusal A.refuses e)) }

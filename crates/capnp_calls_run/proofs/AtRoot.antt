@@ -70,7 +70,7 @@ module _ (values : ValueLaws) (s u : Segments) (few : words_of_segments s < 2 ^ 
       let is = struct_shape n u (place_view o.start) o.data_words o.pointers w object in
       record { changed = changed; now = now; section = is.0; kids = is.1; is = is.2; object = subst (OwnsObject n u (object_of_struct o)) is.2 object }
 
-  pub at_root : (v : Segments) (calls : List Call) (told : List Reply) → RunsAt u v o schema calls told → RunsRoot s v schema calls told
+  pub at_root : (v : Segments) (calls : List Call) (told : List Reply) → RunsAt u v (record { place = o; schema = schema }) calls told → RunsRoot s v schema calls told
   at_root v calls told runs n t most owns =
       let w : Tree = widened_root (shape_of_struct schema) t in
       let a = opened_at n t most owns in
@@ -86,7 +86,7 @@ module _ (values : ValueLaws) (s u : Segments) (few : words_of_segments s < 2 ^ 
       let a = opened_at n t most owns in
       subst (LongInTurn schema calls) (sym a.is) (long n a.section a.kids most a.object)
 
-  pub stops_at_root : (told : Error → Type 0) (v : Segments) (calls : List Call) (fault : RunFault) → StopsAt told u v o schema calls fault → StopsRoot told s v schema calls fault
+  pub stops_at_root : (told : Error → Type 0) (v : Segments) (calls : List Call) (fault : RunFault) → StopsAt told u v (record { place = o; schema = schema }) calls fault → StopsRoot told s v schema calls fault
   stops_at_root told v calls fault stops n t most owns =
       let w : Tree = widened_root (shape_of_struct schema) t in
       let a = opened_at n t most owns in

@@ -47,7 +47,7 @@ abbrev pub Again : Type 0
 Again = (n : ℕ) (s u v : Segments) (o : Object) (t w : Tree) → ReplacesObject n s u o t → ReplacesObject n u v o w → ReplacesObject n s v o w
 
 pub one_more : After → Again → (s u v : Segments) (p : StructPlace) (root : StructSchema) (before : List Call) (c : Call) (behind all : List Call) (told : List Reply) (x : Reply)
-    → SoFar s u p root before (c ∷ behind) all told → AnswersAt u v p root c x → SoFar s v p root (before ++ c ∷ []) behind all (told ++ x ∷ [])
+    → SoFar s u p root before (c ∷ behind) all told → AnswersAt u v (record { place = p; schema = root }) c x → SoFar s v p root (before ++ c ∷ []) behind all (told ++ x ∷ [])
 unfolding replies
 one_more after again s u v p root before c behind all told x so_far answers n section kids most owns =
     let sch = schema_around root in

@@ -32,17 +32,17 @@ stays_grown : (s : Segments) → Grows s s
 stays_grown s i xs at = (xs, at, omega arith)
 
 -- a struct that is owned is there
-pub fails_nowhere : (why : Error → Type 0) → (s : Segments) (p : StructPlace) (root : StructSchema) (c : Call) (fault : RunFault) → is_some (words_at s (place_view p.start) (p.data_words + p.pointers)) ≡ false → FailsAt why s s p root c fault
+pub fails_nowhere : (why : Error → Type 0) → (s : Segments) (p : StructPlace) (root : StructSchema) (c : Call) (fault : RunFault) → is_some (words_at s (place_view p.start) (p.data_words + p.pointers)) ≡ false → FailsAt why s s (record { place = p; schema = root }) c fault
 fails_nowhere why s p root c fault none n section kids most owns =
     let there = words n s (place_view p.start) p.data_words p.pointers section kids owns.means in
     absurd (cc (sym none ∙ ap is_some there.1))
 
 -- memory for a reply is refused
-pub fails_before : (why : Error → Type 0) → (s : Segments) (p : StructPlace) (root : StructSchema) (c : Call) (e : Error) → e.kind ≡ OutOfMemory → FailsAt why s s p root c (faults.Refused e)
+pub fails_before : (why : Error → Type 0) → (s : Segments) (p : StructPlace) (root : StructSchema) (c : Call) (e : Error) → e.kind ≡ OutOfMemory → FailsAt why s s (record { place = p; schema = root }) c (faults.Refused e)
 fails_before why s p root c e memory n section kids most owns = (stays_grown s, inl memory)
 
 -- a call that is done isn't written
-pub fails_written : (why : Error → Type 0) → (s u : Segments) (p : StructPlace) (root : StructSchema) (c : Call) (fault : RunFault) → TestsAt s p root c reply_done → GrowsAround s u p → (e : Error) → WhereDone s p root c.path c.verb (why e) → TellsWhy root c e fault → FailsAt why s u p root c fault
+pub fails_written : (why : Error → Type 0) → (s u : Segments) (p : StructPlace) (root : StructSchema) (c : Call) (fault : RunFault) → TestsAt s p root c reply_done → GrowsAround s u p → (e : Error) → WhereDone s p root c (why e) → TellsWhy root c e fault → FailsAt why s u (record { place = p; schema = root }) c fault
 fails_written why s u p root c faults.Size tests grows e cause tells n section kids most owns =
     (grows n section kids owns, record { is_done = told_done (schema_around root) (outcome root c p.data_words (record { section = section; kids = kids })) (tests n section kids most owns); is_long = tells })
 fails_written why s u p root c (faults.Refused x) tests grows e cause tells n section kids most owns =
@@ -52,7 +52,7 @@ fails_written why s u p root c (faults.Refused x) tests grows e cause tells n se
     (grows n section kids owns, inr (record { is_done = is_done; why = subst why (sym tells.0) (cause n section kids owns is); short = tells.1 }))
 
 -- what stands when the calls before had their effect, and memory for the replies is refused
-pub stops_behind : (why : Error → Type 0) → (s u : Segments) (p : StructPlace) (root : StructSchema) (before behind all : List Call) (told : List Reply) (e : Error) → all ≡ before ++ behind → e.kind ≡ OutOfMemory → SoFar s u p root before behind all told → StopsAt why s u p root all (faults.Refused e)
+pub stops_behind : (why : Error → Type 0) → (s u : Segments) (p : StructPlace) (root : StructSchema) (before behind all : List Call) (told : List Reply) (e : Error) → all ≡ before ++ behind → e.kind ≡ OutOfMemory → SoFar s u p root before behind all told → StopsAt why s u (record { place = p; schema = root }) all (faults.Refused e)
 stops_behind why s u p root before behind all told e split memory so_far n section kids most owns =
     let a = so_far n section kids most owns in record {
       before = before;
@@ -69,7 +69,7 @@ stops_behind why s u p root before behind all told e split memory so_far n secti
     by (c ∷ cs) t = inl memory
 
 -- and the next fails
-pub stops_next : (why : Error → Type 0) → After → (s u v : Segments) (p : StructPlace) (root : StructSchema) (before : List Call) (c : Call) (behind all : List Call) (told : List Reply) (fault : RunFault) → all ≡ before ++ c ∷ behind → SoFar s u p root before (c ∷ behind) all told → FailsAt why u v p root c fault → StopsAt why s v p root all fault
+pub stops_next : (why : Error → Type 0) → After → (s u v : Segments) (p : StructPlace) (root : StructSchema) (before : List Call) (c : Call) (behind all : List Call) (told : List Reply) (fault : RunFault) → all ≡ before ++ c ∷ behind → SoFar s u p root before (c ∷ behind) all told → FailsAt why u v (record { place = p; schema = root }) c fault → StopsAt why s v (record { place = p; schema = root }) all fault
 stops_next why after s u v p root before c behind all told fault split so_far fails n section kids most owns =
     let a = so_far n section kids most owns in
     let owned = after n s u (object_of_struct p) (structure p.data_words section kids) (structure p.data_words a.0 a.1) owns a.2 in
@@ -84,7 +84,7 @@ stops_next why after s u v p root before c behind all told fault split so_far fa
     }
 
 -- nothing is made before the ways are found
-pub stops_first : (why : Error → Type 0) → (s : Segments) (p : StructPlace) (root : StructSchema) (all : List Call) (e : Error) → e.kind ≡ OutOfMemory → StopsAt why s s p root all (faults.Refused e)
+pub stops_first : (why : Error → Type 0) → (s : Segments) (p : StructPlace) (root : StructSchema) (all : List Call) (e : Error) → e.kind ≡ OutOfMemory → StopsAt why s s (record { place = p; schema = root }) all (faults.Refused e)
 unfolding edits
 stops_first why s p root all e memory n section kids most owns = record {
   before = [];

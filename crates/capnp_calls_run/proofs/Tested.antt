@@ -61,7 +61,7 @@ module _ {A : Type 0} (laws : DepthLaws) (seg : A → List (List ℕ)) (bytes : 
       here rec (subst (λ w. IsRecord (schema_around root) (shape_of_struct root) w (record_as rec)) (sym is) stands)
 
 pub written : DepthLaws → After → (s u : Segments) → words_of_segments s < 2 ^ 29 → words_of_segments u < 2 ^ 29 → (p : StructPlace) (root : StructSchema) (c : Call) → HoldsShape p (shape_of_struct root)
-    → TestsAt s p root c reply_done → WritesPath s u p root c.path c.verb → AnswersAt s u p root c reply_done
+    → TestsAt s p root c reply_done → WritesPath s u p root c → AnswersAt s u (record { place = p; schema = root }) c reply_done
 written laws after s u few few_later p root c wide tests writes n section kids most owns =
     let cell : Cell = record { section = section; kids = kids } in
     let told = tests n section kids most owns in
@@ -76,7 +76,7 @@ written laws after s u few few_later p root c wide tests writes n section kids m
       record { replied = told; tree = edited root c p.data_words cell is wide.words (omega (arith, count, wide')) },
     )
 
-pub left_alone : (s : Segments) (p : StructPlace) (root : StructSchema) (c : Call) (told : Reply) → TestsAt s p root c told → (told ≡ reply_done → ⊥) → AnswersAt s s p root c told
+pub left_alone : (s : Segments) (p : StructPlace) (root : StructSchema) (c : Call) (told : Reply) → TestsAt s p root c told → (told ≡ reply_done → ⊥) → AnswersAt s s (record { place = p; schema = root }) c told
 left_alone s p root c told tests other n section kids most owns =
     let cell : Cell = record { section = section; kids = kids } in (
       structure p.data_words section kids,

@@ -18,11 +18,11 @@ pub record IsSameHandle {A : Type 0} (old new : Builder A) : Type 0 where
 module _ {A : Type 0} (bytes : A → List (List ℕ)) where
   -- The struct is answered, and edited.
   abbrev pub RunsBuilder : Builder A → Builder A → List Call → List Reply → Type 0
-  RunsBuilder old new calls told = RunsAt (words_around_struct bytes old) (words_around_struct bytes new) old.place old.schema calls told
+  RunsBuilder old new calls told = RunsAt (words_around_struct bytes old) (words_around_struct bytes new) (record { place = old.place; schema = old.schema }) calls told
 
   -- Why they stop there.
   abbrev pub StopsBuilder : (Error → Type 0) → Builder A → Builder A → List Call → RunFault → Type 0
-  StopsBuilder told old new calls fault = StopsAt told (words_around_struct bytes old) (words_around_struct bytes new) old.place old.schema calls fault
+  StopsBuilder told old new calls fault = StopsAt told (words_around_struct bytes old) (words_around_struct bytes new) (record { place = old.place; schema = old.schema }) calls fault
 
   -- One of them puts a list that is too long.
   abbrev pub EndsLongBuilder : Builder A → List Call → Type 0

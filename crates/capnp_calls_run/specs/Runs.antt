@@ -19,6 +19,7 @@ use Rattle.capnp_values_queries.specs.Structs.{schema_around, shape_of_struct, i
 use Rattle.capnp_values_queries.specs.declared.structs.StructSchema.{StructSchema}
 use Rattle.capnp_units.specs.declared.errors.Error.{Error}
 use Rattle.capnp_units.specs.declared.kinds.ErrorKind.TheVariants.{OutOfMemory, SizeOverflow}
+use Rattle.capnp_schema_structs.specs.declared.init.Part.{Part}
 use Rattle.capnp_copy_widening.specs.Widened.{WideStructRefused, IsStructOrNull}
 use Rattle.capnp_calls.specs.LongLists.{content_put, sets_message, PutsLong, LongInTurn}
 use Rattle.capnp_calls.specs.Sizes.{content_len, IsDone}
@@ -51,12 +52,12 @@ TestsAt s p schema c told =
     → told ≡ reply_of (schema_around schema) as_it_is (step (schema_around schema) (id_of schema) c (record_at schema (structure p.data_words section kids)))
 
 -- The struct at a place is answered, and edited.
-abbrev pub AnswersAt : Segments → Segments → StructPlace → StructSchema → Call → Reply → Type 0
-AnswersAt s u p schema c told = StructBecomes s u p (λ old new. AnswersCall schema c old new told)
+abbrev pub AnswersAt : Segments → Segments → Part → Call → Reply → Type 0
+AnswersAt s u x c told = StructBecomes s u x.place (λ old new. AnswersCall x.schema c old new told)
 
 -- The struct at a place is answered, and edited, by calls in turn.
-abbrev pub RunsAt : Segments → Segments → StructPlace → StructSchema → List Call → List Reply → Type 0
-RunsAt s u p schema calls told = StructBecomes s u p (λ old new. RunsAll schema calls old new told)
+abbrev pub RunsAt : Segments → Segments → Part → List Call → List Reply → Type 0
+RunsAt s u x calls told = StructBecomes s u x.place (λ old new. RunsAll x.schema calls old new told)
 
 -- Whatever value is owned at a message's root, a struct or null, becomes what the calls make of it,
 -- opened as a struct of at least the schema's sizes. Nothing else changes.
@@ -112,32 +113,38 @@ StopsBy told schema [] t (faults.Refused e) = e.kind ≡ OutOfMemory
 StopsBy told schema (c ∷ behind) t fault = FailsBy told schema c t fault
 
 -- The call fails, whatever struct is owned at the place; each segment of the message is still there, and no shorter.
-abbrev pub FailsAt : (Error → Type 0) → Segments → Segments → StructPlace → StructSchema → Call → RunFault → Type 0
-FailsAt told s u p schema c fault =
-    (n section : ℕ) (kids : Trees) → 2 ^ 29 ≤ n → OwnsObject n s (object_of_struct p) (structure p.data_words section kids)
-    → Grows s u × FailsBy told schema c (structure p.data_words section kids) fault
+abbrev pub FailsAt : (Error → Type 0) → Segments → Segments → Part → Call → RunFault → Type 0
+FailsAt told s u x c fault =
+    (n section : ℕ) (kids : Trees) → 2 ^ 29 ≤ n → OwnsObject n s (object_of_struct x.place) (structure x.place.data_words section kids)
+    → Grows s u × FailsBy told x.schema c (structure x.place.data_words section kids) fault
+
+-- A value that a message owns, in its words, so many levels deep.
+pub record ValueOwned : Type 0 where
+  pub words : Segments
+  pub levels : ℕ
+  pub tree : Tree
 
 -- Calls in turn that stop: some of them have their effect on a struct, and nothing else changed
 -- when they had. Then the next failed, and may have a part of its own.
-pub record Stops (told : Error → Type 0) (schema : StructSchema) (calls : List Call) (n : ℕ) (s u : Segments) (p : StructPlace) (old : Tree) (fault : RunFault) : Type 0 where
+pub record Stops (told : Error → Type 0) (x : Part) (calls : List Call) (old : ValueOwned) (u : Segments) (fault : RunFault) : Type 0 where
   pub before : List Call
   pub behind : List Call
   pub split : calls ≡ before ++ behind
   pub mid : Segments
-  pub made : ReplacesObject n s mid (object_of_struct p) (edits (schema_around schema) (id_of schema) before old)
+  pub made : ReplacesObject old.levels old.words mid (object_of_struct x.place) (edits (schema_around x.schema) (id_of x.schema) before old.tree)
   pub grows : Grows mid u
-  pub why : StopsBy told schema behind (edits (schema_around schema) (id_of schema) before old) fault
+  pub why : StopsBy told x.schema behind (edits (schema_around x.schema) (id_of x.schema) before old.tree) fault
 
 -- Calls in turn stop so at a message's root, whose value was opened as a struct of at least the
 -- schema's sizes.
-pub record StopsOpened (told : Error → Type 0) (schema : StructSchema) (calls : List Call) (n : ℕ) (s u : Segments) (old : Tree) (fault : RunFault) : Type 0 where
+pub record StopsOpened (told : Error → Type 0) (schema : StructSchema) (calls : List Call) (old : ValueOwned) (u : Segments) (fault : RunFault) : Type 0 where
   pub before : List Call
   pub behind : List Call
   pub split : calls ≡ before ++ behind
   pub mid : Segments
-  pub made : Replaces (suc n) s mid root (edits (schema_around schema) (id_of schema) before old)
+  pub made : Replaces (suc old.levels) old.words mid root (edits (schema_around schema) (id_of schema) before old.tree)
   pub grows : Grows mid u
-  pub why : StopsBy told schema behind (edits (schema_around schema) (id_of schema) before old) fault
+  pub why : StopsBy told schema behind (edits (schema_around schema) (id_of schema) before old.tree) fault
 
 -- The root isn't got as a struct of at least the schema's sizes, all stands, and `told` says why where a struct or null is there.
 abbrev pub RootRefused : (Error → Type 0) → Segments → Segments → StructSchema → RunFault → Type 0
@@ -149,10 +156,10 @@ RootRefused told s u schema (faults.Refused e) =
 abbrev pub StopsRoot : (Error → Type 0) → Segments → Segments → StructSchema → List Call → RunFault → Type 0
 StopsRoot told s u schema calls fault =
     (n : ℕ) (t : Tree) → 2 ^ 29 ≤ n → Owns (suc n) s root t
-    → RootRefused told s u schema fault ⊎ StopsOpened told schema calls n s u (widened_root (shape_of_struct schema) t) fault
+    → RootRefused told s u schema fault ⊎ StopsOpened told schema calls (record { words = s; levels = n; tree = widened_root (shape_of_struct schema) t }) u fault
 
 -- So it is with whatever struct is owned at the place.
-abbrev pub StopsAt : (Error → Type 0) → Segments → Segments → StructPlace → StructSchema → List Call → RunFault → Type 0
-StopsAt told s u p schema calls fault =
-    (n section : ℕ) (kids : Trees) → 2 ^ 29 ≤ n → OwnsObject n s (object_of_struct p) (structure p.data_words section kids)
-    → Stops told schema calls n s u p (structure p.data_words section kids) fault
+abbrev pub StopsAt : (Error → Type 0) → Segments → Segments → Part → List Call → RunFault → Type 0
+StopsAt told s u x calls fault =
+    (n section : ℕ) (kids : Trees) → 2 ^ 29 ≤ n → OwnsObject n s (object_of_struct x.place) (structure x.place.data_words section kids)
+    → Stops told x calls (record { words = s; levels = n; tree = structure x.place.data_words section kids }) u fault

@@ -104,9 +104,10 @@ fn answer<A: BuilderArena>(
     requires wide { HoldsShape object (shape_of_struct schema) }
     requires resolved { IsResolved schema call.now }
     ensures answer { IfOk result (λ r. BytesAnswerAt (A.segments arena.old) (A.segments arena.new)
-        object schema.entry (call_of call.now) (reply_view r)) }
+        (record { place = object; schema = schema.entry }) (call_of call.now) (reply_view r)) }
     ensures stops { IfErr result (BytesFailAt (IsSizeOrRefusal A.refuses) (A.segments arena.old)
-        (A.segments arena.new) object schema.entry (call_of call.now)) }
+        (A.segments arena.new) (record { place = object; schema = schema.entry })
+        (call_of call.now)) }
     ensures size { result ≡ Err RunFault.Size
         → BytesPutLongAt (A.segments arena.old) object schema.entry (call_of call.now) }
     ensures books { A.books arena.new ≡ A.books arena.old }
@@ -154,9 +155,11 @@ pub fn run_at<A: BuilderArena>(
     requires root { IsRoot schema }
     requires resolved { AreResolved schema calls.now }
     ensures all { IfOk result (λ told. BytesRunAt (A.segments arena.old) (A.segments arena.new)
-        object schema.entry (calls_of calls.now) (map reply_view told.items)) }
+        (record { place = object; schema = schema.entry }) (calls_of calls.now)
+        (map reply_view told.items)) }
     ensures stops { IfErr result (BytesStopAt (IsSizeOrRefusal A.refuses) (A.segments arena.old)
-        (A.segments arena.new) object schema.entry (calls_of calls.now)) }
+        (A.segments arena.new) (record { place = object; schema = schema.entry })
+        (calls_of calls.now)) }
     ensures size { result ≡ Err RunFault.Size
         → BytesEndLongAt (A.segments arena.old) object schema.entry (calls_of calls.now) }
     ensures books { A.books arena.new ≡ A.books arena.old }

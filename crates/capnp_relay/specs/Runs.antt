@@ -4,17 +4,16 @@ use Rattle.capnp_model.specs.Segments.{Segments}
 use Rattle.capnp_model.specs.Calls.{Call}
 use Rattle.capnp_units.specs.declared.errors.Error.{Error}
 use Rattle.capnp_units.specs.declared.kinds.ErrorKind.TheVariants.{SizeOverflow}
-use Rattle.capnp_copy_arenas.specs.declared.fields.StructPlace.{StructPlace}
-use Rattle.capnp_values_queries.specs.declared.structs.StructSchema.{StructSchema}
+use Rattle.capnp_schema_structs.specs.declared.init.Part.{Part}
 use Rattle.capnp_calls_run.specs.declared.fault.RunFault.TheVariants.{Size, Refused}
 use Rattle.capnp_calls_run.specs.Runs.{StopsAt, EndsLongAt}
 
 -- A call puts a list that is too long, and the calls before it are written.
-pub record StopsLongAt (told : Error → Type 0) (s u : Segments) (p : StructPlace) (schema : StructSchema) (calls : List Call) (e : Error) : Type 0 where
+pub record StopsLongAt (told : Error → Type 0) (s u : Segments) (x : Part) (calls : List Call) (e : Error) : Type 0 where
   pub kind : e.kind ≡ SizeOverflow
-  pub stops : StopsAt told s u p schema calls Size
-  pub long : EndsLongAt s p schema calls
+  pub stops : StopsAt told s u x calls Size
+  pub long : EndsLongAt s x.place x.schema calls
 
 -- The calls stop at a refusal, of which `told` says why, or at a list that is too long.
-abbrev pub CallsStopAt : (Error → Type 0) → Segments → Segments → StructPlace → StructSchema → List Call → Error → Type 0
-CallsStopAt told s u p schema calls e = StopsAt told s u p schema calls (Refused e) ⊎ StopsLongAt told s u p schema calls e
+abbrev pub CallsStopAt : (Error → Type 0) → Segments → Segments → Part → List Call → Error → Type 0
+CallsStopAt told s u x calls e = StopsAt told s u x calls (Refused e) ⊎ StopsLongAt told s u x calls e

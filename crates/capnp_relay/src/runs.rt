@@ -37,11 +37,12 @@ pub fn run<A: BuilderArena>(
     requires ready { IsReady A.segments root.old }
     requires root { IsRoot root.old.schema }
     ensures all { let words = words_around_struct A.segments in IfOk result (λ told.
-        RunsAt (words root.old) (words root.new) root.old.place root.old.schema
-        (map call_view calls.now) (map reply_view told.items)) }
+        RunsAt (words root.old) (words root.new)
+        (record { place = root.old.place; schema = root.old.schema }) (map call_view calls.now)
+        (map reply_view told.items)) }
     ensures ends { let words = words_around_struct A.segments in IfErr result
         (CallsStopAt (IsSizeOrRefusal A.refuses) (words root.old) (words root.new)
-        root.old.place root.old.schema (map call_view calls.now)) }
+        (record { place = root.old.place; schema = root.old.schema }) (map call_view calls.now)) }
     ensures handle { IsSameHandle root.old root.new }
     ensures books { A.books root.new.memory.now.arena ≡ A.books root.old.memory.now.arena }
 {

@@ -44,7 +44,7 @@ module _ (root : StructSchema) (calls : List Call) (s : Settings) (out_grows log
     same_id : v.root.id ≡ s.version.root.id
     same_id = same_some (subst (λ o. HasRootId o s.version.root.id) e s.same_root)
 
-    pub ran_beside : (result : Result Counts RelayFault) → RunsBetween (RelaysPausing ⊤) (renamings_of s.renamings) root newer calls s.options out_grows log_grows old new result → Ran (asked_of s) out_grows log_grows old new result
+    pub ran_beside : (result : Result Counts RelayFault) → RunsBetween (RelaysPausing ⊤) (record { versions = record { renamings = renamings_of s.renamings; older = root; newer = newer }; calls = calls; options = s.options }) (record { out = out_grows; log = log_grows }) old new result → Ran (asked_of s) out_grows log_grows old new result
     ran_beside result h = record { root = root; newer = Some newer; renamings = renamings_of s.renamings; calls = calls; options = s.options; asks = asks_beside root calls s nodes id same newer v e newer_nodes; may = (newer_id ∙ same_id ∙ sym id, h.may); relays = h.relays }
 
 -- ---- what was flushed

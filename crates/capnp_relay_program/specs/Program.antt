@@ -58,7 +58,8 @@ fault_behind (Ok counts) (Ok done) (Ok gone) = None
 -- The work of the relay, or of the one between two versions.
 abbrev pub work_beside : StructSchema → Option StructSchema → List Renaming → List Call → RelayOptions → Type 0 → Type 0 → LoopWork
 work_beside root None rs calls options out_grows log_grows = relay_work root calls options out_grows log_grows
-work_beside root (Some newer) rs calls options out_grows log_grows = between_work rs root newer calls options out_grows log_grows
+work_beside root (Some newer) rs calls options out_grows log_grows =
+    between_work (record { versions = record { renamings = rs; older = root; newer = newer }; calls = calls; options = options }) (record { out = out_grows; log = log_grows })
 
 -- The newer schema, if any, has a root of the same id and is compatible, and each call is admitted.
 abbrev pub MayRunBeside : StructSchema → Option StructSchema → List Renaming → List Call → Type 0

@@ -168,7 +168,7 @@ module _ (rs : List Renaming) (root newer_root : StructSchema) (calls : List Cal
           replied = subst (λ r. SameReplies U said (newer_replies r)) reads (same_renamed rs o (id_of root) T said (newer_replies (record_at newer_root u)) same);
         }
 
-    pub ReadsAsRenamed-of : (s : Segments) (a : Answer) → IsAnswerBy root T bounds s a → ReadsAsRenamed rs root newer_root T bounds s a
+    pub ReadsAsRenamed-of : (s : Segments) (a : Answer) → IsAnswerBy root T bounds s a → ReadsAsRenamed (record { renamings = rs; older = root; newer = newer_root }) T bounds s a
     ReadsAsRenamed-of s (written segments said) h = newer_makes s segments said h
     ReadsAsRenamed-of s refused_value h = tt
     ReadsAsRenamed-of s refused_root h = tt

@@ -86,7 +86,7 @@ module _ (rs : List Renaming) (root newer_root : StructSchema) (calls : List Cal
           replied = subst (λ r. SameReplies D said (newer_replies r)) reads (same_renamed rs o (id_of root) C said (newer_replies (record_at newer_root u)) same);
         }
 
-    pub plain_reads_as_renamed : (s : Segments) (a : Answer) → IsPlainAnswerBy root C bounds s a → ReadsAsRenamed rs root newer_root C bounds s a
+    pub plain_reads_as_renamed : (s : Segments) (a : Answer) → IsPlainAnswerBy root C bounds s a → ReadsAsRenamed (record { renamings = rs; older = root; newer = newer_root }) C bounds s a
     plain_reads_as_renamed s (written segments said) h = newer_makes s segments said h
     plain_reads_as_renamed s refused_value h = tt
     plain_reads_as_renamed s refused_root h = tt

@@ -1,13 +1,11 @@
 -- How a relay between two versions ends.
-use Rattle.std.specs.Prelude.{⊤, Bool, Some, List, [], map, Result, Ok, Err}
+use Rattle.std.specs.Prelude.{⊤, Some, List, map, Result, Ok, Err}
 use Rattle.capnp_model.specs.Segments.{Segments}
-use Rattle.capnp_model.specs.Calls.{Call as ModelCall}
 use Rattle.capnp_model.specs.Partners.{Renaming}
 use Rattle.capnp_model.specs.Answers.{Answer}
 use Rattle.capnp_values_queries.specs.declared.structs.StructSchema.{StructSchema}
 use Rattle.capnp_calls.specs.declared.call.Call.{Call}
 use Rattle.capnp_calls.specs.CallViews.{call_view}
-use Rattle.capnp_relay_streams.specs.Answers.{Bounds}
 use Rattle.capnp_calls_versions.specs.Ways.{IsFirstRefused}
 use Rattle.capnp_relay_loop.specs.declared.ends.Counts.{Counts}
 use Rattle.capnp_relay_loop.specs.declared.ends.RelayFault.{RelayFault}
@@ -19,17 +17,32 @@ use Rattle.capnp_relay_loop.specs.Streams.{Streams}
 use Rattle.capnp_relay_loop.specs.Pauses.{Moment, Pauses, PausesBeforeReads}
 use Rattle.capnp_relay_streams.specs.declared.between.BetweenFault.{BetweenFault}
 use Rattle.capnp_relay_streams.specs.declared.between.BetweenFault.TheVariants as fault
-use Rattle.capnp_relay_streams.specs.Newer.{AreCompatibleSchemas, is_admitted_between, MayRun, ReadsAsRenamed}
+use Rattle.capnp_relay_streams.specs.Newer.{AreCompatibleSchemas, is_admitted_between, MayRun, RootVersions, ReadsAsRenamed}
+
+-- What is asked of a relay between two versions: its calls, and what it keeps to.
+pub record BetweenAsked : Type 0 where
+  pub versions : RootVersions
+  pub calls : List Call
+  pub options : RelayOptions
+
+-- That by its parts, in the order of the record.
+abbrev pub between_asked : RootVersions → List Call → RelayOptions → BetweenAsked
+between_asked versions calls options = record { versions = versions; calls = calls; options = options }
+
+-- Whether the output and the log may want memory.
+pub record SinksGrow : Type 1 where
+  pub out : Type 0
+  pub log : Type 0
 
 -- The answer of the relay to a message, in the plain or the canonical form, which also reads under the newer schema.
-pub record IsAnswerBetween (plain : Bool) (rs : List Renaming) (root newer : StructSchema) (calls : List ModelCall) (bounds : Bounds) (s : Segments) (a : Answer) : Type 0 where
-  pub same : IsAnswerInForm plain root calls bounds s a
-  pub reads_newer : ReadsAsRenamed rs root newer calls bounds s a
+pub record IsAnswerBetween (x : BetweenAsked) (s : Segments) (a : Answer) : Type 0 where
+  pub same : IsAnswerInForm x.options.plain x.versions.older (map call_view x.calls) x.options.bounds s a
+  pub reads_newer : ReadsAsRenamed x.versions (map call_view x.calls) x.options.bounds s a
 
 -- The work of the relay, with such answers.
-abbrev pub between_work : List Renaming → StructSchema → StructSchema → List Call → RelayOptions → Type 0 → Type 0 → LoopWork
-between_work rs root newer calls options out_grows log_grows =
-    work (reader_of options.input) (writer_of options.output) (Some options.bounds.words) (IsAnswerBetween options.plain rs root newer (map call_view calls) options.bounds) (IsTooLargeIn options.plain root (map call_view calls) options.bounds) out_grows log_grows
+abbrev pub between_work : BetweenAsked → SinksGrow → LoopWork
+between_work x grows =
+    work (reader_of x.options.input) (writer_of x.options.output) (Some x.options.bounds.words) (IsAnswerBetween x) (IsTooLargeIn x.options.plain x.versions.older (map call_view x.calls) x.options.bounds) grows.out grows.log
 
 -- Why nothing is relayed: the schemas are not compatible, or they are and this call is the first that is not admitted.
 abbrev pub IsHeld : List Renaming → StructSchema → StructSchema → List Call → BetweenFault → Type 0
@@ -43,21 +56,21 @@ abbrev pub RunEffect : Type 1
 RunEffect = LoopWork → Streams → Streams → Result Counts RelayFault → Type 0
 
 -- A relay between two versions that ran, as it could.
-pub record RunsBetween (runs : RunEffect) (rs : List Renaming) (root newer : StructSchema) (calls : List Call) (options : RelayOptions) (out_grows log_grows : Type 0) (old new : Streams) (result : Result Counts RelayFault) : Type 0 where
-  pub may : MayRun rs root newer calls
-  pub relays : runs (between_work rs root newer calls options out_grows log_grows) old new result
+pub record RunsBetween (runs : RunEffect) (x : BetweenAsked) (grows : SinksGrow) (old new : Streams) (result : Result Counts RelayFault) : Type 0 where
+  pub may : MayRun x.versions.renamings x.versions.older x.versions.newer x.calls
+  pub relays : runs (between_work x grows) old new result
 
--- A relay between two versions with renamed fields: it ran, or was held.
-abbrev pub RelaysBetweenWith : RunEffect → List Renaming → StructSchema → StructSchema → List Call → RelayOptions → Type 0 → Type 0 → Streams → Streams → Result Counts BetweenFault → Type 0
-RelaysBetweenWith runs rs root newer calls options out_grows log_grows old new (Ok counts) = RunsBetween runs rs root newer calls options out_grows log_grows old new (Ok counts)
-RelaysBetweenWith runs rs root newer calls options out_grows log_grows old new (Err (fault.Relay e)) = RunsBetween runs rs root newer calls options out_grows log_grows old new (Err e)
-RelaysBetweenWith runs rs root newer calls options out_grows log_grows old new (Err fault.NotCompatible) = IsHeld rs root newer calls fault.NotCompatible
-RelaysBetweenWith runs rs root newer calls options out_grows log_grows old new (Err (fault.NotAdmitted n)) = IsHeld rs root newer calls (fault.NotAdmitted n)
-RelaysBetweenWith runs rs root newer calls options out_grows log_grows old new (Err fault.Memory) = IsHeld rs root newer calls fault.Memory
+-- It was held, and not run.
+abbrev pub IsHeldBetween : BetweenAsked → BetweenFault → Type 0
+IsHeldBetween x e = IsHeld x.versions.renamings x.versions.older x.versions.newer x.calls e
 
--- A relay between two versions where no field is renamed: it ran, or was held.
-abbrev pub RelaysBetween : RunEffect → StructSchema → StructSchema → List Call → RelayOptions → Type 0 → Type 0 → Streams → Streams → Result Counts BetweenFault → Type 0
-RelaysBetween runs root newer calls options out_grows log_grows old new result = RelaysBetweenWith runs [] root newer calls options out_grows log_grows old new result
+-- A relay between two versions: it ran, or was held.
+abbrev pub RelaysBetween : RunEffect → BetweenAsked → SinksGrow → Streams → Streams → Result Counts BetweenFault → Type 0
+RelaysBetween runs x grows old new (Ok counts) = RunsBetween runs x grows old new (Ok counts)
+RelaysBetween runs x grows old new (Err (fault.Relay e)) = RunsBetween runs x grows old new (Err e)
+RelaysBetween runs x grows old new (Err fault.NotCompatible) = IsHeldBetween x fault.NotCompatible
+RelaysBetween runs x grows old new (Err (fault.NotAdmitted n)) = IsHeldBetween x (fault.NotAdmitted n)
+RelaysBetween runs x grows old new (Err fault.Memory) = IsHeldBetween x fault.Memory
 
 -- Each read of a relay that ran stood right behind a pause.
 abbrev pub PausesBetween : {R W L : Type 0} → Pauses R W L → LoopWork → Moment R W L → Moment R W L → Result Counts BetweenFault → Type 0

@@ -50,6 +50,16 @@ ReadsAsNewer newer calls bounds s (written segments replies) =
     (t : Tree) → value_within (limits_view bounds) s ≡ Some t → IsInKind (schema_around newer) (id_of newer) calls t → NewerMakes newer calls bounds.nesting t segments replies
 ReadsAsNewer newer calls bounds s _ = ⊤
 
+-- An older and a newer version of a schema, each from its root on, and how fields are renamed.
+pub record RootVersions : Type 0 where
+  pub renamings : List Renaming
+  pub older : StructSchema
+  pub newer : StructSchema
+
+-- Those by their parts, in the order of the record.
+abbrev pub root_versions : List Renaming → StructSchema → StructSchema → RootVersions
+root_versions rs older newer = record { renamings = rs; older = older; newer = newer }
+
 -- So it is where fields are renamed too: the newer machine makes the calls in the newer's words.
-abbrev pub ReadsAsRenamed : List Renaming → StructSchema → StructSchema → List ModelCall → Bounds → Segments → Answer → Type 0
-ReadsAsRenamed rs root newer calls bounds s a = ReadsAsNewer newer (renamed_calls rs (schema_around root) (id_of root) calls) bounds s a
+abbrev pub ReadsAsRenamed : RootVersions → List ModelCall → Bounds → Segments → Answer → Type 0
+ReadsAsRenamed v calls bounds s a = ReadsAsNewer v.newer (renamed_calls v.renamings (schema_around v.older) (id_of v.older) calls) bounds s a

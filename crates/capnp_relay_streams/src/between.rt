@@ -1,5 +1,5 @@
 //! The relay between two versions of a schema.
-ghost use Rattle.std.specs.Prelude.{◌≡◌, ◌+◌, ◌*◌, map, length, replicate, IfOk, IfErr, OnOk};
+ghost use Rattle.std.specs.Prelude.{◌≡◌, ◌+◌, ◌*◌, [], map, length, replicate, IfOk, IfErr, OnOk};
 ghost use Rattle.capnp_calls.specs.CallViews.{call_view};
 ghost use Rattle.capnp_calls.specs.Roots.{IsRoot};
 ghost use Rattle.capnp_relay_loop.specs.Streams.{streams_of};
@@ -7,9 +7,9 @@ ghost use Rattle.capnp_relay_loop.specs.Run.{RunEndsAs};
 ghost use Rattle.capnp_relay_loop.specs.Pauses.{RelaysPausing, moment, pauses_of};
 ghost use Rattle.capnp_calls_versions.specs.Renamed.{renamings_of};
 ghost use Rattle.capnp_relay_answers.specs.RootCalls.{root_schema, root_calls};
-ghost use Rattle.capnp_relay_streams.specs.Newer.{MayRun};
+ghost use Rattle.capnp_relay_streams.specs.Newer.{MayRun, root_versions};
 ghost use Rattle.capnp_relay_streams.specs.Relaying.{relay_work};
-ghost use Rattle.capnp_relay_streams.specs.Ends.{IsHeld, RelaysBetween, RelaysBetweenWith, PausesBetween, IfRun, IfHeld};
+ghost use Rattle.capnp_relay_streams.specs.Ends.{IsHeld, between_asked, RelaysBetween, PausesBetween, IfRun, IfHeld};
 
 use crate::options::RelayOptions;
 use crate::relay::relay_calls;
@@ -100,7 +100,9 @@ pub fn relay_between<R: BufRead, W: Write, L: Write>(
     requires region { length region.old ≡ 8 * (options.bounds.words + 1) }
     requires root { IsRoot root }
     ensures run { let seen = streams_of ⟦<R as Read>⟧ ⟦<W as Write>⟧ ⟦<L as Write>⟧ in
-        RelaysBetween RunEndsAs root.entry newer.entry calls.now options W.may_grow L.may_grow
+        RelaysBetween RunEndsAs
+        (between_asked (root_versions [] root.entry newer.entry) calls.now options)
+        (record { out = W.may_grow; log = L.may_grow })
         (seen source.old out.old log.old) (seen source.new out.new log.new) result }
     ensures zeros { IfRun result (region.new ≡ replicate (length region.old) 0) }
     ensures untouched { IfHeld result ((source.new ≡ source.old) × (out.new ≡ out.old)
@@ -130,8 +132,10 @@ pub fn relay_between_with<R: BufRead, W: Write, L: Write>(
     requires region { length region.old ≡ 8 * (options.bounds.words + 1) }
     requires root { IsRoot root }
     ensures run { let seen = streams_of ⟦<R as Read>⟧ ⟦<W as Write>⟧ ⟦<L as Write>⟧ in
-        RelaysBetweenWith RunEndsAs (renamings_of renamings.now) root.entry newer.entry calls.now
-        options W.may_grow L.may_grow
+        RelaysBetween RunEndsAs
+        (between_asked (root_versions (renamings_of renamings.now) root.entry newer.entry)
+        calls.now options)
+        (record { out = W.may_grow; log = L.may_grow })
         (seen source.old out.old log.old) (seen source.new out.new log.new) result }
     ensures zeros { IfRun result (region.new ≡ replicate (length region.old) 0) }
     ensures untouched { IfHeld result ((source.new ≡ source.old) × (out.new ≡ out.old)
@@ -159,8 +163,10 @@ pub fn relay_between_pausing<R: BufRead, W: Write, L: Write, P: Pause<R, W, L>>(
 ) -> Result<Counts, BetweenFault>
     requires root { IsRoot root }
     ensures run { let seen = streams_of ⟦<R as Read>⟧ ⟦<W as Write>⟧ ⟦<L as Write>⟧ in
-        RelaysBetweenWith (RelaysPausing P.may_fail) (renamings_of renamings.now) root.entry
-        newer.entry calls.now options W.may_grow L.may_grow
+        RelaysBetween (RelaysPausing P.may_fail)
+        (between_asked (root_versions (renamings_of renamings.now) root.entry newer.entry)
+        calls.now options)
+        (record { out = W.may_grow; log = L.may_grow })
         (seen source.old out.old log.old) (seen source.new out.new log.new) result }
     ensures pauses { PausesBetween (pauses_of ⟦<R as Read>⟧ ⟦<W as Write>⟧ ⟦<L as Write>⟧ P.holds
         P.fails) (relay_work root.entry calls.now options W.may_grow L.may_grow)

@@ -153,8 +153,8 @@ module _ {A : Type 0} (bytes : A → List (List ℕ)) (v : Reader A) (ty : Ty) w
   pub given_flat : struct_given bytes v ty ≡ None → list_given bytes v ty ≡ None → are_capabilities ty && is_capability v ≡ false → element_given bytes v ty ≡ made (flat_element v ty)
   given_flat other none not = given_else other none ∙ ap (λ (b : Bool). made (made_element b v ty)) not
 
-  pub puts : (told : Error → Type 0) (old new : ArenaState) (o : ListPlace) (i : ℕ) (g : GivenElement) (r : Result ⊤ Error) → element_given bytes v ty ≡ g → PutsElementGiven told old new o (element_edit v ty) i g r → PutsElementGiven told old new o (element_edit v ty) i (element_given bytes v ty) r
-  puts told old new o i g r e h = subst (λ (x : GivenElement). PutsElementGiven told old new o (element_edit v ty) i x r) (sym e) h
+  pub puts : (told : Error → Type 0) (old new : ArenaState) (o : ListPlace) (i : ℕ) (g : GivenElement) (r : Result ⊤ Error) → element_given bytes v ty ≡ g → PutsElementGiven told old new (record { place = o; at = i; edit = element_edit v ty }) g r → PutsElementGiven told old new (record { place = o; at = i; edit = element_edit v ty }) (element_given bytes v ty) r
+  puts told old new o i g r e h = subst (λ (x : GivenElement). PutsElementGiven told old new (record { place = o; at = i; edit = element_edit v ty }) x r) (sym e) h
 
 pub leaves : (source : Option StructView) (s u : Segments) (r : Result ⊤ Error) → Grows s u → OnErr r (GrowsByZeros s u) → LeavesUnlessTaken source s u r
 leaves source s u r g h = record { grows = g; stands = λ _. h }

@@ -110,11 +110,11 @@ module _ {A : Type 0} (v : Reader A) where
 
   -- a text or data
   pub puts_blob : (ty : Ty) (bytes : List ℕ) → blob_given v ty ≡ Some bytes → (old new : ArenaState) (o : ListPlace) (i : ℕ) (r : Result ⊤ Error)
-      → OnOk r (PutsElementObject old new o (λ words pointers. put_child 0 (blob_tree bytes)) i (object_words (blob_tree bytes))) → IfErr r (NewObjectRefused old o.start.segment (blob_tree bytes)) → PutsElementContent old new o (element_edit v ty) i (flat_element v ty) r
+      → OnOk r (PutsElementObject old new o (λ words pointers. put_child 0 (blob_tree bytes)) i (object_words (blob_tree bytes))) → IfErr r (NewObjectRefused old o.start.segment (blob_tree bytes)) → PutsElementContent old new (record { place = o; at = i; edit = element_edit v ty }) (flat_element v ty) r
   puts_blob ty bytes e old new o i r made refused =
       let f : element_edit v ty ≡ (λ words pointers. put_child 0 (blob_tree bytes)) = edit_with ty (object (blob_tree bytes)) (content_some ty bytes e) ∙ child_edit ty bytes e in
       let as_edit = subst (λ g. OnOk r (PutsElementObject old new o g i (object_words (blob_tree bytes)))) (sym f) made in
-      subst (λ k. PutsElementContent old new o (element_edit v ty) i k r) (sym (content_some ty bytes e)) (as_edit, refused)
+      subst (λ k. PutsElementContent old new (record { place = o; at = i; edit = element_edit v ty }) k r) (sym (content_some ty bytes e)) (as_edit, refused)
 
   -- another value is no object
   no_object : (ty : Ty) (t : Tree) → single_element v ty ≡ object t → ⊥
@@ -132,7 +132,7 @@ module _ {A : Type 0} (v : Reader A) where
   no_object (list ty) t e = cc
 
   single_as : (ty : Ty) (k : Content) → single_element v ty ≡ k → (old new : ArenaState) (o : ListPlace) (f : ℕ → ℕ → Edit) (i : ℕ) (r : Result ⊤ Error) → seen (λ x. x) r ≡ answer_of k
-      → OnOk r (EditsElement (words_in old.segments) (words_in new.segments) o f i) → map length (words_in new.segments) ≡ map length (words_in old.segments) → PutsElementContent old new o f i k r
+      → OnOk r (EditsElement (words_in old.segments) (words_in new.segments) o f i) → map length (words_in new.segments) ≡ map length (words_in old.segments) → PutsElementContent old new (record { place = o; at = i; edit = f }) k r
   single_as ty (refused_by k) is old new o f i (Err e) a h sizes = a
   single_as ty (refused_by k) is old new o f i (Ok x) a h sizes = absurd cc
   single_as ty (bits_of n) is old new o f i (Ok x) a h sizes = (refl, record { writes = h; sizes = sizes })
@@ -140,12 +140,12 @@ module _ {A : Type 0} (v : Reader A) where
   single_as ty (object t) is old new o f i r a h sizes = absurd (no_object ty t is)
 
   pub puts_single : (ty : Ty) → blob_given v ty ≡ None → (old new : ArenaState) (o : ListPlace) (i : ℕ) (r : Result ⊤ Error) → seen (λ x. x) r ≡ answer_of (single_element v ty)
-      → OnOk r (EditsElement (words_in old.segments) (words_in new.segments) o (single_edit v ty) i) → map length (words_in new.segments) ≡ map length (words_in old.segments) → PutsElementContent old new o (element_edit v ty) i (flat_element v ty) r
+      → OnOk r (EditsElement (words_in old.segments) (words_in new.segments) o (single_edit v ty) i) → map length (words_in new.segments) ≡ map length (words_in old.segments) → PutsElementContent old new (record { place = o; at = i; edit = element_edit v ty }) (flat_element v ty) r
   puts_single ty none old new o i r a h sizes =
       let content = content_none ty none in
       let put = single_as ty (single_element v ty) refl old new o (single_edit v ty) i r a h sizes in
-      let as_edit = subst (λ g. PutsElementContent old new o g i (single_element v ty) r) (sym (edit_with ty (single_element v ty) content)) put in
-      subst (λ k. PutsElementContent old new o (element_edit v ty) i k r) (sym content) as_edit
+      let as_edit = subst (λ g. PutsElementContent old new (record { place = o; at = i; edit = g }) (single_element v ty) r) (sym (edit_with ty (single_element v ty) content)) put in
+      subst (λ k. PutsElementContent old new (record { place = o; at = i; edit = element_edit v ty }) k r) (sym content) as_edit
 
 -- ---- a single value is no object
 

@@ -67,9 +67,9 @@ last_step s n ty = refl
 
 module _ (s : Schema) (n : ℕ) (ty : Ty) (old new : ArenaState) (o : ListPlace) (i : ℕ) (r : Result ⊤ Error) where
   pub puts_new : (t : Tree) → object t ≡ slot_of s n ty → OnOk r (PutsElementObject old new o (λ words pointers. put_child 0 t) i (object_words t)) → IfErr r (NewObjectRefused old o.start.segment t)
-      → PutsElementContent old new o (edit_element s [] (initn n) ty) i (element_content s (initn n) ty) r
+      → PutsElementContent old new (record { place = o; at = i; edit = edit_element s [] (initn n) ty }) (element_content s (initn n) ty) r
   puts_new t e made refused =
       let content = same_content s n t ty e in
       let f : edit_element s [] (initn n) ty ≡ (λ words pointers. put_child 0 t) = last_step s n ty ∙ ap (λ k. λ words pointers. put_in_element words pointers ty k) content ∙ child_put s n t ty e in
       let as_edit = subst (λ g. OnOk r (PutsElementObject old new o g i (object_words t))) (sym f) made in
-      subst (λ k. PutsElementContent old new o (edit_element s [] (initn n) ty) i k r) (sym content) (as_edit, refused)
+      subst (λ k. PutsElementContent old new (record { place = o; at = i; edit = edit_element s [] (initn n) ty }) k r) (sym content) (as_edit, refused)

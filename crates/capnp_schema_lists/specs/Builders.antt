@@ -66,7 +66,7 @@ module _ {A : Type 0} (segments : A → List (List ℕ)) (room : A → List ℕ)
     pub place : new.place ≡ old.place
     pub set : new.set.now ≡ old.set.now
     pub element_type : new.element_type ≡ old.element_type
-    pub puts : PutsElementContent (state_of segments room books old.memory.now) (state_of segments room books new.memory.now) old.place f index content r
+    pub puts : PutsElementContent (state_of segments room books old.memory.now) (state_of segments room books new.memory.now) (record { place = old.place; at = index; edit = f }) content r
     pub cause : IfErr r (HasCause content told)
 
   -- What is given for a value is put into an element, by a handle that stays where it was; where memory lacks, `told` says of the error why.
@@ -75,4 +75,4 @@ module _ {A : Type 0} (segments : A → List (List ℕ)) (room : A → List ℕ)
     pub place : new.place ≡ old.place
     pub set : new.set.now ≡ old.set.now
     pub element_type : new.element_type ≡ old.element_type
-    pub puts : PutsElementGiven told (state_of segments room books old.memory.now) (state_of segments room books new.memory.now) old.place f index given r
+    pub puts : PutsElementGiven told (state_of segments room books old.memory.now) (state_of segments room books new.memory.now) (record { place = old.place; at = index; edit = f }) given r

@@ -1,11 +1,19 @@
 -- Where elements that are structs lie, and the pointers of elements. (Encoding, "Lists")
 use Rattle.std.specs.Prelude.{◌≡◌, ◌≢◌, ℕ, ◌+◌, ◌*◌}
+use Rattle.capnp_model.specs.Schemas.{Ty, Schema}
 use Rattle.capnp_model.specs.Segments.{after}
 use Rattle.capnp_units.specs.Sizes.{size_number}
 use Rattle.capnp_wire_objects.specs.Places.{place_view}
 use Rattle.capnp_wire_objects.specs.declared.place.Place as code
 use Rattle.capnp_copy_arenas.specs.declared.fields.StructPlace.{StructPlace}
 use Rattle.capnp_copy_arenas.specs.declared.init.ListPlace.{ListPlace}
+
+-- An element of a list that lies in a message: its index, and the schema and type by which it is read.
+pub record ElementAt : Type 0 where
+  pub place : ListPlace
+  pub at : ℕ
+  pub around : Schema
+  pub ty : Ty
 
 -- The struct is the element at an index of a list of structs, which lie behind the tag.
 pub record IsStructAt (o : ListPlace) (i : ℕ) (p : StructPlace) : Type 0 where

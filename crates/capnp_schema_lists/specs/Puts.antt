@@ -4,7 +4,6 @@ use Rattle.std.specs.Prelude.{◌≡◌, ⊤, ℕ, [], map, length, Result, Ok, 
 use Rattle.capnp_model.specs.Sizes.{object_words}
 use Rattle.capnp_model.specs.Calls.{Content, refused_by, bits_of, object, initn, element_content}
 use Rattle.capnp_model.specs.Edits.{Edit, put_child, edit_element}
-use Rattle.capnp_model.specs.Schemas.{Ty, Schema}
 use Rattle.capnp_model.specs.Trees.{Tree}
 use Rattle.capnp_units.specs.Segments.{words_in}
 use Rattle.capnp_units.specs.declared.errors.Error.{Error}
@@ -13,6 +12,7 @@ use Rattle.capnp_copy_arenas.specs.declared.init.ListPlace.{ListPlace}
 use Rattle.capnp_layout_builders.specs.Making.{ArenaState}
 use Rattle.capnp_schema_structs.specs.Puts.{answered, NewObjectRefused}
 use Rattle.capnp_schema_lists.specs.Lists.{EditsElement, DeepensElement}
+use Rattle.capnp_schema_lists.specs.Places.{ElementAt}
 
 -- An element becomes what the edit makes of it, with a new object of n words. It takes exactly
 -- these where the list's segment had room, else at most a pad's more.
@@ -30,14 +30,20 @@ pub record PutsElementBits (old new : ArenaState) (o : ListPlace) (f : ℕ → �
   pub writes : EditsElement (words_in old.segments) (words_in new.segments) o f index
   pub sizes : map length (words_in new.segments) ≡ map length (words_in old.segments)
 
+-- An element of a list that lies in a message, and what it is to become, by the sizes of its list.
+pub record ElementEdit : Type 0 where
+  pub place : ListPlace
+  pub at : ℕ
+  pub edit : ℕ → ℕ → Edit
+
 -- What is returned, and what the element becomes, by the content. What is refused by its type is
 -- exactly that. Bits are never refused, and take no memory. An object is refused only for want of
 -- it.
-abbrev pub PutsElementContent : ArenaState → ArenaState → ListPlace → (ℕ → ℕ → Edit) → ℕ → Content → Result ⊤ Error → Type 0
-PutsElementContent old new o f index (refused_by k) r = answered r ≡ Err k
-PutsElementContent old new o f index (bits_of n) r = (answered r ≡ Ok tt) × PutsElementBits old new o f index
-PutsElementContent old new o f index (object t) r = OnOk r (PutsElementObject old new o f index (object_words t)) × IfErr r (NewObjectRefused old o.start.segment t)
+abbrev pub PutsElementContent : ArenaState → ArenaState → ElementEdit → Content → Result ⊤ Error → Type 0
+PutsElementContent old new x (refused_by k) r = answered r ≡ Err k
+PutsElementContent old new x (bits_of n) r = (answered r ≡ Ok tt) × PutsElementBits old new x.place x.edit x.at
+PutsElementContent old new x (object t) r = OnOk r (PutsElementObject old new x.place x.edit x.at (object_words t)) × IfErr r (NewObjectRefused old x.place.start.segment t)
 
 -- What is returned where n zeros are put into an element of a type, and what it becomes.
-abbrev pub PutsElementZeros : ArenaState → ArenaState → ListPlace → Schema → Ty → ℕ → ℕ → Result ⊤ Error → Type 0
-PutsElementZeros old new o s ty index n = PutsElementContent old new o (edit_element s [] (initn n) ty) index (element_content s (initn n) ty)
+abbrev pub PutsElementZeros : ArenaState → ArenaState → ElementAt → ℕ → Result ⊤ Error → Type 0
+PutsElementZeros old new x n = PutsElementContent old new (record { place = x.place; at = x.at; edit = edit_element x.around [] (initn n) x.ty }) (element_content x.around (initn n) x.ty)

@@ -32,7 +32,7 @@ use Rattle.capnp_schema_structs.specs.Sources.{SourceView, source_given, PutsSou
 use Rattle.capnp_schema_structs.specs.Values.{is_capability, struct_given}
 use Rattle.capnp_schema_lists.specs.Lists.{IsListOf}
 use Rattle.capnp_schema_lists.specs.Elements.{flat_element}
-use Rattle.capnp_schema_lists.specs.Puts.{PutsElementContent}
+use Rattle.capnp_schema_lists.specs.Puts.{ElementEdit, PutsElementContent}
 
 -- What is put: content that is made, a copy behind the element's pointer, or the content of a struct that the element takes over.
 pub data GivenElement : Type 0 where
@@ -125,13 +125,13 @@ TakesStruct v s u o i old result new =
 
 -- What is returned, and what the element becomes, by what is put; copies are made under no limit of
 -- words. Where memory lacks, `told` says of the error why.
-abbrev pub PutsElementGiven : (Error → Type 0) → ArenaState → ArenaState → ListPlace → (ℕ → ℕ → Edit) → ℕ → GivenElement → Result ⊤ Error → Type 0
-PutsElementGiven told old new o f i (made k) r = PutsElementContent old new o f i k r × IfErr r (HasCause k told)
-PutsElementGiven told old new o f i (copied x) r =
+abbrev pub PutsElementGiven : (Error → Type 0) → ArenaState → ArenaState → ElementEdit → GivenElement → Result ⊤ Error → Type 0
+PutsElementGiven told old new x (made k) r = PutsElementContent old new x k r × IfErr r (HasCause k told)
+PutsElementGiven told old new x (copied v) r =
     let s = words_in old.segments in
     let u = words_in new.segments in
-    WithoutLimit (PutsSource x s u (λ n t. ElementWithin n s u o (λ words pointers. put_child 0 t) i)) r
-PutsElementGiven told old new o f i (taken v) r = WithoutLimit (TakesStruct v (words_in old.segments) (words_in new.segments) o i) r
+    WithoutLimit (PutsSource v s u (λ n t. ElementWithin n s u x.place (λ words pointers. put_child 0 t) x.at)) r
+PutsElementGiven told old new x (taken v) r = WithoutLimit (TakesStruct v (words_in old.segments) (words_in new.segments) x.place x.at) r
 
 -- ---- what is there later too
 

@@ -123,9 +123,10 @@ pub fn set_flat<A: BuilderArena, B>(
     requires there { IsListThere (words_in (A.segments arena.old)) list }
     requires holds { Holds list (ty_of ty) }
     requires index { index < list.count }
-    ensures puts { let at = state_in A.segments A.room A.books in
-        PutsElementContent (at arena.old) (at arena.new) list
-        (element_edit value.now (ty_of ty)) index (flat_element value.now (ty_of ty)) result }
+    ensures puts { let seen = state_in A.segments A.room A.books in
+        PutsElementContent (seen arena.old) (seen arena.new)
+        (record { place = list; at = index; edit = element_edit value.now (ty_of ty) })
+        (flat_element value.now (ty_of ty)) result }
     ensures cause { IfErr result (HasCause (flat_element value.now (ty_of ty))
         (IsSizeOrRefusal A.refuses)) }
     ensures refused { OnErr result (A.segments arena.new ≡ A.segments arena.old) }

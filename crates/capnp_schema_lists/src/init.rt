@@ -60,8 +60,10 @@ pub fn init_element<A: BuilderArena>(
     requires holds { Holds list (ty_of ty) }
     requires known { is_type_of (nodes_of set.now) ty ≡ true }
     requires index { index < list.count }
-    ensures puts { let at = state_in A.segments A.room A.books in PutsElementZeros (at arena.old)
-        (at arena.new) list (schema_in set.now) (ty_of ty) index size result }
+    ensures puts { let seen = state_in A.segments A.room A.books in
+        PutsElementZeros (seen arena.old) (seen arena.new)
+        (record { place = list; at = index; around = schema_in set.now; ty = ty_of ty }) size
+        result }
     ensures cause { IfErr result (HasCause (element_content (schema_in set.now) (initn size)
         (ty_of ty)) (IsSizeOrRefusal A.refuses)) }
     ensures refused { OnErr result (A.segments arena.new ≡ A.segments arena.old) }

@@ -153,9 +153,9 @@ pub fn set_value<A: BuilderArena, B: ReaderArena>(
     requires there { IsListThere (words_in (A.segments memory.old.arena)) list }
     requires holds { Holds list (ty_of ty) × AreStructs list (ty_of ty) }
     requires index { index < list.count }
-    ensures puts { let at = state_of A.segments A.room A.books in
-        PutsElementGiven (IsSizeOrRefusal A.refuses) (at memory.old) (at memory.new) list
-        (element_edit value.now (ty_of ty)) index
+    ensures puts { let seen = state_of A.segments A.room A.books in
+        PutsElementGiven (IsSizeOrRefusal A.refuses) (seen memory.old) (seen memory.new)
+        (record { place = list; at = index; edit = element_edit value.now (ty_of ty) })
         (element_given B.segments value.now (ty_of ty)) result }
     ensures leaves { LeavesUnlessTaken (struct_given B.segments value.now (ty_of ty))
         (words_in (A.segments memory.old.arena)) (words_in (A.segments memory.new.arena)) result }

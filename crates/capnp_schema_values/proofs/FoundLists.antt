@@ -116,12 +116,12 @@ lies s slot expected o near named (inr h) = h
 lies s slot expected o near named (inl h) = subst (IsWhole s) (null_place s slot expected o h.0 named) (empty_whole s slot expected 0 0 0 h.0 near)
 
 pub plain_placed : (around : Schema) (b : Base) (count : ℕ) (default : Option (List (List ℕ))) (s u : Segments) (slot : code.Place) (o : ListPlace) → let ty = lists_of count (ty_of_base b) in
-    struct_named ty ≡ None → slot.position + 1 < 2 ^ 61 → ListGot default s u slot (size_of ty) o → PlaceGot around ty default s u slot o
+    struct_named ty ≡ None → slot.position + 1 < 2 ^ 61 → ListGot default s u slot (size_of ty) o → PlaceGot (record { slot = slot; around = around; ty = ty; default = default }) s u o
 plain_placed around b count default s u slot o none near got =
     let ty = lists_of count (ty_of_base b) in
     let x = told u slot (size_of ty) o got.list in
     record {
-      got = subst (λ n. ElementsGot around ty n default s u slot o) (sym none) got;
+      got = subst (λ n. ElementsGot n (record { slot = slot; around = around; ty = ty; default = default }) s u o) (sym none) got;
       there = record { whole = lies u slot (size_of ty) o near got.list got.inside; counted = x.counted };
       holds = holds o b count none x.taken;
       sizes = holds_no_structs o around ty none;
@@ -155,7 +155,7 @@ structs_lie g default s u slot o near got = by got.list.given
         let b = h.2 in
         subst (IsWhole u) (sym (same_sizes o d k (omega (arith, a)) (omega (arith, b)))) h.3
 
-pub structs_placed : (around : Schema) (id : ℕ) (default : Option (List (List ℕ))) (s u : Segments) (slot : code.Place) (o : ListPlace) → slot.position + 1 < 2 ^ 61 → StructListGot default s u slot (size_of_shape (around.shape_of id)) o → PlaceGot around (struct id) default s u slot (sized (around.shape_of id) o)
+pub structs_placed : (around : Schema) (id : ℕ) (default : Option (List (List ℕ))) (s u : Segments) (slot : code.Place) (o : ListPlace) → slot.position + 1 < 2 ^ 61 → StructListGot default s u slot (size_of_shape (around.shape_of id)) o → PlaceGot (record { slot = slot; around = around; ty = struct id; default = default }) s u (sized (around.shape_of id) o)
 structs_placed around id default s u slot o near got =
     let g = around.shape_of id in
     let seven : size_number o.size ≡ 7 = ap size_number got.list.of_structs in

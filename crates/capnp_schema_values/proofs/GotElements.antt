@@ -26,11 +26,11 @@ use Rattle.capnp_schema_values.specs.Elements.{IsBehindGot, IsBehindNotGot, Gets
 
 -- behind an element's pointer
 module _ (around : Schema) (l : ListView) (s u : Segments) (o : ListPlace) (i : ℕ) (slot : code.Place) (is : IsElementPointer o i slot) where
-  behind : (ty : Ty) (r : Result Placed Error) → GetsValue around ty None s u slot r → IfOk r (IsBehindGot around ty s u o i) × IfErr r (IsBehindNotGot around ty s u o i)
+  behind : (ty : Ty) (r : Result Placed Error) → GetsValue ty (record { slot = slot; around = around; default = None }) s u r → IfOk r (IsBehindGot ty s u (record { place = o; at = i; around = around; ty = ty })) × IfErr r (IsBehindNotGot ty s u (record { place = o; at = i; around = around; ty = ty }))
   behind ty (Ok x) h = ((slot, is, h.0), tt)
   behind ty (Err e) h = (tt, (slot, is, h.1))
 
-  pub behind_got : (ty : Ty) → AreBehindPointers ty → (r : Result Placed Error) → GetsValue around ty None s u slot r → GetsElement around ty l s u o i r
+  pub behind_got : (ty : Ty) → AreBehindPointers ty → (r : Result Placed Error) → GetsValue ty (record { slot = slot; around = around; default = None }) s u r → GetsElement l s u (record { place = o; at = i; around = around; ty = ty }) r
   behind_got void b = absurd b
   behind_got (plain p) b = absurd b
   behind_got text b = behind text
@@ -52,7 +52,7 @@ behind_pointers o (struct id) b h = absurd b
 behind_pointers o (list ty) b h = h
 
 -- a plain element
-pub plain_got : (around : Schema) (ty : Ty) (l : ListView) (s : Segments) (o : ListPlace) (i : ℕ) (x : Placed) → IsPlainType ty → ((p : PlainType) → ty ≡ plain p → placed_shown x ≡ Some (number_shown around p (element_number l i (width p)))) → GetsElement around ty l s s o i (Ok x)
+pub plain_got : (around : Schema) (ty : Ty) (l : ListView) (s : Segments) (o : ListPlace) (i : ℕ) (x : Placed) → IsPlainType ty → ((p : PlainType) → ty ≡ plain p → placed_shown x ≡ Some (number_shown around p (element_number l i (width p)))) → GetsElement l s s (record { place = o; at = i; around = around; ty = ty }) (Ok x)
 plain_got around void l s o i x b h = absurd b
 plain_got around (plain p) l s o i x b h = ((refl, h p refl), tt)
 plain_got around text l s o i x b h = absurd b

@@ -20,14 +20,14 @@ use Rattle.capnp_schema_values.specs.Lists.{sized, PlaceGot}
 use Rattle.capnp_schema_values.proofs.FoundLists.{plain_placed, structs_placed}
 
 module _ (around : Schema) (ty : Ty) (schema : StructSchema) (named : Some (id_of schema) ≡ struct_named ty) (same : schema_around schema ≡ around) (default : Option (List (List ℕ))) (s u : Segments) (slot : code.Place) (size : StructSize) (is : size ≡ size_of_shape (shape_of_struct schema)) where
-  pub structs_got : (o : ListPlace) → slot.position + 1 < 2 ^ 61 → StructListGot default s u slot size o → PlaceGot around ty default s u slot (sized (shape_of_struct schema) o)
+  pub structs_got : (o : ListPlace) → slot.position + 1 < 2 ^ 61 → StructListGot default s u slot size o → PlaceGot (record { slot = slot; around = around; ty = ty; default = default }) s u (sized (shape_of_struct schema) o)
   structs_got o near got =
       let g = shape_of_struct schema in
       let first = structs_placed (schema_around schema) (id_of schema) default s u slot o near (subst (λ z. StructListGot default s u slot z o) is got) in
-      let second : PlaceGot around (struct (id_of schema)) default s u slot (sized g o) = subst (λ a. PlaceGot a (struct (id_of schema)) default s u slot (sized g o)) same first in
-      subst (λ t. PlaceGot around t default s u slot (sized g o)) (sym (type_is ty (id_of schema) (sym named))) second
+      let second : PlaceGot (record { slot = slot; around = around; ty = struct (id_of schema); default = default }) s u (sized g o) = subst (λ a. PlaceGot (record { slot = slot; around = a; ty = struct (id_of schema); default = default }) s u (sized g o)) same first in
+      subst (λ t. PlaceGot (record { slot = slot; around = around; ty = t; default = default }) s u (sized g o)) (sym (type_is ty (id_of schema) (sym named))) second
 
 module _ (around : Schema) (t : SchemaType) (none : struct_named (ty_of t) ≡ None) (default : Option (List (List ℕ))) (s u : Segments) (slot : code.Place) (expected : ElementSize) (is : expected ≡ size_of (ty_of t)) where
-  pub others_got : (r : Result ListPlace Error) → slot.position + 1 < 2 ^ 61 → IfOk r (ListGot default s u slot expected) → IfOk r (PlaceGot around (ty_of t) default s u slot)
+  pub others_got : (r : Result ListPlace Error) → slot.position + 1 < 2 ^ 61 → IfOk r (ListGot default s u slot expected) → IfOk r (PlaceGot (record { slot = slot; around = around; ty = ty_of t; default = default }) s u)
   others_got (Ok o) near got = plain_placed around t.base t.list_count default s u slot o none near (subst (λ z. ListGot default s u slot z o) is got)
   others_got (Err e) near got = tt

@@ -1,58 +1,58 @@
 -- Elements of lists that are got to be written. (Encoding, "Lists")
 use Rattle.std.specs.Prelude.{◌≡◌, ℕ, ℤ, List, Some, None, Result, IfOk, IfErr}
 use Rattle.capnp_model.specs.Segments.{Segments}
-use Rattle.capnp_model.specs.Schemas.{Ty, void, plain, text, blob, untyped, interface, struct, list, width, Schema}
+use Rattle.capnp_model.specs.Schemas.{Ty, void, plain, text, blob, untyped, interface, struct, list, width}
 use Rattle.capnp_units.specs.declared.errors.Error.{Error}
 use Rattle.capnp_wire_objects.specs.declared.place.Place as code
 use Rattle.capnp_units.specs.Segments.{words_in}
 use Rattle.capnp_wire.specs.Views.{ListView, element_number}
 use Rattle.capnp_wire.specs.Views.{list_at as view_at}
 use Rattle.capnp_copy_arenas.specs.Elements.{first_element}
-use Rattle.capnp_copy_arenas.specs.declared.init.ListPlace.{ListPlace}
 use Rattle.capnp_values_queries.specs.Structs.{schema_around, id_of}
 use Rattle.capnp_values.specs.Shown.{number_shown}
-use Rattle.capnp_schema_lists.specs.Places.{IsStructAt, IsElementPointer}
+use Rattle.capnp_schema_lists.specs.Places.{ElementAt, IsStructAt, IsElementPointer}
 use Rattle.capnp_schema_values.specs.declared.placed.Placed.{Placed}
 use Rattle.capnp_schema_values.specs.declared.placed.Placed.TheVariants as placed
 use Rattle.capnp_schema_values.specs.Plain.{placed_shown}
 use Rattle.capnp_schema_values.specs.Slots.{IsStruct, IsGot, IsNotGot}
 
 -- What lies behind the pointer of an element is got, without a default.
-abbrev pub IsBehindGot : Schema → Ty → Segments → Segments → ListPlace → ℕ → Placed → Type 0
-IsBehindGot around ty s u o i x = (slot : code.Place) × IsElementPointer o i slot × IsGot around ty None s u slot x
+abbrev pub IsBehindGot : Ty → Segments → Segments → ElementAt → Placed → Type 0
+IsBehindGot ty s u x v = (slot : code.Place) × IsElementPointer x.place x.at slot × IsGot ty (record { slot = slot; around = x.around; default = None }) s u v
 
-abbrev pub IsBehindNotGot : Schema → Ty → Segments → Segments → ListPlace → ℕ → Error → Type 0
-IsBehindNotGot around ty s u o i e = (slot : code.Place) × IsElementPointer o i slot × IsNotGot around ty None s u slot e
+abbrev pub IsBehindNotGot : Ty → Segments → Segments → ElementAt → Error → Type 0
+IsBehindNotGot ty s u x e = (slot : code.Place) × IsElementPointer x.place x.at slot × IsNotGot ty (record { slot = slot; around = x.around; default = None }) s u e
 
--- What an element is got as, of a list that readers see so. A plain one is got by the bits at its
--- front, a struct where it lies, any other behind its pointer. Only there something is written.
-abbrev pub IsElementGot : Schema → Ty → ListView → Segments → Segments → ListPlace → ℕ → Placed → Type 0
-IsElementGot around void l s u o i x = (u ≡ s) × (x ≡ placed.Void)
-IsElementGot around (plain p) l s u o i x = (u ≡ s) × (placed_shown x ≡ Some (number_shown around p (element_number l i (width p))))
-IsElementGot around (struct id) l s u o i x = (u ≡ s) × IsStruct (λ part. IsStructAt o i part.place × (schema_around part.schema ≡ around) × (id_of part.schema ≡ id)) x
-IsElementGot around text l s u o i x = IsBehindGot around text s u o i x
-IsElementGot around blob l s u o i x = IsBehindGot around blob s u o i x
-IsElementGot around untyped l s u o i x = IsBehindGot around untyped s u o i x
-IsElementGot around interface l s u o i x = IsBehindGot around interface s u o i x
-IsElementGot around (list ty) l s u o i x = IsBehindGot around (list ty) s u o i x
+-- What an element is got as by its type, of a list that readers see so. A plain one is got by the
+-- bits at its front, a struct where it lies, any other behind its pointer. Only there something is
+-- written.
+abbrev pub IsElementGot : Ty → ListView → Segments → Segments → ElementAt → Placed → Type 0
+IsElementGot void l s u x v = (u ≡ s) × (v ≡ placed.Void)
+IsElementGot (plain p) l s u x v = (u ≡ s) × (placed_shown v ≡ Some (number_shown x.around p (element_number l x.at (width p))))
+IsElementGot (struct id) l s u x v = (u ≡ s) × IsStruct (λ part. IsStructAt x.place x.at part.place × (schema_around part.schema ≡ x.around) × (id_of part.schema ≡ id)) v
+IsElementGot text l s u x v = IsBehindGot text s u x v
+IsElementGot blob l s u x v = IsBehindGot blob s u x v
+IsElementGot untyped l s u x v = IsBehindGot untyped s u x v
+IsElementGot interface l s u x v = IsBehindGot interface s u x v
+IsElementGot (list ty) l s u x v = IsBehindGot (list ty) s u x v
 
 -- Why it isn't got, and what stands then.
-abbrev pub IsElementNotGot : Schema → Ty → Segments → Segments → ListPlace → ℕ → Error → Type 0
-IsElementNotGot around void s u o i e = ⊥
-IsElementNotGot around (plain p) s u o i e = ⊥
-IsElementNotGot around (struct id) s u o i e = ⊥
-IsElementNotGot around text s u o i e = IsBehindNotGot around text s u o i e
-IsElementNotGot around blob s u o i e = IsBehindNotGot around blob s u o i e
-IsElementNotGot around untyped s u o i e = IsBehindNotGot around untyped s u o i e
-IsElementNotGot around interface s u o i e = IsBehindNotGot around interface s u o i e
-IsElementNotGot around (list ty) s u o i e = IsBehindNotGot around (list ty) s u o i e
+abbrev pub IsElementNotGot : Ty → Segments → Segments → ElementAt → Error → Type 0
+IsElementNotGot void s u x e = ⊥
+IsElementNotGot (plain p) s u x e = ⊥
+IsElementNotGot (struct id) s u x e = ⊥
+IsElementNotGot text s u x e = IsBehindNotGot text s u x e
+IsElementNotGot blob s u x e = IsBehindNotGot blob s u x e
+IsElementNotGot untyped s u x e = IsBehindNotGot untyped s u x e
+IsElementNotGot interface s u x e = IsBehindNotGot interface s u x e
+IsElementNotGot (list ty) s u x e = IsBehindNotGot (list ty) s u x e
 
 -- What a get of an element returns, and what it leaves.
-abbrev pub GetsElement : Schema → Ty → ListView → Segments → Segments → ListPlace → ℕ → Result Placed Error → Type 0
-GetsElement around ty l s u o i r = IfOk r (IsElementGot around ty l s u o i) × IfErr r (IsElementNotGot around ty s u o i)
+abbrev pub GetsElement : ListView → Segments → Segments → ElementAt → Result Placed Error → Type 0
+GetsElement l s u x r = IfOk r (IsElementGot x.ty l s u x) × IfErr r (IsElementNotGot x.ty s u x)
 
--- What a get of an element returns, and what it leaves, by what an arena holds before and then, of
--- a list at a place.
-abbrev pub GetsElementAt : {A : Type 0} → (A → List (List ℕ)) → (A → ℤ) → Schema → Ty → A → A → ListPlace → ℕ → Result Placed Error → Type 0
-GetsElementAt bytes nesting around ty old new o i r =
-    GetsElement around ty (view_at (bytes old) (nesting old) (first_element o) o.size o.count o.data_words o.pointers) (words_in (bytes old)) (words_in (bytes new)) o i r
+-- What a get of an element returns, and what it leaves, by what an arena holds before and then.
+abbrev pub GetsElementAt : {A : Type 0} → (A → List (List ℕ)) → (A → ℤ) → A → A → ElementAt → Result Placed Error → Type 0
+GetsElementAt bytes nesting old new x r =
+    let o = x.place in
+    GetsElement (view_at (bytes old) (nesting old) (first_element o) o.size o.count o.data_words o.pointers) (words_in (bytes old)) (words_in (bytes new)) x r

@@ -22,25 +22,31 @@ use Rattle.capnp_schema_values.specs.Slots.{IsStruct, IsGot, IsNotGot}
 abbrev pub IsSlotOf : StructPlace → ℕ → code.Place → Type 0
 IsSlotOf p i slot = place_view slot ≡ after (after (place_view p.start) p.data_words) i
 
--- What a field is got as, of a struct that readers see so. A plain one is got by its bits,
--- exclusive or those of its default; one behind a pointer as its type is got. A group is got as the
--- same struct under its own shape. Only behind pointers something is written.
-abbrev pub IsFieldGot : Schema → StructView → Segments → Segments → StructPlace → Body → Option Value → Placed → Type 0
-IsFieldGot around v s u p (void_slot j) d x = (u ≡ s) × (x ≡ placed.Void)
-IsFieldGot around v s u p (plain_slot q at n) d x = (u ≡ s) × (placed_shown x ≡ Some (number_shown around q (masked_bits v at (width q) n)))
-IsFieldGot around v s u p (pointer_slot i ty t) d x = (slot : code.Place) × IsSlotOf p i slot × IsGot around ty d s u slot x
-IsFieldGot around v s u p (group_slot g) d x = (u ≡ s) × IsStruct (λ part. (part.place ≡ p) × (schema_around part.schema ≡ around) × (shape_of_struct part.schema ≡ g)) x
+-- A struct that lies in a message: its place, how readers see it, and the schema around it.
+pub record StructRead : Type 0 where
+  pub place : StructPlace
+  pub seen : StructView
+  pub around : Schema
+
+-- What a field is got as by its body, of a struct. A plain one is got by its bits, exclusive or
+-- those of its default; one behind a pointer as its type is got. A group is got as the same struct
+-- under its own shape. Only behind pointers something is written.
+abbrev pub IsFieldGot : Body → Option Value → StructRead → Segments → Segments → Placed → Type 0
+IsFieldGot (void_slot j) d x s u v = (u ≡ s) × (v ≡ placed.Void)
+IsFieldGot (plain_slot q at n) d x s u v = (u ≡ s) × (placed_shown v ≡ Some (number_shown x.around q (masked_bits x.seen at (width q) n)))
+IsFieldGot (pointer_slot i ty t) d x s u v = (slot : code.Place) × IsSlotOf x.place i slot × IsGot ty (record { slot = slot; around = x.around; default = d }) s u v
+IsFieldGot (group_slot g) d x s u v = (u ≡ s) × IsStruct (λ part. (part.place ≡ x.place) × (schema_around part.schema ≡ x.around) × (shape_of_struct part.schema ≡ g)) v
 
 -- Why it isn't got, and what stands then: only what lies behind pointers is refused.
-abbrev pub IsFieldNotGot : Schema → Segments → Segments → StructPlace → Body → Option Value → Error → Type 0
-IsFieldNotGot around s u p (void_slot j) d e = ⊥
-IsFieldNotGot around s u p (plain_slot q at n) d e = ⊥
-IsFieldNotGot around s u p (pointer_slot i ty t) d e = (slot : code.Place) × IsSlotOf p i slot × IsNotGot around ty d s u slot e
-IsFieldNotGot around s u p (group_slot g) d e = ⊥
+abbrev pub IsFieldNotGot : Body → Option Value → StructRead → Segments → Segments → Error → Type 0
+IsFieldNotGot (void_slot j) d x s u e = ⊥
+IsFieldNotGot (plain_slot q at n) d x s u e = ⊥
+IsFieldNotGot (pointer_slot i ty t) d x s u e = (slot : code.Place) × IsSlotOf x.place i slot × IsNotGot ty (record { slot = slot; around = x.around; default = d }) s u e
+IsFieldNotGot (group_slot g) d x s u e = ⊥
 
 -- What a get of a field returns, and what it leaves, by what its node says of it.
 pub record GetsField (v : StructView) (s u : Segments) (p : StructPlace) (f : Field) (r : Result Placed Error) : Type 0 where
   pub said : FieldNode
   pub is : IsFieldRecord f.parent f.index said
-  pub got : IfOk r (IsFieldGot (schema_around f.parent) v s u p (field_body (schema_around f.parent).shape_of said.kind) (default_said said.kind))
-  pub refused : IfErr r (IsFieldNotGot (schema_around f.parent) s u p (field_body (schema_around f.parent).shape_of said.kind) (default_said said.kind))
+  pub got : IfOk r (IsFieldGot (field_body (schema_around f.parent).shape_of said.kind) (default_said said.kind) (record { place = p; seen = v; around = schema_around f.parent }) s u)
+  pub refused : IfErr r (IsFieldNotGot (field_body (schema_around f.parent).shape_of said.kind) (default_said said.kind) (record { place = p; seen = v; around = schema_around f.parent }) s u)

@@ -25,30 +25,41 @@ sized g o = record o { data_words = max o.data_words (words_of_shape g); pointer
 abbrev pub ShapedStructsGot : Shape → Option (List (List ℕ)) → Segments → Segments → code.Place → ListPlace → Type 0
 ShapedStructsGot g default s u slot o = (found : ListPlace) × (o ≡ sized g found) × StructListGot default s u slot (size_of_shape g) found
 
--- A list of elements of a type is got: of structs as such, any other as it lies.
-abbrev pub ElementsGot : Schema → Ty → Option ℕ → Option (List (List ℕ)) → Segments → Segments → code.Place → ListPlace → Type 0
-ElementsGot around ty (Some id) default s u slot o = ShapedStructsGot (around.shape_of id) default s u slot o
-ElementsGot around ty None default s u slot o = ListGot default s u slot (size_of ty) o
+-- A pointer's slot, the schema and type by which the elements of its list are read, and the words of its default.
+pub record ListRead : Type 0 where
+  pub slot : code.Place
+  pub around : Schema
+  pub ty : Ty
+  pub default : Option (List (List ℕ))
+
+-- That by its parts, in the order of the record.
+abbrev pub list_read : code.Place → Schema → Ty → Option (List (List ℕ)) → ListRead
+list_read slot around ty default = record { slot = slot; around = around; ty = ty; default = default }
+
+-- A list of elements of a type is got: of structs, whose id is told, as such, any other as it lies.
+abbrev pub ElementsGot : Option ℕ → ListRead → Segments → Segments → ListPlace → Type 0
+ElementsGot (Some id) x s u o = ShapedStructsGot (x.around.shape_of id) x.default s u x.slot o
+ElementsGot None x s u o = ListGot x.default s u x.slot (size_of x.ty) o
 
 -- It lies in the message, with elements of its type; those that are structs aren't bits.
-pub record PlaceGot (around : Schema) (ty : Ty) (default : Option (List (List ℕ))) (s u : Segments) (slot : code.Place) (o : ListPlace) : Type 0 where
-  pub got : ElementsGot around ty (struct_named ty) default s u slot o
+pub record PlaceGot (x : ListRead) (s u : Segments) (o : ListPlace) : Type 0 where
+  pub got : ElementsGot (struct_named x.ty) x s u o
   pub there : IsListThere u o
-  pub holds : Holds o ty
-  pub sizes : HoldsStructs around o ty
-  pub bytewise : IsBytewise o ty
+  pub holds : Holds o x.ty
+  pub sizes : HoldsStructs x.around o x.ty
+  pub bytewise : IsBytewise o x.ty
 
 -- It lies in the message, with elements of its type, which is told with the set that it is of.
-pub record ListPartGot (around : Schema) (ty : Ty) (default : Option (List (List ℕ))) (s u : Segments) (slot : code.Place) (part : ListPart) : Type 0 where
-  pub place : PlaceGot around ty default s u slot part.place
-  pub set : schema_of (nodes_of part.set.now) ≡ around
-  pub type_is : ty_of part.element_type ≡ ty
+pub record ListPartGot (x : ListRead) (s u : Segments) (part : ListPart) : Type 0 where
+  pub place : PlaceGot x s u part.place
+  pub set : schema_of (nodes_of part.set.now) ≡ x.around
+  pub type_is : ty_of part.element_type ≡ x.ty
   pub known : is_type_of (nodes_of part.set.now) part.element_type ≡ true
 
 -- Why it isn't given, and what stands then.
-abbrev pub NoElementsGot : Schema → Ty → Option ℕ → Option (List (List ℕ)) → Segments → Segments → code.Place → Error → Type 0
-NoElementsGot around ty (Some id) default s u slot = NoStructListGot default s u slot (size_of_shape (around.shape_of id))
-NoElementsGot around ty None default s u slot = NoListGot default s u slot (size_of ty)
+abbrev pub NoElementsGot : Option ℕ → ListRead → Segments → Segments → Error → Type 0
+NoElementsGot (Some id) x s u = NoStructListGot x.default s u x.slot (size_of_shape (x.around.shape_of id))
+NoElementsGot None x s u = NoListGot x.default s u x.slot (size_of x.ty)
 
-abbrev pub NoListPartGot : Schema → Ty → Option (List (List ℕ)) → Segments → Segments → code.Place → Error → Type 0
-NoListPartGot around ty = NoElementsGot around ty (struct_named ty)
+abbrev pub NoListPartGot : ListRead → Segments → Segments → Error → Type 0
+NoListPartGot x = NoElementsGot (struct_named x.ty) x

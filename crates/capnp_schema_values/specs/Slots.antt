@@ -40,31 +40,41 @@ IsCapability _ = ⊥
 
 -- ---- behind a pointer
 
+-- A pointer's slot, the schema by which its type is read, and its default.
+pub record SlotRead : Type 0 where
+  pub slot : code.Place
+  pub around : Schema
+  pub default : Option Value
+
+-- That by its parts, in the order of the record.
+abbrev pub slot_read : code.Place → Schema → Option Value → SlotRead
+slot_read slot around default = record { slot = slot; around = around; default = default }
+
 -- What is got behind a pointer of a type, and what is written. A null pointer gets the default;
 -- where there is none a struct of zeros and nulls, and any other stays null. A struct or a list of
 -- structs is widened to its schema's sizes. Of untyped pointers and capabilities nothing is
 -- written.
-abbrev pub IsGot : Schema → Ty → Option Value → Segments → Segments → code.Place → Placed → Type 0
-IsGot around void d s u slot v = (u ≡ s) × (v ≡ placed.Void)
-IsGot around (plain p) d s u slot v = (u ≡ s) × (v ≡ placed.Void)
-IsGot around text d s u slot v = IsText (TextBytesGot (default_bytes d) s u slot) v
-IsGot around blob d s u slot v = IsData (DataBytesGot (default_bytes d) s u slot) v
-IsGot around untyped d s u slot v = (u ≡ s) × (v ≡ placed.AnyPointer slot)
-IsGot around interface d s u slot v = (u ≡ s) × IsCapability v
-IsGot around (struct id) d s u slot v = IsStruct (λ part. (schema_around part.schema ≡ around) × (id_of part.schema ≡ id) × PartGot (default_words d) s u slot part.schema part) v
-IsGot around (list ty) d s u slot v = IsList (ListPartGot around ty (default_words d) s u slot) v
+abbrev pub IsGot : Ty → SlotRead → Segments → Segments → Placed → Type 0
+IsGot void x s u v = (u ≡ s) × (v ≡ placed.Void)
+IsGot (plain p) x s u v = (u ≡ s) × (v ≡ placed.Void)
+IsGot text x s u v = IsText (TextBytesGot (default_bytes x.default) s u x.slot) v
+IsGot blob x s u v = IsData (DataBytesGot (default_bytes x.default) s u x.slot) v
+IsGot untyped x s u v = (u ≡ s) × (v ≡ placed.AnyPointer x.slot)
+IsGot interface x s u v = (u ≡ s) × IsCapability v
+IsGot (struct id) x s u v = IsStruct (λ part. (schema_around part.schema ≡ x.around) × (id_of part.schema ≡ id) × PartGot (default_words x.default) s u x.slot part.schema part) v
+IsGot (list ty) x s u v = IsList (ListPartGot (record { slot = x.slot; around = x.around; ty = ty; default = default_words x.default }) s u) v
 
 -- Why it isn't got, and what stands then.
-abbrev pub IsNotGot : Schema → Ty → Option Value → Segments → Segments → code.Place → Error → Type 0
-IsNotGot around void d s u slot e = ⊥
-IsNotGot around (plain p) d s u slot e = ⊥
-IsNotGot around text d s u slot e = NoTextBytesGot (default_bytes d) s u slot e
-IsNotGot around blob d s u slot e = NoDataBytesGot (default_bytes d) s u slot e
-IsNotGot around untyped d s u slot e = ⊥
-IsNotGot around interface d s u slot e = ⊥
-IsNotGot around (struct id) d s u slot e = NoPartGot (default_words d) s u slot (around.shape_of id) e
-IsNotGot around (list ty) d s u slot e = NoListPartGot around ty (default_words d) s u slot e
+abbrev pub IsNotGot : Ty → SlotRead → Segments → Segments → Error → Type 0
+IsNotGot void x s u e = ⊥
+IsNotGot (plain p) x s u e = ⊥
+IsNotGot text x s u e = NoTextBytesGot (default_bytes x.default) s u x.slot e
+IsNotGot blob x s u e = NoDataBytesGot (default_bytes x.default) s u x.slot e
+IsNotGot untyped x s u e = ⊥
+IsNotGot interface x s u e = ⊥
+IsNotGot (struct id) x s u e = NoPartGot (default_words x.default) s u x.slot (x.around.shape_of id) e
+IsNotGot (list ty) x s u e = NoListPartGot (record { slot = x.slot; around = x.around; ty = ty; default = default_words x.default }) s u e
 
 -- What a get returns, and what it leaves.
-abbrev pub GetsValue : Schema → Ty → Option Value → Segments → Segments → code.Place → Result Placed Error → Type 0
-GetsValue around ty d s u slot r = IfOk r (IsGot around ty d s u slot) × IfErr r (IsNotGot around ty d s u slot)
+abbrev pub GetsValue : Ty → SlotRead → Segments → Segments → Result Placed Error → Type 0
+GetsValue ty x s u r = IfOk r (IsGot ty x s u) × IfErr r (IsNotGot ty x s u)

@@ -109,8 +109,9 @@ pub fn get_element<'a, A: BuilderArena>(
     requires holds { Holds list (ty_of ty) }
     requires sizes { HoldsStructs (schema_of (nodes_of set.now)) list (ty_of ty) }
     requires known { is_type_of (nodes_of set.now) ty ≡ true }
-    ensures gets { GetsElementAt A.segments A.nesting (schema_of (nodes_of set.now)) (ty_of ty)
-        memory.old.arena memory.new.arena list index result }
+    ensures gets { GetsElementAt A.segments A.nesting memory.old.arena memory.new.arena
+        (record { place = list; at = index; around = schema_of (nodes_of set.now); ty = ty_of ty })
+        result }
     ensures there { IfOk result (IsPlaced (words_in (A.segments memory.new.arena))) }
     ensures grows { GrowsIn (words_in (A.segments memory.old.arena))
         (words_in (A.segments memory.new.arena)) list }

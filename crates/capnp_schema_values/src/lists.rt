@@ -13,7 +13,7 @@ ghost use Rattle.capnp_values_queries.specs.Structs.{shape_of_struct};
 ghost use Rattle.capnp_values_queries.specs.Types.{ty_of, is_type_of};
 ghost use Rattle.capnp_schema_structs.specs.Defaults.{default_words};
 ghost use Rattle.capnp_schema_structs.specs.Grown.{GrowsBehind};
-ghost use Rattle.capnp_schema_values.specs.Lists.{sized, PlaceGot, ListPartGot, NoListPartGot};
+ghost use Rattle.capnp_schema_values.specs.Lists.{list_read, sized, PlaceGot, ListPartGot, NoListPartGot};
 
 use crate::placed::ListPart;
 use capnp_copy_arenas::arena::{BuilderArena, Memory};
@@ -101,12 +101,12 @@ fn place_of<A: BuilderArena>(
     requires there { HasWords (A.segments memory.old.arena) slot 1 }
     requires near { slot.position + 1 < 2 ^ 61 }
     requires known { is_type_of (nodes_of set.now) element_type ≡ true }
-    ensures got { IfOk result (PlaceGot (schema_of (nodes_of set.now)) (ty_of element_type)
-        (option_copied default.entry) (words_in (A.segments memory.old.arena))
-        (words_in (A.segments memory.new.arena)) slot) }
-    ensures refused { IfErr result (NoListPartGot (schema_of (nodes_of set.now))
-        (ty_of element_type) (option_copied default.entry)
-        (words_in (A.segments memory.old.arena)) (words_in (A.segments memory.new.arena)) slot) }
+    ensures got { IfOk result (PlaceGot (list_read slot (schema_of (nodes_of set.now))
+        (ty_of element_type) (option_copied default.entry))
+        (words_in (A.segments memory.old.arena)) (words_in (A.segments memory.new.arena))) }
+    ensures refused { IfErr result (NoListPartGot (list_read slot (schema_of (nodes_of set.now))
+        (ty_of element_type) (option_copied default.entry))
+        (words_in (A.segments memory.old.arena)) (words_in (A.segments memory.new.arena))) }
     ensures grows { GrowsBehind (words_in (A.segments memory.old.arena))
         (words_in (A.segments memory.new.arena)) (place_view slot) }
     ensures books { A.books memory.new.arena ≡ A.books memory.old.arena }
@@ -136,12 +136,12 @@ pub fn list_slot<'a, A: BuilderArena>(
     requires there { HasWords (A.segments memory.old.arena) slot 1 }
     requires near { slot.position + 1 < 2 ^ 61 }
     requires known { is_type_of (nodes_of set.now) element_type ≡ true }
-    ensures got { IfOk result (ListPartGot (schema_of (nodes_of set.now)) (ty_of element_type)
-        (default_words (option_map value_of (option_copied default.entry)))
-        (words_in (A.segments memory.old.arena)) (words_in (A.segments memory.new.arena)) slot) }
-    ensures refused { IfErr result (NoListPartGot (schema_of (nodes_of set.now))
-        (ty_of element_type) (default_words (option_map value_of (option_copied default.entry)))
-        (words_in (A.segments memory.old.arena)) (words_in (A.segments memory.new.arena)) slot) }
+    ensures got { IfOk result (ListPartGot (list_read slot (schema_of (nodes_of set.now))
+        (ty_of element_type) (default_words (option_map value_of (option_copied default.entry))))
+        (words_in (A.segments memory.old.arena)) (words_in (A.segments memory.new.arena))) }
+    ensures refused { IfErr result (NoListPartGot (list_read slot (schema_of (nodes_of set.now))
+        (ty_of element_type) (default_words (option_map value_of (option_copied default.entry))))
+        (words_in (A.segments memory.old.arena)) (words_in (A.segments memory.new.arena))) }
     ensures grows { GrowsBehind (words_in (A.segments memory.old.arena))
         (words_in (A.segments memory.new.arena)) (place_view slot) }
     ensures books { A.books memory.new.arena ≡ A.books memory.old.arena }

@@ -9,7 +9,7 @@ ghost use Rattle.capnp_records.specs.Sets.{nodes_of};
 ghost use Rattle.capnp_values_queries.specs.Types.{ty_of, is_type_of};
 ghost use Rattle.capnp_schema_values.specs.Built.{IsPlaced};
 ghost use Rattle.capnp_schema_structs.specs.Grown.{GrowsBehind};
-ghost use Rattle.capnp_schema_values.specs.Slots.{GetsValue};
+ghost use Rattle.capnp_schema_values.specs.Slots.{slot_read, GetsValue};
 
 use crate::blobs::{data_slot, text_slot};
 use crate::lists::list_slot;
@@ -41,9 +41,9 @@ pub fn get_slot<'a, A: BuilderArena>(
     requires there { HasWords (A.segments memory.old.arena) slot 1 }
     requires near { slot.position + 1 < 2 ^ 61 }
     requires known { is_type_of (nodes_of set.now) ty ≡ true }
-    ensures gets { GetsValue (schema_of (nodes_of set.now)) (ty_of ty)
-        (option_map value_of (option_copied default.entry)) (words_in (A.segments memory.old.arena))
-        (words_in (A.segments memory.new.arena)) slot result }
+    ensures gets { GetsValue (ty_of ty) (slot_read slot (schema_of (nodes_of set.now))
+        (option_map value_of (option_copied default.entry)))
+        (words_in (A.segments memory.old.arena)) (words_in (A.segments memory.new.arena)) result }
     ensures there { IfOk result (IsPlaced (words_in (A.segments memory.new.arena))) }
     ensures grows { GrowsBehind (words_in (A.segments memory.old.arena))
         (words_in (A.segments memory.new.arena)) (place_view slot) }

@@ -108,7 +108,7 @@ behind_within s (shape nid w p u fs) n rest verb member body c x found h =
     active_done s rest verb body active (body_of body x c.section kids) (unmapped with_reading (f body (only_if active (body_of body x c.section kids))) (subst IsDone outcome h))
 
 module _ (s u : Segments) (p : StructPlace) (f : Field) (r : FieldNode) (is : IsFieldRecord f.parent f.index r) (n : List ℕ) (rest : List Step) (verb : Verb) where
-  own_name : Some f.index ≡ place_of_name n (fields_of_struct f.parent) → WritesFieldWithin s u p f rest verb → WritesWithin s u p f.parent (name n ∷ rest) verb
+  own_name : Some f.index ≡ place_of_name n (fields_of_struct f.parent) → WritesFieldWithin s u p f (record { path = rest; verb = verb }) → WritesWithin s u p f.parent (record { path = name n ∷ rest; verb = verb })
   own_name at h =
       let around = schema_around f.parent in
       let g = shape_of_struct f.parent in
@@ -120,15 +120,15 @@ module _ (s u : Segments) (p : StructPlace) (f : Field) (r : FieldNode) (is : Is
       (subst (λ o. IsFieldDone f rest verb o c) (sym is.entry) (all.0, here), ap (λ o. edit_at f rest verb o c) is.entry ∙ ap (λ t. edit_target (edit_field around rest verb) (union_in g) t c) (sym found))
       )) h
 
-  pub by_name : (g : StructSchema) → f.parent ≡ g → Some f.index ≡ place_of_name n (fields_of_struct g) → WritesFieldWithin s u p f rest verb → WritesWithin s u p g (name n ∷ rest) verb
-  by_name g e = subst (λ x. Some f.index ≡ place_of_name n (fields_of_struct x) → WritesFieldWithin s u p f rest verb → WritesWithin s u p x (name n ∷ rest) verb) e own_name
+  pub by_name : (g : StructSchema) → f.parent ≡ g → Some f.index ≡ place_of_name n (fields_of_struct g) → WritesFieldWithin s u p f (record { path = rest; verb = verb }) → WritesWithin s u p g (record { path = name n ∷ rest; verb = verb })
+  by_name g e = subst (λ x. Some f.index ≡ place_of_name n (fields_of_struct x) → WritesFieldWithin s u p f (record { path = rest; verb = verb }) → WritesWithin s u p x (record { path = name n ∷ rest; verb = verb })) e own_name
 
 -- as it is read whole
 pub whole_within : (s : Schema) (g : Shape) (path : List Step) (verb : Verb) (c : Cell) → IsDone (shape_outcome s g path verb c) → IsDoneWithin s g path verb c
 unfolding shape_outcome
 whole_within s g path verb c h = (whole_words, h)
 
-pub path_within : (s u : Segments) (p : StructPlace) (g : StructSchema) (path : List Step) (verb : Verb) → WritesWithin s u p g path verb → WritesPath s u p g path verb
+pub path_within : (s u : Segments) (p : StructPlace) (g : StructSchema) (path : List Step) (verb : Verb) → WritesWithin s u p g (record { path = path; verb = verb }) → WritesPath s u p g (record { path = path; verb = verb })
 path_within s u p g path verb h =
     let around = schema_around g in
     let own = shape_of_struct g in
@@ -142,7 +142,7 @@ end_at f verb (Some e) c h =
     let s = schema_around f.parent in
     any_end s verb e.body (body_of e.body h.0 c.section (read_child s c.kids)) (only_if (is_active_in_cell (union_in (shape_of_struct f.parent)) e.member c) (body_of e.body whole_words c.section (read_child s c.kids))) h.1
 
-pub end_within : (s u : Segments) (p : StructPlace) (f : Field) (verb : Verb) → WritesField s u p f [] verb → WritesFieldWithin s u p f [] verb
+pub end_within : (s u : Segments) (p : StructPlace) (f : Field) (verb : Verb) → WritesField s u p f (record { path = []; verb = verb }) → WritesFieldWithin s u p f (record { path = []; verb = verb })
 end_within s u p f verb h =
     edits_alike s u p (IsDoneAt f [] verb (entry_of_field f)) (IsFieldDone f [] verb (entry_of_field f)) (edit_at f [] verb (entry_of_field f)) (edit_at f [] verb (entry_of_field f)) (λ c all. (end_at f verb (entry_of_field f) c all, refl)) h
 
@@ -175,7 +175,7 @@ group_edit s (shape nid w p u fs) rest verb c (name n) union member = refl
 group_edit s (shape nid w p u fs) rest verb c (index k) union member = refl
 
 module _ (s u : Segments) (p : StructPlace) (f : Field) (r : FieldNode) (is : IsFieldRecord f.parent f.index r) (g : StructSchema) (same : option_map (λ e. e.body) (entry_of_field f) ≡ Some (group_slot (shape_of_struct g))) (nodes : nodes_around g ≡ nodes_around f.parent) (verb : Verb) where
-  pub by_group : (path : List Step) → path ≢ [] → WritesWithin s u p g path verb → WritesFieldWithin s u p f path verb
+  pub by_group : (path : List Step) → path ≢ [] → WritesWithin s u p g (record { path = path; verb = verb }) → WritesFieldWithin s u p f (record { path = path; verb = verb })
   by_group [] some h = absurd (some refl)
   by_group (st ∷ rest) some h =
       let around = schema_around f.parent in
@@ -213,28 +213,28 @@ module _ (s : Schema) (st : Step) (rest : List Step) (verb : Verb) (i : ℕ) (ty
       by (index j) (record_as k) h = h
       by (index j) (opaque k) h = h
 
-  pub pointer_done : (c : Cell) (x : Extent) → IsDone (step_field s (st ∷ rest) verb (pointer_slot i ty d) (body_of (pointer_slot i ty d) x c.section (read_child s c.kids))) → IsDone (value_outcome s ty (default_or_null d) (st ∷ rest) verb (child c.kids i))
+  pub pointer_done : (c : Cell) (x : Extent) → IsDone (step_field s (st ∷ rest) verb (pointer_slot i ty d) (body_of (pointer_slot i ty d) x c.section (read_child s c.kids))) → IsDone (value_outcome (record { around = s; ty = ty; default = default_or_null d }) (st ∷ rest) verb (child c.kids i))
   unfolding step_field body_of
   pointer_done c x h =
       subst (λ r. IsDone (through_value s st (step_field s rest verb) (step_element s rest verb) ty (opened s ty (default_or_null d) r))) (read_child-is s c.kids i ty) (through_is (read_child s c.kids i ty) h)
 
-  pub pointer_edit : (union member : Option ℕ) (c : Cell) → put_child i (value_edit s ty (default_or_null d) (st ∷ rest) verb (child c.kids i)) c ≡ edit_field s (st ∷ rest) verb union member (pointer_slot i ty d) c
+  pub pointer_edit : (union member : Option ℕ) (c : Cell) → put_child i (value_edit (record { around = s; ty = ty; default = default_or_null d }) (st ∷ rest) verb (child c.kids i)) c ≡ edit_field s (st ∷ rest) verb union member (pointer_slot i ty d) c
   unfolding edit_field
   pointer_edit union member c = by st
     where
-      by : (st : Step) → put_child i (value_edit s ty (default_or_null d) (st ∷ rest) verb (child c.kids i)) c ≡ edit_field s (st ∷ rest) verb union member (pointer_slot i ty d) c
+      by : (st : Step) → put_child i (value_edit (record { around = s; ty = ty; default = default_or_null d }) (st ∷ rest) verb (child c.kids i)) c ≡ edit_field s (st ∷ rest) verb union member (pointer_slot i ty d) c
       by (name n) = refl
       by (index k) = refl
 
 module _ (s u : Segments) (p : StructPlace) (f : Field) (r : FieldNode) (is : IsFieldRecord f.parent f.index r) (i : ℕ) (ty : Ty) (d : Option Tree) (same : option_map (λ e. e.body) (entry_of_field f) ≡ Some (pointer_slot i ty d)) (verb : Verb) where
   -- a change of the value behind a field's pointer is one of the struct at the field
-  pub by_pointer : (q : Place) → i < p.pointers → q ≡ after (after (place_view p.start) p.data_words) i → (path : List Step) → path ≢ [] → EditsValueAt s u q (schema_around f.parent) ty (default_or_null d) path verb → WritesFieldWithin s u p f path verb
+  pub by_pointer : (q : Place) → i < p.pointers → q ≡ after (after (place_view p.start) p.data_words) i → (path : List Step) → path ≢ [] → EditsValueAt s u q (record { around = schema_around f.parent; ty = ty; default = default_or_null d }) (record { path = path; verb = verb }) → WritesFieldWithin s u p f (record { path = path; verb = verb })
   by_pointer q l e [] some h = absurd (some refl)
   by_pointer q l e (st ∷ rest) some h =
       let around = schema_around f.parent in
       let b : Body = pointer_slot i ty d in
       let union = union_in (shape_of_struct f.parent) in
-      edits_alike s u p (λ c. IsDone (value_outcome around ty (default_or_null d) (st ∷ rest) verb (child c.kids i))) (IsFieldDone f (st ∷ rest) verb (entry_of_field f)) (λ c. put_child i (value_edit around ty (default_or_null d) (st ∷ rest) verb (child c.kids i)) c) (edit_at f (st ∷ rest) verb (entry_of_field f))
+      edits_alike s u p (λ c. IsDone (value_outcome (record { around = around; ty = ty; default = default_or_null d }) (st ∷ rest) verb (child c.kids i))) (IsFieldDone f (st ∷ rest) verb (entry_of_field f)) (λ c. put_child i (value_edit (record { around = around; ty = ty; default = default_or_null d }) (st ∷ rest) verb (child c.kids i)) c) (edit_at f (st ∷ rest) verb (entry_of_field f))
       (λ c all. (let x = done_within f r is b same (st ∷ rest) verb c all in pointer_done around st rest verb i ty d c x.0 x.1, pointer_edit around st rest verb i ty d union r.member c ∙ edit_is f r is b same (st ∷ rest) verb c))
       (through_child s u p i q around ty (default_or_null d) (st ∷ rest) verb l e h)
 
@@ -272,7 +272,7 @@ module _ (s : Schema) (id : ℕ) (n : List ℕ) (rest : List Step) (verb : Verb)
   of_empty w p e is_done = from_parts 0 none p (cc e) (padded_nothing p ∙ cc e) (subst Done (nothing_read s g) is_done)
 
   -- where the steps into the value are done, the path is done at the widened struct
-  pub struct_done : (w p : ℕ) (d t : Tree) → widened w p (opened_tree (struct id) d t) ≡ structure words section kids → IsDone (value_outcome s (struct id) d (name n ∷ rest) verb t) → IsDone (shape_outcome s g (name n ∷ rest) verb (cell section kids))
+  pub struct_done : (w p : ℕ) (d t : Tree) → widened w p (opened_tree (struct id) d t) ≡ structure words section kids → IsDone (value_outcome (record { around = s; ty = struct id; default = d }) (name n ∷ rest) verb t) → IsDone (shape_outcome s g (name n ∷ rest) verb (cell section kids))
   unfolding read
   struct_done w p null null e h = of_empty w p e (of_record (shape_record g whole_words 0 no_children) h)
   struct_done w p (structure w0 x ts) null e h = of_struct w p w0 x ts e (of_record (shape_record g whole_words x (read_child s ts)) h)
@@ -292,5 +292,5 @@ edit_of_struct : (f : Option ℕ → Option ℕ → Body → Edit) (n : List ℕ
 edit_of_struct f n (shape nid w p u fs) t words section kids e = ap (in_struct w (edit_named f n u fs)) e
 
 pub struct_edit : (s : Schema) (id : ℕ) (n : List ℕ) (rest : List Step) (verb : Verb) (d t : Tree) (words section : ℕ) (kids : Trees) → widened (words_of_shape (s.shape_of id)) (pointers_of_shape (s.shape_of id)) (opened_tree (struct id) d t) ≡ structure words section kids
-    → value_edit s (struct id) d (name n ∷ rest) verb t ≡ (let c = shape_edit s (s.shape_of id) (name n ∷ rest) verb (cell section kids) in structure words c.section c.kids)
+    → value_edit (record { around = s; ty = struct id; default = d }) (name n ∷ rest) verb t ≡ (let c = shape_edit s (s.shape_of id) (name n ∷ rest) verb (cell section kids) in structure words c.section c.kids)
 struct_edit s id n rest verb d t words section kids e = edit_of_struct (edit_field s rest verb) n (s.shape_of id) (opened_tree (struct id) d t) words section kids e

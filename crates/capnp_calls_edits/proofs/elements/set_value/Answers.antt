@@ -22,7 +22,7 @@ returns-in-Text-clause-writes g c around =
     let at = state_in g.A.ReaderArena.segments g.A.BuilderArena.room g.A.BuilderArena.books in
     let s = words_in (g.A.ReaderArena.segments c.args.arena.now) in
     let u = words_in (g.A.ReaderArena.segments c.set_flat.new.arena) in
-    subst (λ a. OnOk c.set_flat.result (EditsElementAt s u c.args.list around (ty_of c.args.ty) c.args.index [] (set_to (slot_value_view a)))) (sym c.in-Text.is)
+    subst (λ a. OnOk c.set_flat.result (EditsElementAt s u (record { place = c.args.list; at = c.args.index; around = around; ty = ty_of c.args.ty }) (record { path = []; verb = set_to (slot_value_view a) }))) (sym c.in-Text.is)
     (text_end (Unit {0}) (at c.args.arena.now) (at c.set_flat.new.arena) c.args.list c.args.index around (ty_of c.args.ty) (record { 0 = c.as_bytes.result }) (string_bytes c.in-Text.text) c.as_bytes.ensures.value c.set_flat.result c.set_flat.ensures.puts)
 
 pub returns-in-Data-clause-writes : goal.returns-in-Data-clause-writes
@@ -30,14 +30,14 @@ returns-in-Data-clause-writes g c around =
     let at = state_in g.A.ReaderArena.segments g.A.BuilderArena.room g.A.BuilderArena.books in
     let s = words_in (g.A.ReaderArena.segments c.args.arena.now) in
     let u = words_in (g.A.ReaderArena.segments c.set_flat-in-Data.new.arena) in
-    subst (λ a. OnOk c.set_flat-in-Data.result (EditsElementAt s u c.args.list around (ty_of c.args.ty) c.args.index [] (set_to (slot_value_view a)))) (sym c.in-Data.is)
+    subst (λ a. OnOk c.set_flat-in-Data.result (EditsElementAt s u (record { place = c.args.list; at = c.args.index; around = around; ty = ty_of c.args.ty }) (record { path = []; verb = set_to (slot_value_view a) }))) (sym c.in-Data.is)
     (data_end (Unit {0}) (at c.args.arena.now) (at c.set_flat-in-Data.new.arena) c.args.list c.args.index around (ty_of c.args.ty) c.deref.result c.in-Data.bytes.items c.deref.ensures.value c.set_flat-in-Data.result c.set_flat-in-Data.ensures.puts)
 
 pub returns-in-Message-clause-writes : goal.returns-in-Message-clause-writes
 returns-in-Message-clause-writes g c around =
     let s = words_in (g.A.ReaderArena.segments c.args.arena.now) in
     let u = words_in (g.A.ReaderArena.segments c.set_message.new.arena) in
-    subst (λ a. OnOk c.set_message.result (EditsElementAt s u c.args.list around (ty_of c.args.ty) c.args.index [] (set_to (slot_value_view a)))) (sym c.in-Message.is) (c.set_message.ensures.writes around)
+    subst (λ a. OnOk c.set_message.result (EditsElementAt s u (record { place = c.args.list; at = c.args.index; around = around; ty = ty_of c.args.ty }) (record { path = []; verb = set_to (slot_value_view a) }))) (sym c.in-Message.is) (c.set_message.ensures.writes around)
 
 pub returns-in-Number-clause-cause : goal.returns-in-Number-clause-cause
 returns-in-Number-clause-cause g c around = c.set_plain.ensures.cause around (single_of c.args.value.now c.in-Number.is)

@@ -22,7 +22,7 @@ returns-in-Initn-clause-writes g c =
     let around = schema_of (nodes_of c.args.set.now) in
     let ty = ty_of c.args.ty in
     let n = c.in-Initn.count in
-    subst (λ a. OnOk c.init_element.result (EditsElementAt s u c.args.list around ty c.args.index [] (action_view a))) (sym c.in-Initn.is)
+    subst (λ a. OnOk c.init_element.result (EditsElementAt s u (record { place = c.args.list; at = c.args.index; around = around; ty = ty }) (record { path = []; verb = action_view a }))) (sym c.in-Initn.is)
     (initn_end (at c.args.arena.now) (at c.init_element.new.arena) c.args.list c.args.index n around ty (element_content around (initn n) ty) c.init_element.result c.init_element.ensures.puts)
 
 pub returns-in-Set-clause-writes : goal.returns-in-Set-clause-writes
@@ -30,7 +30,7 @@ returns-in-Set-clause-writes g c =
     let s = words_in (g.A.ReaderArena.segments c.args.arena.now) in
     let u = words_in (g.A.ReaderArena.segments c.set_value.new.arena) in
     let around = schema_of (nodes_of c.args.set.now) in
-    subst (λ a. OnOk c.set_value.result (EditsElementAt s u c.args.list around (ty_of c.args.ty) c.args.index [] (action_view a))) (sym c.in-Set.is) (c.set_value.ensures.writes around)
+    subst (λ a. OnOk c.set_value.result (EditsElementAt s u (record { place = c.args.list; at = c.args.index; around = around; ty = ty_of c.args.ty }) (record { path = []; verb = action_view a }))) (sym c.in-Set.is) (c.set_value.ensures.writes around)
 
 pub returns-in-Initn-clause-cause : goal.returns-in-Initn-clause-cause
 returns-in-Initn-clause-cause g c =

@@ -26,7 +26,7 @@ pub returns-in-Clear-clause-writes : goal.returns-in-Clear-clause-writes
 returns-in-Clear-clause-writes g c =
     let s = words_in (g.A.ReaderArena.segments c.args.arena.now) in
     let u = words_in (g.A.ReaderArena.segments c.clear_field.new.arena) in
-    subst (λ a. WritesField s u c.args.object c.args.field [] (action_view a)) (sym c.in-Clear.is) (edited_end s u c.args.object c.args.field clear c.clear_field.ensures.edits)
+    subst (λ a. WritesField s u c.args.object c.args.field (record { path = []; verb = action_view a })) (sym c.in-Clear.is) (edited_end s u c.args.object c.args.field clear c.clear_field.ensures.edits)
 
 pub initn_slot-requires-clause-inside : goal.initn_slot-requires-clause-inside
 initn_slot-requires-clause-inside g c = areas_inside c.args.field.parent c.args.object c.requires.wide
@@ -37,7 +37,7 @@ returns-in_ok-begin_field-in-Init-clause-writes g c =
     let s = words_in (g.A.ReaderArena.segments c.args.arena.now) in
     let u = words_in (g.A.ReaderArena.segments c.begin_field.new.arena) in
     let f = c.args.field in
-    subst (λ a. WritesField s u c.args.object f [] (action_view a)) (sym c.in-Init.is)
+    subst (λ a. WritesField s u c.args.object f (record { path = []; verb = action_view a })) (sym c.in-Init.is)
     (put_end (at c.args.arena.now) (at c.begin_field.new.arena) c.args.object f init (begun_field (schema_around f.parent) (entry_of_field f)) (Ok c.in_ok-begin_field-in-Init.field-0) c.in_ok-begin_field-in-Init.ensures.puts)
 
 pub returns-in-Initn-clause-writes : goal.returns-in-Initn-clause-writes
@@ -47,7 +47,7 @@ returns-in-Initn-clause-writes g c =
     let u = words_in (g.A.ReaderArena.segments c.initn_slot.new.arena) in
     let f = c.args.field in
     let n = c.in-Initn.count in
-    subst (λ a. OnOk c.initn_slot.result (WritesField s u c.args.object f [] (action_view a))) (sym c.in-Initn.is)
+    subst (λ a. OnOk c.initn_slot.result (WritesField s u c.args.object f (record { path = []; verb = action_view a }))) (sym c.in-Initn.is)
     (put_end (at c.args.arena.now) (at c.initn_slot.new.arena) c.args.object f (initn n) (initn_field (schema_around f.parent) n (entry_of_field f)) c.initn_slot.result c.initn_slot.ensures.puts)
 
 pub returns-in-Clear-clause-grows : goal.returns-in-Clear-clause-grows

@@ -51,8 +51,8 @@ write_steps-returns-then-is_empty-clause-writes g t c =
     let v = action_view c.args.action.now in
     let none : map step_view c.in-Some.rest.now ≡ [] = none_is step_view c.in-Some.rest.now (sym c.is_empty.ensures ∙ c.if-is_empty.true) in
     let path : map step_view c.args.path.now ≡ name n ∷ [] = c.in-Some.ensures.split ∙ ap (λ r. name n ∷ r) none in
-    on_ok c.write_end.result (WritesField s u p f [] v) (WritesWithin s u p c.args.schema (map step_view c.args.path.now) v)
-    (λ h. subst (λ q. WritesWithin s u p c.args.schema q v) (sym path) (by_name s u p f (field_of c.get_proto-said.result.now) c.get_proto-said.ensures n [] v c.args.schema c.in_ok-field.ensures.found.parent c.in_ok-field.ensures.found.index (end_within s u p f v h))) c.write_end.ensures.writes
+    on_ok c.write_end.result (WritesField s u p f (record { path = []; verb = v })) (WritesWithin s u p c.args.schema (record { path = map step_view c.args.path.now; verb = v }))
+    (λ h. subst (λ q. WritesWithin s u p c.args.schema (record { path = q; verb = v })) (sym path) (by_name s u p f (field_of c.get_proto-said.result.now) c.get_proto-said.ensures n [] v c.args.schema c.in_ok-field.ensures.found.parent c.in_ok-field.ensures.found.index (end_within s u p f v h))) c.write_end.ensures.writes
 
 pub write_steps-returns-else-is_empty-clause-writes : goal.write_steps-returns-else-is_empty-clause-writes
 write_steps-returns-else-is_empty-clause-writes g t c =
@@ -63,8 +63,8 @@ write_steps-returns-else-is_empty-clause-writes g t c =
     let n = c.in-Some.name.now in
     let v = action_view c.args.action.now in
     let rest = map step_view c.in-Some.rest.now in
-    on_ok c.write_behind.result (WritesFieldWithin s u p f rest v) (WritesWithin s u p c.args.schema (map step_view c.args.path.now) v)
-    (λ h. subst (λ q. WritesWithin s u p c.args.schema q v) (sym c.in-Some.ensures.split) (by_name s u p f (field_of c.get_proto-said.result.now) c.get_proto-said.ensures n rest v c.args.schema c.in_ok-field.ensures.found.parent c.in_ok-field.ensures.found.index h)) c.write_behind.ensures.writes
+    on_ok c.write_behind.result (WritesFieldWithin s u p f (record { path = rest; verb = v })) (WritesWithin s u p c.args.schema (record { path = map step_view c.args.path.now; verb = v }))
+    (λ h. subst (λ q. WritesWithin s u p c.args.schema (record { path = q; verb = v })) (sym c.in-Some.ensures.split) (by_name s u p f (field_of c.get_proto-said.result.now) c.get_proto-said.ensures n rest v c.args.schema c.in_ok-field.ensures.found.parent c.in_ok-field.ensures.found.index h)) c.write_behind.ensures.writes
 
 -- ---- write_behind
 
@@ -99,7 +99,7 @@ write_behind-returns-in-Group-clause-writes g t c =
     let u = words_in (g.A.ReaderArena.segments c.write_steps.new.arena) in
     let rest = map step_view c.args.rest.now in
     let v = action_view c.args.action.now in
-    on_ok c.write_steps.result (WritesWithin s u c.args.object c.in-Group.schema rest v) (WritesFieldWithin s u c.args.object c.args.field rest v)
+    on_ok c.write_steps.result (WritesWithin s u c.args.object c.in-Group.schema (record { path = rest; verb = v })) (WritesFieldWithin s u c.args.object c.args.field (record { path = rest; verb = v }))
     (by_group s u c.args.object c.args.field (field_of c.get_proto-said.result.now) c.get_proto-said.ensures c.in-Group.schema c.in-Group.ensures.body c.in-Group.ensures.of_set v rest c.requires.some) c.write_steps.ensures.writes
 
 pub write_behind-returns-in-Pointer-clause-writes : goal.write_behind-returns-in-Pointer-clause-writes
@@ -117,9 +117,9 @@ write_behind-returns-in-Pointer-clause-writes g t c =
     let nodes = c.set-set.ensures ∙ ap nodes_around c.parent-in-Pointer.ensures in
     let slot = place_view c.pointer_place-slot.result in
     let written = c.write_value.ensures.writes (default_or_null d) (c.default_of.ensures i ty d c.in-Pointer.ensures.body) in
-    on_ok c.write_value.result (EditsValueAt s u slot (schema_of (nodes_of c.set-set.result.now)) ty (default_or_null d) rest v) (WritesFieldWithin s u p f rest v)
+    on_ok c.write_value.result (EditsValueAt s u slot (record { around = schema_of (nodes_of c.set-set.result.now); ty = ty; default = default_or_null d }) (record { path = rest; verb = v })) (WritesFieldWithin s u p f (record { path = rest; verb = v }))
     (λ h. by_pointer s u p f (field_of c.get_proto-said.result.now) c.get_proto-said.ensures i ty d c.in-Pointer.ensures.body v slot l c.pointer_place-slot.ensures.place rest c.requires.some
-    (subst (λ ns. EditsValueAt s u slot (schema_of ns) ty (default_or_null d) rest v) nodes h)) written
+    (subst (λ ns. EditsValueAt s u slot (record { around = schema_of ns; ty = ty; default = default_or_null d }) (record { path = rest; verb = v })) nodes h)) written
 
 pub write_behind-returns-in-Pointer-clause-grows : goal.write_behind-returns-in-Pointer-clause-grows
 write_behind-returns-in-Pointer-clause-grows g t c =
@@ -139,7 +139,7 @@ write_struct-returns-clause-writes g t c = λ d holds. (
     let w = words_in (g.A.ReaderArena.segments c.write_steps.new.arena) in
     let path = map step_view c.args.path.now in
     let v = action_view c.args.action.now in
-    on_ok c.write_steps.result (WritesWithin u w c.in_ok-inner.inner c.args.schema path v) (EditsValueAt s w (place_view c.args.slot) (schema_around c.args.schema) (struct (id_of c.args.schema)) d path v)
+    on_ok c.write_steps.result (WritesWithin u w c.in_ok-inner.inner c.args.schema (record { path = path; verb = v })) (EditsValueAt s w (place_view c.args.slot) (record { around = schema_around c.args.schema; ty = struct (id_of c.args.schema); default = d }) (record { path = path; verb = v }))
     (struct_written s u w (place_view c.args.slot) c.args.schema (option_copied c.args.default) c.struct_size.result c.in_ok-inner.inner (ap (λ (x : StructSize). x.data_words) c.struct_size.ensures) (ap (λ (x : StructSize). x.pointers) c.struct_size.ensures) c.in_ok-inner.ensures.got d holds v path c.requires.named) c.write_steps.ensures.writes
     )
 
@@ -165,8 +165,8 @@ write_list-returns-clause-writes g t c = λ d holds. (
     let rest = map step_view c.in-Some.rest.now in
     let v = action_view c.args.action.now in
     let inside : k < o.count = search rules in
-    on_ok c.write_element.result (EditsElementAt u w o around ty k rest v) (EditsValueAt s w (place_view c.args.slot) around (list ty) d (map step_view c.args.path.now) v)
-    (λ h. subst (λ q. EditsValueAt s w (place_view c.args.slot) around (list ty) d q v) (sym c.in-Some.ensures.split) (list_written s u w c.args.slot (option_copied c.args.default) around ty o c.in_ok-inner.ensures.got k inside d holds rest v h)) c.write_element.ensures.writes
+    on_ok c.write_element.result (EditsElementAt u w (record { place = o; at = k; around = around; ty = ty }) (record { path = rest; verb = v })) (EditsValueAt s w (place_view c.args.slot) (record { around = around; ty = list ty; default = d }) (record { path = map step_view c.args.path.now; verb = v }))
+    (λ h. subst (λ q. EditsValueAt s w (place_view c.args.slot) (record { around = around; ty = list ty; default = d }) (record { path = q; verb = v })) (sym c.in-Some.ensures.split) (list_written s u w c.args.slot (option_copied c.args.default) around ty o c.in_ok-inner.ensures.got k inside d holds rest v h)) c.write_element.ensures.writes
     )
 
 pub write_list-returns-clause-grows : goal.write_list-returns-clause-grows
@@ -186,7 +186,7 @@ write_element-returns-then-is_empty-clause-writes g t c =
     let s = words_in (g.A.ReaderArena.segments c.args.arena.now) in
     let u = words_in (g.A.ReaderArena.segments c.write_element_end.new.arena) in
     let none : map step_view c.args.rest.now ≡ [] = none_is step_view c.args.rest.now (sym c.is_empty.ensures ∙ c.if-is_empty.true) in
-    subst (λ q. OnOk c.write_element_end.result (EditsElementAt s u c.args.list (schema_of (nodes_of c.args.set.now)) (ty_of c.args.ty) c.args.index q (action_view c.args.action.now))) (sym none) c.write_element_end.ensures.writes
+    subst (λ q. OnOk c.write_element_end.result (EditsElementAt s u (record { place = c.args.list; at = c.args.index; around = schema_of (nodes_of c.args.set.now); ty = ty_of c.args.ty }) (record { path = q; verb = action_view c.args.action.now }))) (sym none) c.write_element_end.ensures.writes
 
 pub write_element-returns-in-Struct-clause-writes : goal.write_element-returns-in-Struct-clause-writes
 write_element-returns-in-Struct-clause-writes g t c =
@@ -200,8 +200,8 @@ write_element-returns-in-Struct-clause-writes g t c =
     let v = action_view c.args.action.now in
     let some : rest ≢ [] = some_is step_view c.args.rest.now (sym c.is_empty.ensures ∙ c.if-is_empty.false) in
     let ty : struct (id_of schema) ≡ ty_of c.args.ty = ap (λ r. struct r.id) c.new-schema.ensures.raw ∙ (ap ty_of_variant (sym c.in-Struct.is) ∙ c.which.ensures.ty) in
-    on_ok c.write_steps.result (WritesWithin s u p schema rest v) (EditsElementAt s u o (schema_of (nodes_of c.args.set.now)) (ty_of c.args.ty) k rest v)
-    (λ h. subst (λ y. EditsElementAt s u o (schema_of (nodes_of c.args.set.now)) y k rest v) ty (subst (λ ns. EditsElementAt s u o (schema_of ns) (struct (id_of schema)) k rest v) c.new-schema.ensures.nodes (element_written s u o k p (λ n x is own. c.elements_as_structs.ensures.parts n s o k p x c.requires.index c.element_struct.ensures is own) schema rest v some h))) c.write_steps.ensures.writes
+    on_ok c.write_steps.result (WritesWithin s u p schema (record { path = rest; verb = v })) (EditsElementAt s u (record { place = o; at = k; around = schema_of (nodes_of c.args.set.now); ty = ty_of c.args.ty }) (record { path = rest; verb = v }))
+    (λ h. subst (λ y. EditsElementAt s u (record { place = o; at = k; around = schema_of (nodes_of c.args.set.now); ty = y }) (record { path = rest; verb = v })) ty (subst (λ ns. EditsElementAt s u (record { place = o; at = k; around = schema_of ns; ty = struct (id_of schema) }) (record { path = rest; verb = v })) c.new-schema.ensures.nodes (element_written s u o k p (λ n x is own. c.elements_as_structs.ensures.parts n s o k p x c.requires.index c.element_struct.ensures is own) schema rest v some h))) c.write_steps.ensures.writes
 
 pub write_element-returns-in-Struct-clause-grows : goal.write_element-returns-in-Struct-clause-grows
 write_element-returns-in-Struct-clause-grows g t c =
@@ -226,8 +226,8 @@ write_element-returns-in-List-clause-writes g t c =
     let some : rest ≢ [] = some_is step_view c.args.rest.now (sym c.is_empty.ensures ∙ c.if-is_empty.false) in
     let ty : list e ≡ ty_of c.args.ty = ap ty_of_variant (sym c.in-List.is) ∙ c.which.ensures.ty in
     let has : HasPointer o = subst (Holds o) (sym ty) c.requires.holds in
-    on_ok c.write_list.result (EditsValueAt s u (place_view q) around (list e) null rest v) (EditsElementAt s u o around (ty_of c.args.ty) k rest v)
-    (λ h. subst (λ y. EditsElementAt s u o around y k rest v) ty (value_written s u o k q (λ n x is own. c.elements_as_pointers.ensures.parts n s o k q x has c.requires.index c.element_pointer-slot.ensures.place c.requires.there is own) around e rest v some h)) (c.write_list.ensures.writes null refl)
+    on_ok c.write_list.result (EditsValueAt s u (place_view q) (record { around = around; ty = list e; default = null }) (record { path = rest; verb = v })) (EditsElementAt s u (record { place = o; at = k; around = around; ty = ty_of c.args.ty }) (record { path = rest; verb = v }))
+    (λ h. subst (λ y. EditsElementAt s u (record { place = o; at = k; around = around; ty = y }) (record { path = rest; verb = v })) ty (value_written s u o k q (λ n x is own. c.elements_as_pointers.ensures.parts n s o k q x has c.requires.index c.element_pointer-slot.ensures.place c.requires.there is own) around e rest v some h)) (c.write_list.ensures.writes null refl)
 
 pub write_element-returns-in-List-clause-grows : goal.write_element-returns-in-List-clause-grows
 write_element-returns-in-List-clause-grows g t c =
@@ -258,7 +258,7 @@ write_steps-returns-in_err-field-clause-cause g t c =
     let v = action_view c.args.action.now in
     let h = err_from_is_err_and c.from_residual.result c.from_residual.ensures.1 in
     let claimed = no_field s p c.args.schema n rest v (IsSizeOrRefusal g.A.BuilderArena.refuses c.in_err-field.field-0.0) c.in_err-field.ensures.missing.1 in
-    rw (h.1, h.2) (subst (λ q. WhereDoneWithin s p c.args.schema q v (IsSizeOrRefusal g.A.BuilderArena.refuses c.in_err-field.field-0.0)) (sym c.in-Some.ensures.split) claimed)
+    rw (h.1, h.2) (subst (λ q. WhereDoneWithin s p c.args.schema (record { path = q; verb = v }) (IsSizeOrRefusal g.A.BuilderArena.refuses c.in_err-field.field-0.0)) (sym c.in-Some.ensures.split) claimed)
 
 pub write_steps-returns-then-is_empty-clause-cause : goal.write_steps-returns-then-is_empty-clause-cause
 write_steps-returns-then-is_empty-clause-cause g t c =
@@ -270,8 +270,8 @@ write_steps-returns-then-is_empty-clause-cause g t c =
     let v = action_view c.args.action.now in
     let none : map step_view c.in-Some.rest.now ≡ [] = none_is step_view c.in-Some.rest.now (sym c.is_empty.ensures ∙ c.if-is_empty.true) in
     let path : map step_view c.args.path.now ≡ name n ∷ [] = c.in-Some.ensures.split ∙ ap (λ r. name n ∷ r) none in
-    on_err c.write_end.result (λ e. WhereFieldTakes f v (told e)) (λ e. WhereDoneWithin s p c.args.schema (map step_view c.args.path.now) v (told e))
-    (λ e h. subst (λ q. WhereDoneWithin s p c.args.schema q v (told e)) (sym path) (name_claimed s p f (field_of c.get_proto-said.result.now) c.get_proto-said.ensures n [] v (told e) c.args.schema c.in_ok-field.ensures.found.parent c.in_ok-field.ensures.found.index (end_claimed s p f v (told e) h))) c.write_end.ensures.cause
+    on_err c.write_end.result (λ e. WhereFieldTakes f v (told e)) (λ e. WhereDoneWithin s p c.args.schema (record { path = map step_view c.args.path.now; verb = v }) (told e))
+    (λ e h. subst (λ q. WhereDoneWithin s p c.args.schema (record { path = q; verb = v }) (told e)) (sym path) (name_claimed s p f (field_of c.get_proto-said.result.now) c.get_proto-said.ensures n [] v (told e) c.args.schema c.in_ok-field.ensures.found.parent c.in_ok-field.ensures.found.index (end_claimed s p f v (told e) h))) c.write_end.ensures.cause
 
 pub write_steps-returns-else-is_empty-clause-cause : goal.write_steps-returns-else-is_empty-clause-cause
 write_steps-returns-else-is_empty-clause-cause g t c =
@@ -282,8 +282,8 @@ write_steps-returns-else-is_empty-clause-cause g t c =
     let n = c.in-Some.name.now in
     let v = action_view c.args.action.now in
     let rest = map step_view c.in-Some.rest.now in
-    on_err c.write_behind.result (λ e. WhereFieldDone s p f rest v (told e)) (λ e. WhereDoneWithin s p c.args.schema (map step_view c.args.path.now) v (told e))
-    (λ e h. subst (λ q. WhereDoneWithin s p c.args.schema q v (told e)) (sym c.in-Some.ensures.split) (name_claimed s p f (field_of c.get_proto-said.result.now) c.get_proto-said.ensures n rest v (told e) c.args.schema c.in_ok-field.ensures.found.parent c.in_ok-field.ensures.found.index h)) c.write_behind.ensures.cause
+    on_err c.write_behind.result (λ e. WhereFieldDone s p f (record { path = rest; verb = v }) (told e)) (λ e. WhereDoneWithin s p c.args.schema (record { path = map step_view c.args.path.now; verb = v }) (told e))
+    (λ e h. subst (λ q. WhereDoneWithin s p c.args.schema (record { path = q; verb = v }) (told e)) (sym c.in-Some.ensures.split) (name_claimed s p f (field_of c.get_proto-said.result.now) c.get_proto-said.ensures n rest v (told e) c.args.schema c.in_ok-field.ensures.found.parent c.in_ok-field.ensures.found.index h)) c.write_behind.ensures.cause
 
 pub write_behind-returns-in-Group-clause-cause : goal.write_behind-returns-in-Group-clause-cause
 write_behind-returns-in-Group-clause-cause g t c =
@@ -293,7 +293,7 @@ write_behind-returns-in-Group-clause-cause g t c =
     let f = c.args.field in
     let rest = map step_view c.args.rest.now in
     let v = action_view c.args.action.now in
-    on_err c.write_steps.result (λ e. WhereDoneWithin s p c.in-Group.schema rest v (told e)) (λ e. WhereFieldDone s p f rest v (told e))
+    on_err c.write_steps.result (λ e. WhereDoneWithin s p c.in-Group.schema (record { path = rest; verb = v }) (told e)) (λ e. WhereFieldDone s p f (record { path = rest; verb = v }) (told e))
     (λ e. group_claimed s p f (field_of c.get_proto-said.result.now) c.get_proto-said.ensures v (told e) c.in-Group.schema c.in-Group.ensures.body c.in-Group.ensures.of_set rest c.requires.some) c.write_steps.ensures.cause
 
 pub write_behind-returns-in-Pointer-clause-cause : goal.write_behind-returns-in-Pointer-clause-cause
@@ -311,9 +311,9 @@ write_behind-returns-in-Pointer-clause-cause g t c =
     let nodes = c.set-set.ensures ∙ ap nodes_around c.parent-in-Pointer.ensures in
     let slot = place_view c.pointer_place-slot.result in
     let cause = c.write_value.ensures.cause (default_or_null d) (c.default_of.ensures i ty d c.in-Pointer.ensures.body) in
-    on_err c.write_value.result (λ e. WhereValueDone s slot (schema_of (nodes_of c.set-set.result.now)) ty (default_or_null d) rest v (told e)) (λ e. WhereFieldDone s p f rest v (told e))
+    on_err c.write_value.result (λ e. WhereValueDone s slot (record { around = schema_of (nodes_of c.set-set.result.now); ty = ty; default = default_or_null d }) (record { path = rest; verb = v }) (told e)) (λ e. WhereFieldDone s p f (record { path = rest; verb = v }) (told e))
     (λ e h. pointer_claimed s p f (field_of c.get_proto-said.result.now) c.get_proto-said.ensures v (told e) i ty d c.in-Pointer.ensures.body slot l c.pointer_place-slot.ensures.place rest c.requires.some
-    (subst (λ ns. WhereValueDone s slot (schema_of ns) ty (default_or_null d) rest v (told e)) nodes h)) cause
+    (subst (λ ns. WhereValueDone s slot (record { around = schema_of ns; ty = ty; default = default_or_null d }) (record { path = rest; verb = v }) (told e)) nodes h)) cause
 
 pub write_behind-returns-in-Void-clause-cause : goal.write_behind-returns-in-Void-clause-cause
 write_behind-returns-in-Void-clause-cause g t c =
@@ -337,7 +337,7 @@ write_struct-returns-clause-cause g t c d holds =
     let path = map step_view c.args.path.now in
     let v = action_view c.args.action.now in
     let o = c.in_ok-inner.inner in
-    on_err c.write_steps.result (λ e. WhereDoneWithin u o c.args.schema path v (told e)) (λ e. WhereValueDone s (place_view c.args.slot) (schema_around c.args.schema) (struct (id_of c.args.schema)) d path v (told e))
+    on_err c.write_steps.result (λ e. WhereDoneWithin u o c.args.schema (record { path = path; verb = v }) (told e)) (λ e. WhereValueDone s (place_view c.args.slot) (record { around = schema_around c.args.schema; ty = struct (id_of c.args.schema); default = d }) (record { path = path; verb = v }) (told e))
     (λ e. struct_claimed s u (place_view c.args.slot) c.args.schema (option_copied c.args.default) c.struct_size.result o (ap (λ (x : StructSize). x.data_words) c.struct_size.ensures) (ap (λ (x : StructSize). x.pointers) c.struct_size.ensures) c.in_ok-inner.ensures.got d holds v (told e) path c.requires.named) c.write_steps.ensures.cause
 
 pub write_list-returns-in_default-clause-cause : goal.write_list-returns-in_default-clause-cause
@@ -363,7 +363,7 @@ write_list-returns-then-index-inner-clause-cause g t c d holds =
     let rest = map step_view c.in-Some.rest.now in
     let Claim : Type 0 = IsSizeOrRefusal g.A.BuilderArena.refuses c.from-then-index-inner.result in
     let behind : o.count ≤ k = search rules in
-    subst (λ q. WhereValueDone s (place_view c.args.slot) around (list ty) d q v Claim) (sym c.in-Some.ensures.split) (behind_claimed (option_copied c.args.default) d holds c.args.slot around ty s u o c.in_ok-inner.ensures.got k rest v Claim behind)
+    subst (λ q. WhereValueDone s (place_view c.args.slot) (record { around = around; ty = list ty; default = d }) (record { path = q; verb = v }) Claim) (sym c.in-Some.ensures.split) (behind_claimed (option_copied c.args.default) d holds c.args.slot around ty s u o c.in_ok-inner.ensures.got k rest v Claim behind)
 
 pub write_list-returns-then-not-holds-clause-cause : goal.write_list-returns-then-not-holds-clause-cause
 write_list-returns-then-not-holds-clause-cause g t c d holds =
@@ -378,7 +378,7 @@ write_list-returns-then-not-holds-clause-cause g t c d holds =
     let Claim : Type 0 = IsSizeOrRefusal g.A.BuilderArena.refuses c.from-then-not-holds.result in
     let inside : k < o.count = search rules in
     let never : Holds o ty × HoldsStructs around o ty → ⊥ = λ x. (let no = sym c.if-not-holds.true ∙ c.holds.ensures.1 x in cc no) in
-    subst (λ q. WhereValueDone s (place_view c.args.slot) around (list ty) d q v Claim) (sym c.in-Some.ensures.split) (unheld_claimed (option_copied c.args.default) d holds c.args.slot around ty s u o c.in_ok-inner.ensures.got k rest v Claim inside c.args.element refl never)
+    subst (λ q. WhereValueDone s (place_view c.args.slot) (record { around = around; ty = list ty; default = d }) (record { path = q; verb = v }) Claim) (sym c.in-Some.ensures.split) (unheld_claimed (option_copied c.args.default) d holds c.args.slot around ty s u o c.in_ok-inner.ensures.got k rest v Claim inside c.args.element refl never)
 
 pub write_list-returns-clause-cause : goal.write_list-returns-clause-cause
 write_list-returns-clause-cause g t c d holds =
@@ -392,8 +392,8 @@ write_list-returns-clause-cause g t c d holds =
     let v = action_view c.args.action.now in
     let rest = map step_view c.in-Some.rest.now in
     let inside : k < o.count = search rules in
-    on_err c.write_element.result (λ e. WhereElementDone u o around ty k rest v (told e)) (λ e. WhereValueDone s (place_view c.args.slot) around (list ty) d (map step_view c.args.path.now) v (told e))
-    (λ e h. subst (λ q. WhereValueDone s (place_view c.args.slot) around (list ty) d q v (told e)) (sym c.in-Some.ensures.split) (element_claimed (option_copied c.args.default) d holds c.args.slot around ty s u o c.in_ok-inner.ensures.got k rest v (told e) inside h)) c.write_element.ensures.cause
+    on_err c.write_element.result (λ e. WhereElementDone u (record { place = o; at = k; around = around; ty = ty }) (record { path = rest; verb = v }) (told e)) (λ e. WhereValueDone s (place_view c.args.slot) (record { around = around; ty = list ty; default = d }) (record { path = map step_view c.args.path.now; verb = v }) (told e))
+    (λ e h. subst (λ q. WhereValueDone s (place_view c.args.slot) (record { around = around; ty = list ty; default = d }) (record { path = q; verb = v }) (told e)) (sym c.in-Some.ensures.split) (element_claimed (option_copied c.args.default) d holds c.args.slot around ty s u o c.in_ok-inner.ensures.got k rest v (told e) inside h)) c.write_element.ensures.cause
 
 pub write_element-returns-then-is_empty-clause-cause : goal.write_element-returns-then-is_empty-clause-cause
 write_element-returns-then-is_empty-clause-cause g t c =
@@ -403,8 +403,8 @@ write_element-returns-then-is_empty-clause-cause g t c =
     let ty = ty_of c.args.ty in
     let v = action_view c.args.action.now in
     let none : map step_view c.args.rest.now ≡ [] = none_is step_view c.args.rest.now (sym c.is_empty.ensures ∙ c.if-is_empty.true) in
-    on_err c.write_element_end.result (λ e. WhereElementTakes around ty v (told e)) (λ e. WhereElementDone s c.args.list around ty c.args.index (map step_view c.args.rest.now) v (told e))
-    (λ e h. subst (λ q. WhereElementDone s c.args.list around ty c.args.index q v (told e)) (sym none) (elements.end_claimed s c.args.list around ty c.args.index v (told e) h)) c.write_element_end.ensures.cause
+    on_err c.write_element_end.result (λ e. WhereElementTakes around ty v (told e)) (λ e. WhereElementDone s (record { place = c.args.list; at = c.args.index; around = around; ty = ty }) (record { path = map step_view c.args.rest.now; verb = v }) (told e))
+    (λ e h. subst (λ q. WhereElementDone s (record { place = c.args.list; at = c.args.index; around = around; ty = ty }) (record { path = q; verb = v }) (told e)) (sym none) (elements.end_claimed s c.args.list around ty c.args.index v (told e) h)) c.write_element_end.ensures.cause
 
 pub write_element-returns-in-Struct-clause-cause : goal.write_element-returns-in-Struct-clause-cause
 write_element-returns-in-Struct-clause-cause g t c =
@@ -418,8 +418,8 @@ write_element-returns-in-Struct-clause-cause g t c =
     let v = action_view c.args.action.now in
     let some : rest ≢ [] = some_is step_view c.args.rest.now (sym c.is_empty.ensures ∙ c.if-is_empty.false) in
     let ty : struct (id_of schema) ≡ ty_of c.args.ty = ap (λ r. struct r.id) c.new-schema.ensures.raw ∙ (ap ty_of_variant (sym c.in-Struct.is) ∙ c.which.ensures.ty) in
-    on_err c.write_steps.result (λ e. WhereDoneWithin s p schema rest v (told e)) (λ e. WhereElementDone s o (schema_of (nodes_of c.args.set.now)) (ty_of c.args.ty) k rest v (told e))
-    (λ e h. subst (λ y. WhereElementDone s o (schema_of (nodes_of c.args.set.now)) y k rest v (told e)) ty (subst (λ ns. WhereElementDone s o (schema_of ns) (struct (id_of schema)) k rest v (told e)) c.new-schema.ensures.nodes
+    on_err c.write_steps.result (λ e. WhereDoneWithin s p schema (record { path = rest; verb = v }) (told e)) (λ e. WhereElementDone s (record { place = o; at = k; around = schema_of (nodes_of c.args.set.now); ty = ty_of c.args.ty }) (record { path = rest; verb = v }) (told e))
+    (λ e h. subst (λ y. WhereElementDone s (record { place = o; at = k; around = schema_of (nodes_of c.args.set.now); ty = y }) (record { path = rest; verb = v }) (told e)) ty (subst (λ ns. WhereElementDone s (record { place = o; at = k; around = schema_of ns; ty = struct (id_of schema) }) (record { path = rest; verb = v }) (told e)) c.new-schema.ensures.nodes
     (elements.struct_claimed s o k p (λ n x is own. c.elements_as_structs.ensures.parts n s o k p x c.requires.index c.element_struct.ensures is own) schema rest v (told e) some h))) c.write_steps.ensures.cause
 
 pub write_element-returns-in-List-clause-cause : goal.write_element-returns-in-List-clause-cause
@@ -436,8 +436,8 @@ write_element-returns-in-List-clause-cause g t c =
     let some : rest ≢ [] = some_is step_view c.args.rest.now (sym c.is_empty.ensures ∙ c.if-is_empty.false) in
     let ty : list e ≡ ty_of c.args.ty = ap ty_of_variant (sym c.in-List.is) ∙ c.which.ensures.ty in
     let has : HasPointer o = subst (Holds o) (sym ty) c.requires.holds in
-    on_err c.write_list.result (λ x. WhereValueDone s (place_view q) around (list e) null rest v (told x)) (λ x. WhereElementDone s o around (ty_of c.args.ty) k rest v (told x))
-    (λ x h. subst (λ y. WhereElementDone s o around y k rest v (told x)) ty (elements.value_claimed s o k q (λ n x is own. c.elements_as_pointers.ensures.parts n s o k q x has c.requires.index c.element_pointer-slot.ensures.place c.requires.there is own) around e rest v (told x) some h)) (c.write_list.ensures.cause null refl)
+    on_err c.write_list.result (λ x. WhereValueDone s (place_view q) (record { around = around; ty = list e; default = null }) (record { path = rest; verb = v }) (told x)) (λ x. WhereElementDone s (record { place = o; at = k; around = around; ty = ty_of c.args.ty }) (record { path = rest; verb = v }) (told x))
+    (λ x h. subst (λ y. WhereElementDone s (record { place = o; at = k; around = around; ty = y }) (record { path = rest; verb = v }) (told x)) ty (elements.value_claimed s o k q (λ n x is own. c.elements_as_pointers.ensures.parts n s o k q x has c.requires.index c.element_pointer-slot.ensures.place c.requires.there is own) around e rest v (told x) some h)) (c.write_list.ensures.cause null refl)
 
 pub write_element-returns-in_default-clause-cause : goal.write_element-returns-in_default-clause-cause
 write_element-returns-in_default-clause-cause g t c =

@@ -20,8 +20,8 @@ returns-clause-writes g c =
     let call = call_of c.args.call.now in
     let path = map step_view c.path.result.now in
     let v = action_view c.action.result.now in
-    let W : List Step → Verb → Type 0 = λ p w. WritesPath s u c.args.object c.args.schema p w in
-    on_ok c.write_steps.result (WritesWithin s u c.args.object c.args.schema path v) (W call.path call.verb)
+    let W : List Step → Verb → Type 0 = λ p w. WritesPath s u c.args.object c.args.schema (record { path = p; verb = w }) in
+    on_ok c.write_steps.result (WritesWithin s u c.args.object c.args.schema (record { path = path; verb = v })) (W call.path call.verb)
     (λ h. subst (W call.path) c.action.ensures (subst (λ p. W p v) c.path.ensures (path_within s u c.args.object c.args.schema path v h))) c.write_steps.ensures.writes
 
 pub returns-clause-cause : goal.returns-clause-cause
@@ -31,6 +31,6 @@ returns-clause-cause g c =
     let call = call_of c.args.call.now in
     let path = map step_view c.path.result.now in
     let v = action_view c.action.result.now in
-    let W : Error → List Step → Verb → Type 0 = λ e p w. WhereDone s c.args.object c.args.schema p w (told e) in
-    on_err c.write_steps.result (λ e. WhereDoneWithin s c.args.object c.args.schema path v (told e)) (λ e. W e call.path call.verb)
+    let W : Error → List Step → Verb → Type 0 = λ e p w. WhereDone s c.args.object c.args.schema (record { path = p; verb = w }) (told e) in
+    on_err c.write_steps.result (λ e. WhereDoneWithin s c.args.object c.args.schema (record { path = path; verb = v }) (told e)) (λ e. W e call.path call.verb)
     (λ e h. subst (W e call.path) c.action.ensures (subst (λ p. W e p v) c.path.ensures (path_claimed s c.args.object c.args.schema path v (told e) h))) c.write_steps.ensures.cause

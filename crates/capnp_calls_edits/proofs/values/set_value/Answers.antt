@@ -30,7 +30,7 @@ returns-in-Text-clause-writes g c =
     let at = state_in g.A.ReaderArena.segments g.A.BuilderArena.room g.A.BuilderArena.books in
     let s = words_in (g.A.ReaderArena.segments c.args.arena.now) in
     let u = words_in (g.A.ReaderArena.segments c.set_flat.new.arena) in
-    subst (λ a. OnOk c.set_flat.result (WritesField s u c.args.object c.args.field [] (set_to (slot_value_view a)))) (sym c.in-Text.is)
+    subst (λ a. OnOk c.set_flat.result (WritesField s u c.args.object c.args.field (record { path = []; verb = set_to (slot_value_view a) }))) (sym c.in-Text.is)
     (text_end (Unit {0}) c.args.field (field_of c.get_proto-said.result.now) c.get_proto-said.ensures (record { 0 = c.as_bytes.result }) (string_bytes c.in-Text.text) c.as_bytes.ensures.value (at c.args.arena.now) (at c.set_flat.new.arena) c.args.object c.set_flat.result c.set_flat.ensures.puts)
 
 pub returns-in-Data-clause-writes : goal.returns-in-Data-clause-writes
@@ -38,7 +38,7 @@ returns-in-Data-clause-writes g c =
     let at = state_in g.A.ReaderArena.segments g.A.BuilderArena.room g.A.BuilderArena.books in
     let s = words_in (g.A.ReaderArena.segments c.args.arena.now) in
     let u = words_in (g.A.ReaderArena.segments c.set_flat-in-Data.new.arena) in
-    subst (λ a. OnOk c.set_flat-in-Data.result (WritesField s u c.args.object c.args.field [] (set_to (slot_value_view a)))) (sym c.in-Data.is)
+    subst (λ a. OnOk c.set_flat-in-Data.result (WritesField s u c.args.object c.args.field (record { path = []; verb = set_to (slot_value_view a) }))) (sym c.in-Data.is)
     (data_end (Unit {0}) c.args.field (field_of c.get_proto-said.result.now) c.get_proto-said.ensures c.deref.result c.in-Data.bytes.items c.deref.ensures.value (at c.args.arena.now) (at c.set_flat-in-Data.new.arena) c.args.object c.set_flat-in-Data.result c.set_flat-in-Data.ensures.puts)
 
 pub returns-in-Number-clause-cause : goal.returns-in-Number-clause-cause

@@ -7,4 +7,4 @@ pub returns-clause-run : goal.returns-clause-run
 returns-clause-run g c =
     let old = streams (source_seen g.R.Read.remaining g.R.Read.failures c.args.source.now) (sink_seen g.W.Write.contents g.W.Write.failures g.W.Write.room c.args.out.now) (sink_seen g.L.Write.contents g.L.Write.failures g.L.Write.room c.args.log.now) in
     let new = streams (source_seen g.R.Read.remaining g.R.Read.failures c.relay_between_pausing.new.source) (sink_seen g.W.Write.contents g.W.Write.failures g.W.Write.room c.relay_between_pausing.new.out) (sink_seen g.L.Write.contents g.L.Write.failures g.L.Write.room c.relay_between_pausing.new.log) in
-    between-never (renamings_of c.args.renamings.now) c.args.root c.args.newer c.args.calls.now c.args.options g.W.Write.may_grow g.L.Write.may_grow old new c.relay_between_pausing.result c.relay_between_pausing.ensures.run
+    between-never (record { versions = record { renamings = renamings_of c.args.renamings.now; older = c.args.root; newer = c.args.newer }; calls = c.args.calls.now; options = c.args.options }) (record { out = g.W.Write.may_grow; log = g.L.Write.may_grow }) old new c.relay_between_pausing.result c.relay_between_pausing.ensures.run

@@ -27,7 +27,7 @@ returns-in-None-clause-puts g c =
     let ty = ty_of c.args.ty in
     let n = c.args.size in
     let none = no_list s n ty (c.in-None.ensures.list n) in
-    subst (λ k. PutsElementContent (at c.args.arena.now) (at c.args.arena.now) c.args.list (edit_element s [] (initn n) ty) c.args.index k (Err c.from.result)) (sym none) (ap Err (ap kind_of c.from.ensures ∙ c.refusal.ensures))
+    subst (λ k. PutsElementContent (at c.args.arena.now) (at c.args.arena.now) (record { place = c.args.list; at = c.args.index; edit = edit_element s [] (initn n) ty }) k (Err c.from.result)) (sym none) (ap Err (ap kind_of c.from.ensures ∙ c.refusal.ensures))
 
 pub put_list-requires-clause-there : goal.put_list-requires-clause-there
 put_list-requires-clause-there g c =

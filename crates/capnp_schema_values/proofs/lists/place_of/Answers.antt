@@ -23,7 +23,7 @@ returns-in_ok-list-in-Some-clause-got g c =
     let ty = ty_of c.args.element_type in
     let d = option_copied c.args.default in
     let got = structs_got around ty c.in-Some.schema c.in-Some.ensures.named (ap schema_of c.in-Some.ensures.nodes) d s u c.args.slot c.struct_size.result c.struct_size.ensures c.in_ok-list-in-Some.list c.requires.near c.in_ok-list-in-Some.ensures.got in
-    subst (PlaceGot around ty d s u c.args.slot) (sym c.sized.ensures) got
+    subst (PlaceGot (record { slot = c.args.slot; around = around; ty = ty; default = d }) s u) (sym c.sized.ensures) got
 
 pub returns-in_ok-list-in-Some-clause-grows : goal.returns-in_ok-list-in-Some-clause-grows
 returns-in_ok-list-in-Some-clause-grows g c =
