@@ -21,6 +21,8 @@ MOST_EDITS_OF_A_CRATE = 8
 # The folders of a crate that hold its text, and the most lines of a file of code.
 PARTS = ("src", "specs", "proofs")
 MOST_LINES = 400
+# The most parameters of a definition of `specs`, those in braces not counted.
+MOST_PARAMETERS = 8
 # The crates that pass on what stands in others.
 DOORS = ("capnp_layout", "capnp_message", "capnp_schema", "capnp_relay")
 
@@ -102,6 +104,41 @@ def faults_of_words(crates):
     for name, paths in sorted(places.items()):
         if len(paths) > 1:
             yield f"{name} is defined in {' and '.join(paths)}"
+
+
+def parts_of(text, end):
+    """The parts of a line: those before its arrows, or those in parentheses and braces, as `end` says."""
+    depth, part = 0, ""
+    for it in text:
+        depth += (it in "({") - (it in ")}")
+        is_end = not depth and it in (end if end == "→" else ")}")
+        part += "" if is_end and end == "→" else it
+        if is_end:
+            yield part.strip()
+            part = ""
+
+
+def parameters_of(parts):
+    """How many parameters the parts name, without those in braces; a part that names none is one."""
+    count = 0
+    for part in parts:
+        names = re.match(r"\(([^():]+) : .*\)$", part)
+        count += len(names[1].split()) if names else not part.startswith("{")
+    return count
+
+
+def faults_of_parameters(crates):
+    """Definitions with more parameters than can be told apart by their places: what belongs together is a record."""
+    for crate in crates:
+        for path in files_below(f"crates/{crate}/specs"):
+            text = text_of(path)
+            found = [(name, parts_of(it, "→")) for name, it in re.findall(r"(?m)^(?:abbrev|unfoldable) pub (\S+) : (.*)$", text)]
+            for block in re.findall(r"(?m)^(?:abbrev|unfoldable) mutual\n((?:(?: .*)?\n)*)", text):
+                found += [(name, parts_of(it, "→")) for name, it in re.findall(r"(?m)^  pub (\S+) : (.*)$", block)]
+            found += [(name, parts_of(it, ")")) for name, it in re.findall(r"(?m)^pub (?:record|data) (\S+) (.*) : Type", text)]
+            for name, parts in found:
+                if parameters_of(parts) > MOST_PARAMETERS:
+                    yield f"{path}: {name} has more than {MOST_PARAMETERS} parameters"
 
 
 def fault_of_edit(crate, path):
@@ -213,7 +250,7 @@ def main():
     crates = listed_crates()
     found = [*faults_of_crates(crates), *faults_of_uses(), *faults_of_edits(crates), *faults_of_links(), *faults_of_samples()]
     found += [*faults_of_named_tests(), *faults_of_lengths(crates)]
-    found += [*faults_of_storeys(), *faults_of_roads(crates), *faults_of_words(crates)]
+    found += [*faults_of_storeys(), *faults_of_roads(crates), *faults_of_words(crates), *faults_of_parameters(crates)]
     with tempfile.TemporaryDirectory() as room:
         shutil.copy("crates.txt", room)
         with concurrent.futures.ThreadPoolExecutor(os.cpu_count()) as pool:

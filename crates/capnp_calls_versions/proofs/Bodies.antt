@@ -23,7 +23,7 @@ use Rattle.capnp_calls_versions.specs.Types.{sort, bits, id_in, keeps_id}
 use Rattle.capnp_calls_versions.specs.Defaults.{AllBytes, default_value_bytes, same_value}
 use Rattle.capnp_calls_versions.specs.Holders.{held_nodes, held_schema, shape_by, is_sound_kind, are_sound}
 use Rattle.capnp_calls_versions.specs.Pairs.{has_each, pairs_of, IsFront}
-use Rattle.capnp_calls_versions.specs.Walks.{IsSoundFor, Decides, PassesField, older_schema, kept_shape, kept_field, begins_with, has_room, keeps_at, older_fields, newer_fields, kept_body, newer_body}
+use Rattle.capnp_calls_versions.specs.Walks.{IsSoundFor, Decides, fields_left, PassesField, older_schema, kept_shape, kept_field, begins_with, has_room, keeps_at, older_fields, newer_fields, kept_body, newer_body}
 use Rattle.capnp_model.specs.Partners.{Renaming, partner_name, renamed_shape}
 use Rattle.capnp_calls_versions.specs.Renamed.{names_in}
 use Rattle.capnp_calls_versions.specs.Breaks.{AreUnrelated}
@@ -144,21 +144,21 @@ together v levels node count f fs g rest pairs h = ap (λ (b : Bool). elim b as 
   | false ↦ is_new count (member_of g.discriminant_value) && rest_test v levels node count (f ∷ fs) rest pairs
 ]) h
 
-pub moves_past : (v : Versions) (levels : Levels) (r : Reached) (node count : ℕ) (left : List FieldRecord) (g : FieldRecord) → begins_with (names_in v.names) node left (string_bytes g.name) ≡ false → is_new count (member_of g.discriminant_value) ≡ true → IsSoundFor v r → PassesField v levels r r node count left g (Some left)
+pub moves_past : (v : Versions) (levels : Levels) (r : Reached) (node count : ℕ) (left : List FieldRecord) (g : FieldRecord) → begins_with (names_in v.names) node left (string_bytes g.name) ≡ false → is_new count (member_of g.discriminant_value) ≡ true → IsSoundFor v r → PassesField v levels r r (fields_left node count left) g (Some left)
 moves_past v levels r node count left g h k s = record {
   sound = s;
   grows = front_itself (pairs_of r);
   tested = λ pairs rest. ap (λ z. has_each pairs (pairs_of r) && z) (alone v levels node count left g rest pairs h ∙ ap (λ z. z && rest_test v levels node count left rest pairs) k);
 }
 
-pub moves_nowhere : (v : Versions) (levels : Levels) (r : Reached) (node count : ℕ) (left : List FieldRecord) (g : FieldRecord) → begins_with (names_in v.names) node left (string_bytes g.name) ≡ false → is_new count (member_of g.discriminant_value) ≡ false → IsSoundFor v r → PassesField v levels r r node count left g None
+pub moves_nowhere : (v : Versions) (levels : Levels) (r : Reached) (node count : ℕ) (left : List FieldRecord) (g : FieldRecord) → begins_with (names_in v.names) node left (string_bytes g.name) ≡ false → is_new count (member_of g.discriminant_value) ≡ false → IsSoundFor v r → PassesField v levels r r (fields_left node count left) g None
 moves_nowhere v levels r node count left g h k s = record {
   sound = s;
   grows = front_itself (pairs_of r);
   tested = λ pairs rest. ap (λ z. has_each pairs (pairs_of r) && z) (alone v levels node count left g rest pairs h ∙ ap (λ z. z && rest_test v levels node count left rest pairs) k) ∙ and_false (has_each pairs (pairs_of r));
 }
 
-pub moves_on : (v : Versions) (levels : Levels) (old new : Reached) (node count : ℕ) (left : List FieldRecord) (f : FieldRecord) (fs : List FieldRecord) (g : FieldRecord) → left ≡ f ∷ fs → bytes_eq (partner_name (names_in v.names) node (string_bytes f.name)) (string_bytes g.name) ≡ true → Decides v old new true (fields_test v levels f g) → PassesField v levels old new node count left g (Some fs)
+pub moves_on : (v : Versions) (levels : Levels) (old new : Reached) (node count : ℕ) (left : List FieldRecord) (f : FieldRecord) (fs : List FieldRecord) (g : FieldRecord) → left ≡ f ∷ fs → bytes_eq (partner_name (names_in v.names) node (string_bytes f.name)) (string_bytes g.name) ≡ true → Decides v old new true (fields_test v levels f g) → PassesField v levels old new (fields_left node count left) g (Some fs)
 moves_on v levels old new node count left f fs g is h d = record {
   sound = d.sound;
   grows = d.grows;
@@ -169,7 +169,7 @@ moves_on v levels old new node count left f fs g is h d = record {
       ∙ ap (λ z. z && rest_test v levels node count fs rest pairs) (d.tested pairs);
 }
 
-pub moves_not : (v : Versions) (levels : Levels) (old new : Reached) (node count : ℕ) (left : List FieldRecord) (f : FieldRecord) (fs : List FieldRecord) (g : FieldRecord) → left ≡ f ∷ fs → bytes_eq (partner_name (names_in v.names) node (string_bytes f.name)) (string_bytes g.name) ≡ true → Decides v old new false (fields_test v levels f g) → PassesField v levels old new node count left g None
+pub moves_not : (v : Versions) (levels : Levels) (old new : Reached) (node count : ℕ) (left : List FieldRecord) (f : FieldRecord) (fs : List FieldRecord) (g : FieldRecord) → left ≡ f ∷ fs → bytes_eq (partner_name (names_in v.names) node (string_bytes f.name)) (string_bytes g.name) ≡ true → Decides v old new false (fields_test v levels f g) → PassesField v levels old new (fields_left node count left) g None
 moves_not v levels old new node count left f fs g is h d = record {
   sound = d.sound;
   grows = d.grows;
@@ -247,14 +247,14 @@ rest_sound left f fs e h = and_right (is_sound_kind (kind_of_field f.body)) (are
 module _ (v : Versions) (levels : Levels) (start old : Reached) (whole : Pairs → Bool) (node count : ℕ) (left rest : List FieldRecord)
     (grows : IsFront (pairs_of start) (pairs_of old))
     (tested : (pairs : Pairs) → (has_each pairs (pairs_of start) && whole pairs) ≡ (has_each pairs (pairs_of old) && rest_test v levels node count left (newer_fields v levels rest) pairs)) where
-  pub fields_stop : (new : Reached) (next : FieldRecord) (more : List FieldRecord) → rest ≡ next ∷ more → PassesField v levels old new node count left next None → Decides v start new false whole
+  pub fields_stop : (new : Reached) (next : FieldRecord) (more : List FieldRecord) → rest ≡ next ∷ more → PassesField v levels old new (fields_left node count left) next None → Decides v start new false whole
   fields_stop new next more e m = record {
     sound = m.sound;
     grows = front_of_front (pairs_of start) (pairs_of old) (pairs_of new) grows m.grows;
     tested = λ pairs. tested pairs ∙ ap (λ (xs : List FieldRecord). has_each pairs (pairs_of old) && rest_test v levels node count left (newer_fields v levels xs) pairs) e ∙ m.tested pairs (newer_fields v levels more);
   }
 
-  pub fields_go : (new : Reached) (next : FieldRecord) (more others : List FieldRecord) → rest ≡ next ∷ more → PassesField v levels old new node count left next (Some others)
+  pub fields_go : (new : Reached) (next : FieldRecord) (more others : List FieldRecord) → rest ≡ next ∷ more → PassesField v levels old new (fields_left node count left) next (Some others)
       → (pairs : Pairs) → (has_each pairs (pairs_of start) && whole pairs) ≡ (has_each pairs (pairs_of new) && rest_test v levels node count others (newer_fields v levels more) pairs)
   fields_go new next more others e m pairs = tested pairs ∙ ap (λ (xs : List FieldRecord). has_each pairs (pairs_of old) && rest_test v levels node count left (newer_fields v levels xs) pairs) e ∙ m.tested pairs (newer_fields v levels more)
 

@@ -74,13 +74,22 @@ begins_with rs node (f ∷ fs) n = bytes_eq (partner_name rs node (string_bytes 
 abbrev pub has_room : Holder → Holder → Bool
 has_room a b = nat_le a.words b.words && nat_le a.pointers b.pointers && keeps_union a.union b.union
 
+-- The older fields of a node that are left, whose union has so many members.
+pub record FieldsLeft : Type 0 where
+  pub node : ℕ
+  pub count : ℕ
+  pub fields : List FieldRecord
+
+abbrev pub fields_left : ℕ → ℕ → List FieldRecord → FieldsLeft
+fields_left node count fields = record { node = node; count = count; fields = fields }
+
 -- Behind a newer field these older ones are left, where it keeps the first of them or is new.
-pub record PassesField (v : Versions) (levels : Levels) (old new : Reached) (node count : ℕ) (left : List FieldRecord) (next : FieldRecord) (o : Option (List FieldRecord)) : Type 0 where
+pub record PassesField (v : Versions) (levels : Levels) (old new : Reached) (left : FieldsLeft) (next : FieldRecord) (o : Option (List FieldRecord)) : Type 0 where
   pub sound : IsSoundFor v new
   pub grows : IsFront (pairs_of old) (pairs_of new)
   pub tested : (pairs : Pairs) (rest : Fields)
-      → (has_each pairs (pairs_of old) && keeps_fields (older_schema v) (held_schema v.newer) pairs count (older_fields v levels node left) (field (string_bytes next.name) (member_of next.discriminant_value) (newer_body v levels next.body) rest))
-      ≡ elim o [ None ↦ false | Some others ↦ has_each pairs (pairs_of new) && keeps_fields (older_schema v) (held_schema v.newer) pairs count (older_fields v levels node others) rest ]
+      → (has_each pairs (pairs_of old) && keeps_fields (older_schema v) (held_schema v.newer) pairs left.count (older_fields v levels left.node left.fields) (field (string_bytes next.name) (member_of next.discriminant_value) (newer_body v levels next.body) rest))
+      ≡ elim o [ None ↦ false | Some others ↦ has_each pairs (pairs_of new) && keeps_fields (older_schema v) (held_schema v.newer) pairs left.count (older_fields v levels left.node others) rest ]
 
 -- Each pair is kept, as far as the structs that it names are among the pairs.
 abbrev pub keeps_all : Versions → Levels → Pairs → Pairs → Bool

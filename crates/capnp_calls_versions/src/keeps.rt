@@ -8,7 +8,7 @@ ghost use Rattle.capnp_records.specs.NodeViews.{kind_of_field, member_of};
 ghost use Rattle.capnp_model.specs.Partners.{partner_name};
 ghost use Rattle.capnp_calls_versions.specs.Renamed.{names_in};
 ghost use Rattle.capnp_calls_versions.specs.Holders.{held_schema, are_sound, is_sound_kind};
-ghost use Rattle.capnp_calls_versions.specs.Walks.{IsSoundFor, Decides, PassesField, older_schema, begins_with, has_room, keeps_at, older_fields, newer_fields, kept_body, newer_body};
+ghost use Rattle.capnp_calls_versions.specs.Walks.{IsSoundFor, Decides, fields_left, PassesField, older_schema, begins_with, has_room, keeps_at, older_fields, newer_fields, kept_body, newer_body};
 ghost use Rattle.capnp_calls_versions.specs.Faults.{taken_rule, break_of, BreaksSections, IsBodyFault, IsFaultOf, IsNextFault, left_after, Passes, IsBreakOfFields, IsBreakAt};
 
 use crate::breaks::{Break, Fault, FieldRule, Rule};
@@ -280,8 +280,8 @@ fn keeps_next<'f>(
     requires left { are_sound left.now ≡ true }
     requires next { is_sound_kind (kind_of_field next.now.body) ≡ true }
     ensures moves { IfOk result (λ r.
-        PassesField versions.now levels reached.old reached.new node count left.now next.now
-        (left_after r)) }
+        PassesField versions.now levels reached.old reached.new (fields_left node count left.now)
+        next.now (left_after r)) }
     ensures passes { IfOk result (λ r. IfOk r (λ others.
         Passes (names_in versions.now.names) node left.now next.now others.now)) }
     ensures fault { IfOk result (λ r. IfErr r

@@ -12,13 +12,14 @@ use Rattle.capnp_units.specs.declared.limiter.ReadLimiter.{ReadLimiter}
 use Rattle.capnp_wire_objects.specs.declared.place.Place as code
 use Rattle.capnp_wire_objects.specs.Places.{place_view}
 use Rattle.capnp_wire.specs.Views.{StructView, ListView}
-use Rattle.capnp_copy_values.specs.Copies.{BecomesCopy, StructSource}
+use Rattle.capnp_copy_values.specs.Copies.{copy_source, BecomesCopy, StructSource}
+use Rattle.capnp_copy_values.specs.Canonical.{lent_copy}
 use Rattle.capnp_copy_values.specs.Lists.{listed_tree}
 use Rattle.capnp_copy_values.specs.declared.lists.ListSource.{ListSource}
 use Rattle.capnp_units.specs.Limits.{IsFree}
 use Rattle.capnp_layout_builders.specs.declared.pointer_builder.PointerBuilder.{PointerBuilder}
 use Rattle.capnp_layout_builders.specs.Copied.{Walk, IsSourceOf, IsListSourceOf}
-use Rattle.capnp_layout_canonical.specs.Copied.{CopiesThrough}
+use Rattle.capnp_layout_canonical.specs.Copied.{SlotChange, slot_changed, CopiesThrough}
 
 -- The word of a pointer is there.
 abbrev pub HasSlot : Segments → code.Place → Type 0
@@ -44,22 +45,16 @@ pub record ScratchUse : Type 0 where
   pub lent : List (List ℕ)
   pub after : List (List ℕ)
 
--- The pointer of a message that gets a value, and the message's words before and after.
-pub record SlotChange : Type 0 where
-  pub old : Segments
-  pub new : Segments
-  pub slot : Place
-
--- That of a handle that writes.
+-- The pointer of a handle that gets a value, and the words of its message.
 abbrev pub slot_change : {A : Type 0} → (A → List (List ℕ)) → PointerBuilder A → PointerBuilder A → SlotChange
-slot_change bytes old new = record { old = words_around bytes old; new = words_around bytes new; slot = place_view old.place }
+slot_change bytes old new = slot_changed (words_around bytes old) (words_around bytes new) (place_view old.place)
 
 -- The scratch's value is put in place of the message's, trimmed, under no limit of words; or it is refused.
 pub record CopiesScratch (n : ℕ) (x : ScratchUse) (y : SlotChange) (result : Result ⊤ Error) : Type 0 where
   pub start : ReadLimiter
   pub end : ReadLimiter
   pub free : IsFree start
-  pub through : CopiesThrough n x.words x.slot x.lent x.after y.old y.new y.slot start result end
+  pub through : CopiesThrough (lent_copy (copy_source n x.words x.slot) x.lent) x.after y start result end
 
 -- What is read is put into the scratch plainly, and from there in place of the message's value; or the scratch refuses it, and all else stands.
 abbrev pub ThroughScratch : Walk → ℕ → ScratchUse → SlotChange → Walk

@@ -20,7 +20,7 @@ use Rattle.capnp_model_writes.specs.Footprints.{OwnsObject}
 use Rattle.capnp_model_writes.specs.Changes.{ReplacesObject}
 use Rattle.capnp_copy_arenas.specs.Structs.{object_of_struct}
 use Rattle.capnp_copy_arenas.specs.declared.fields.StructPlace.{StructPlace}
-use Rattle.capnp_copy_values.specs.Copies.{limited_words, StructSource, GrowsByZeros, TakesObject, ObjectRefused}
+use Rattle.capnp_copy_values.specs.Copies.{CopyOf, copy_of, LimitedWords, limited_words, StructSource, GrowsByZeros, TakesObject, ObjectRefused}
 use Rattle.capnp_copy_values.specs.Lists.{listed_object, listed_tree}
 use Rattle.capnp_copy_values.specs.Objects.{copied_words}
 use Rattle.capnp_copy_values.specs.declared.lists.ListSource.{ListSource}
@@ -95,31 +95,39 @@ SetsSource (from_list v) s u p old result new = SetsList v s u p old result new
 abbrev pub TreeEffect : Type 1
 TreeEffect = ℕ → Tree → Type 0
 
--- The tree that is read was written, and the visits behind its object were made.
-pub record TreePut (levels : ℕ) (o : wire.Object) (there : Option Tree) (path : List Visit) (s u : Segments) (Writes : TreeEffect) (old new : ReadLimiter) : Type 0 where
-  pub value : Tree
-  pub there_is : there ≡ Some value
-  pub walked : Walked path old new
-  pub grows : Grows s u
-  pub takes : TakesObject (copied_words o) s u old new
-  pub writes : Writes (suc levels) value
+-- What is written: the tree that is read of an object of this size, from each of whose pointers n levels may be followed.
+pub record TreeWritten : Type 0 where
+  pub levels : ℕ
+  pub object : wire.Object
+  pub tree : CopyOf Tree
 
--- The tree of an object of this size is written; or it is refused as its copy is, and all words stand.
-abbrev pub TreeGives : ℕ → Segments → wire.Object → Option Tree → List Visit → Segments → Segments → TreeEffect → Walk
-TreeGives levels from o there path s u Writes old (Ok _) new = TreePut levels o there path s u Writes old new
-TreeGives levels from o there path s u Writes old (Err e) new = ObjectRefused from o path (limited_words s old) e (limited_words u new)
+-- The tree that is read was written, and the visits behind its object were made.
+pub record TreePut (w : TreeWritten) (Writes : TreeEffect) (old new : LimitedWords) : Type 0 where
+  pub value : Tree
+  pub there_is : w.tree.there ≡ Some value
+  pub walked : Walked w.tree.path old.limiter new.limiter
+  pub grows : Grows old.segments new.segments
+  pub takes : TakesObject (copied_words w.object) old.segments new.segments old.limiter new.limiter
+  pub writes : Writes (suc w.levels) value
+
+-- The tree is written; or it is refused as its copy is, and all words stand.
+abbrev pub TreeGives : TreeWritten → TreeEffect → LimitedWords → Result ⊤ Error → LimitedWords → Type 0
+TreeGives w Writes old (Ok _) new = TreePut w Writes old new
+TreeGives w Writes old (Err e) new = ObjectRefused w.tree.from w.object w.tree.path old e new
 
 -- The tree of a struct that is read by its parts; n levels may be followed from each of its
 -- pointers.
 abbrev pub TreeOfStruct : ℕ → Segments → StructSource → Segments → Segments → TreeEffect → Walk
 TreeOfStruct levels from x s u Writes old result new =
     let there = each (tree_at levels from) (place_view x.first) x.pointers >>= λ ts. Some (structure x.data_words x.section ts) in
-    TreeGives levels from (object.Struct x.first x.data_words x.pointers) there (from_each (visits levels from) (place_view x.first) x.pointers) s u Writes old result new
+    let tree = copy_of from there (from_each (visits levels from) (place_view x.first) x.pointers) in
+    TreeGives (record { levels = levels; object = object.Struct x.first x.data_words x.pointers; tree = tree }) Writes (limited_words s old) result (limited_words u new)
 
 -- The tree of a list that is read by its parts; n levels may be followed from each of its pointers.
 abbrev pub TreeOfList : ℕ → Segments → ListSource → List ℕ → Segments → Segments → TreeEffect → Walk
 TreeOfList levels from x bytes s u Writes old result new =
-    TreeGives levels from (listed_object x) (listed_tree (tree_at levels from) x bytes) (met_in (visits levels from) (listed_object x)) s u Writes old result new
+    let tree = copy_of from (listed_tree (tree_at levels from) x bytes) (met_in (visits levels from) (listed_object x)) in
+    TreeGives (record { levels = levels; object = listed_object x; tree = tree }) Writes (limited_words s old) result (limited_words u new)
 
 -- The whole tree of what is read is written so. It is refused as `SetsSource` is.
 abbrev pub PutsSource : SourceView → Segments → Segments → TreeEffect → Walk

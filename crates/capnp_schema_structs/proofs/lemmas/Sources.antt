@@ -92,7 +92,7 @@ not_refused : {X : Type 0} (x : ⊤) (e : Error) → ◌≡◌ {A = Result ⊤ E
 not_refused x e h = absurd (cc h)
 
 module _ (s m u : Segments) (q : Place) (sizes : map length u ≡ map length m) (Writes : TreeEffect) (writes : (n : ℕ) (t : Tree) → BecomesCopy n s m q t → Writes n t) where
-  object_put : (levels : ℕ) (from : Segments) (o : wire.Object) (there : Option Tree) (path : List Visit) (old : ReadLimiter) (x : ⊤) (new : ReadLimiter) → ObjectGives (copy_of from there path) (to_put levels o q) (limited_words s old) (Ok x) (limited_words m new) → TreeGives levels from o there path s u Writes old (Ok x) new
+  object_put : (levels : ℕ) (from : Segments) (o : wire.Object) (there : Option Tree) (path : List Visit) (old : ReadLimiter) (x : ⊤) (new : ReadLimiter) → ObjectGives (copy_of from there path) (to_put levels o q) (limited_words s old) (Ok x) (limited_words m new) → TreeGives (record { levels = levels; object = o; tree = copy_of from there path }) Writes (limited_words s old) (Ok x) (limited_words u new)
   object_put levels from o there path old x new h =
       let total : total_words u ≡ total_words m = same_total m u sizes in
       let few = h.takes.few in

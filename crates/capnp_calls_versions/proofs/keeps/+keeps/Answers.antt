@@ -14,7 +14,7 @@ use Rattle.capnp_calls_versions.specs.declared.breaks.FieldRule.TheVariants as o
 use Rattle.capnp_calls_versions.specs.declared.keeps.Levels.{Levels}
 use Rattle.capnp_calls_versions.specs.Holders.{held_nodes, held_schema, shape_by, is_sound_kind}
 use Rattle.capnp_calls_versions.specs.Pairs.{has_each, pairs_of}
-use Rattle.capnp_calls_versions.specs.Walks.{Decides, PassesField, older_schema, kept_shape, keeps_at, begins_with, older_fields, newer_fields}
+use Rattle.capnp_calls_versions.specs.Walks.{Decides, fields_left, PassesField, older_schema, kept_shape, keeps_at, begins_with, older_fields, newer_fields}
 use Rattle.capnp_calls_versions.specs.Faults.{left_after, Passes, IsFaultOf, IsNextFault, IsBreakOfFields, IsBreakAt}
 use Rattle.capnp_model.specs.Partners.{partner_name}
 use Rattle.capnp_calls_versions.specs.Renamed.{names_in}
@@ -135,8 +135,8 @@ keeps_fields-returns-in-Err-clause-decides t c =
     let split : rest ≡ next ∷ more = first_and_rest rest next c.in-len1-up.len_at_least c.next-item.is in
     let all = older_fields c.args.versions.now c.args.levels c.args.node c.args.older.now in
     let count : member_count all ≡ c.member_count-count.result = count_is (λ g. kept_shape c.args.versions.now c.args.levels g) (names_in c.args.versions.now.names) c.args.node c.args.older.now ∙ sym c.member_count-count.ensures in
-    let m : PassesField c.args.versions.now c.args.levels c.loop-rest.reached c.keeps_next.new.reached c.args.node c.member_count-count.result c.loop-rest.left.now next None
-    = subst (λ (r : Result (Bor (List FieldRecord)) Fault). PassesField c.args.versions.now c.args.levels c.loop-rest.reached c.keeps_next.new.reached c.args.node c.member_count-count.result c.loop-rest.left.now next (left_after r)) c.in-Err.is c.in_ok-others.ensures.moves in
+    let m : PassesField c.args.versions.now c.args.levels c.loop-rest.reached c.keeps_next.new.reached (fields_left c.args.node c.member_count-count.result c.loop-rest.left.now) next None
+    = subst (λ (r : Result (Bor (List FieldRecord)) Fault). PassesField c.args.versions.now c.args.levels c.loop-rest.reached c.keeps_next.new.reached (fields_left c.args.node c.member_count-count.result c.loop-rest.left.now) next (left_after r)) c.in-Err.is c.in_ok-others.ensures.moves in
     fields_stop c.args.versions.now c.args.levels c.args.reached.now c.loop-rest.reached (λ pairs. keeps_fields (older_schema c.args.versions.now) (held_schema c.args.versions.now.newer) pairs (member_count all) all (newer_fields c.args.versions.now c.args.levels c.args.newer.now)) c.args.node c.member_count-count.result c.loop-rest.left.now rest c.loop-rest.invariant.grows
     (λ pairs. c.loop-rest.invariant.tested pairs ∙ ap (λ (k : ℕ). has_each pairs (pairs_of c.loop-rest.reached) && rest_test c.args.versions.now c.args.levels c.args.node k c.loop-rest.left.now (newer_fields c.args.versions.now c.args.levels rest) pairs) count)
     c.keeps_next.new.reached next more split m
@@ -163,8 +163,8 @@ keeps_fields-loop-rest-preserved t c =
     let split : rest ≡ next ∷ more = first_and_rest rest next c.in-len1-up.len_at_least c.next-item.is in
     let all = older_fields c.args.versions.now c.args.levels c.args.node c.args.older.now in
     let count : member_count all ≡ c.member_count-count.result = count_is (λ g. kept_shape c.args.versions.now c.args.levels g) (names_in c.args.versions.now.names) c.args.node c.args.older.now ∙ sym c.member_count-count.ensures in
-    let m : PassesField c.args.versions.now c.args.levels c.loop-rest.reached c.keeps_next.new.reached c.args.node c.member_count-count.result c.loop-rest.left.now next (Some c.in-Ok.others.now)
-    = subst (λ (r : Result (Bor (List FieldRecord)) Fault). PassesField c.args.versions.now c.args.levels c.loop-rest.reached c.keeps_next.new.reached c.args.node c.member_count-count.result c.loop-rest.left.now next (left_after r)) c.in-Ok.is c.in_ok-others.ensures.moves in
+    let m : PassesField c.args.versions.now c.args.levels c.loop-rest.reached c.keeps_next.new.reached (fields_left c.args.node c.member_count-count.result c.loop-rest.left.now) next (Some c.in-Ok.others.now)
+    = subst (λ (r : Result (Bor (List FieldRecord)) Fault). PassesField c.args.versions.now c.args.levels c.loop-rest.reached c.keeps_next.new.reached (fields_left c.args.node c.member_count-count.result c.loop-rest.left.now) next (left_after r)) c.in-Ok.is c.in_ok-others.ensures.moves in
     let p : Passes (names_in c.args.versions.now.names) c.args.node c.loop-rest.left.now next c.in-Ok.others.now
     = subst (λ (r : Result (Bor (List FieldRecord)) Fault). IfOk r (λ others. Passes (names_in c.args.versions.now.names) c.args.node c.loop-rest.left.now next others.now)) c.in-Ok.is c.in_ok-others.ensures.passes in
     record {
