@@ -32,6 +32,9 @@ pub record TypedSlot : Type 0 where
   pub around : Schema
   pub ty : Ty
 
+abbrev pub typed_slot : code.Place → Schema → Ty → TypedSlot
+typed_slot slot s ty = record { slot = slot; around = s; ty = ty }
+
 -- Where a path can go on inside a value of the type, the words of a default hold this value; no default is null.
 abbrev pub HoldsInside : Ty → Option (List (List ℕ)) → Tree → Type 0
 HoldsInside ty default d = has_inside ty ≡ true → HoldsDefaultOrNull default d

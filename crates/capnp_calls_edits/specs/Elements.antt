@@ -66,6 +66,10 @@ WhereFieldDone s p f c Claim = ClaimsWhere (IsFieldDone f c.path c.verb (entry_o
 abbrev pub IsElementDone : Schema → Ty → List Step → Verb → Cell → Type 0
 IsElementDone s ty path verb c = (e : Extent) × IsDone (step_element s path verb ty (element_as s ty e c.section (read_child s c.kids)))
 
+-- What a call does where its path ends.
+abbrev pub call_at_end : Verb → Call
+call_at_end verb = record { path = []; verb = verb }
+
 -- Whatever elements the list has: where the rest of a call is done at the one of the index, that
 -- becomes what it makes of it. Some levels of pointers may be new, and nothing else changes.
 abbrev pub EditsElementAt : Segments → Segments → ElementAt → Call → Type 0

@@ -11,9 +11,10 @@ ghost use Rattle.capnp_calls.specs.Messages.{tree_of_message};
 ghost use Rattle.capnp_values_queries.specs.Types.{ty_of, is_type_of};
 ghost use Rattle.capnp_calls.specs.CallViews.{action_view, slot_value_view};
 ghost use Rattle.capnp_copy_arenas.specs.Refusals.{IsSizeOrRefusal};
+ghost use Rattle.capnp_schema_lists.specs.Places.{typed_element};
 ghost use Rattle.capnp_schema_lists.specs.Lists.{IsListThere};
 ghost use Rattle.capnp_schema_lists.specs.Elements.{Holds, HoldsStructs};
-ghost use Rattle.capnp_calls_edits.specs.Elements.{EditsElementAt, WhereElementTakes};
+ghost use Rattle.capnp_calls_edits.specs.Elements.{call_at_end, EditsElementAt, WhereElementTakes};
 ghost use Rattle.capnp_calls_edits.specs.Written.{is_single};
 ghost use Rattle.capnp_calls_edits.specs.Behind.{BytesGrowIn};
 
@@ -51,9 +52,8 @@ fn set_plain<A: BuilderArena>(
     requires index { index < list.count }
     requires holds { Holds list (ty_of ty) }
     ensures writes { (s : Schema) → OnOk result (EditsElementAt (words_in (A.segments arena.old))
-        (words_in (A.segments arena.new))
-        (record { place = list; at = index; around = s; ty = ty_of ty })
-        (record { path = []; verb = set_to (slot_value_view value.now) })) }
+        (words_in (A.segments arena.new)) (typed_element list index s (ty_of ty))
+        (call_at_end (set_to (slot_value_view value.now)))) }
     ensures grows { Grows (words_in (A.segments arena.old)) (words_in (A.segments arena.new)) }
     ensures cause { (s : Schema) → is_single (slot_value_view value.now) ≡ true
         → IfErr result (λ e. WhereElementTakes s (ty_of ty)
@@ -87,13 +87,11 @@ fn set_message<A: BuilderArena>(
     requires holds { Holds list (ty_of ty) }
     requires structs { (id : ℕ) → struct id ≡ ty_of ty → size_number list.size ≡ 7 }
     ensures writes { (s : Schema) → OnOk result (EditsElementAt (words_in (A.segments arena.old))
-        (words_in (A.segments arena.new))
-        (record { place = list; at = index; around = s; ty = ty_of ty })
-        (record { path = []; verb = set_to (message (tree_of_message value.now)) })) }
+        (words_in (A.segments arena.new)) (typed_element list index s (ty_of ty))
+        (call_at_end (set_to (message (tree_of_message value.now))))) }
     ensures grows { BytesGrowIn (A.segments arena.old) (A.segments arena.new) list }
-    ensures cause { (s : Schema) → IfErr result (λ e.
-        WhereElementTakes s (ty_of ty) (set_to (message (tree_of_message value.now)))
-        (IsSizeOrRefusal A.refuses e)) }
+    ensures cause { (s : Schema) → IfErr result (λ e. WhereElementTakes s (ty_of ty) (set_to
+        (message (tree_of_message value.now))) (IsSizeOrRefusal A.refuses e)) }
     ensures books { A.books arena.new ≡ A.books arena.old }
 {
     match ty.which() {
@@ -127,13 +125,11 @@ fn set_value<A: BuilderArena>(
     requires holds { Holds list (ty_of ty) }
     requires structs { (id : ℕ) → struct id ≡ ty_of ty → size_number list.size ≡ 7 }
     ensures writes { (s : Schema) → OnOk result (EditsElementAt (words_in (A.segments arena.old))
-        (words_in (A.segments arena.new))
-        (record { place = list; at = index; around = s; ty = ty_of ty })
-        (record { path = []; verb = set_to (slot_value_view value.now) })) }
+        (words_in (A.segments arena.new)) (typed_element list index s (ty_of ty))
+        (call_at_end (set_to (slot_value_view value.now)))) }
     ensures grows { BytesGrowIn (A.segments arena.old) (A.segments arena.new) list }
-    ensures cause { (s : Schema) → IfErr result (λ e.
-        WhereElementTakes s (ty_of ty) (set_to (slot_value_view value.now))
-        (IsSizeOrRefusal A.refuses e)) }
+    ensures cause { (s : Schema) → IfErr result (λ e. WhereElementTakes s (ty_of ty) (set_to
+        (slot_value_view value.now)) (IsSizeOrRefusal A.refuses e)) }
     ensures books { A.books arena.new ≡ A.books arena.old }
 {
     match value {
@@ -167,10 +163,9 @@ pub(crate) fn write_element_end<A: BuilderArena>(
     requires holds { Holds list (ty_of ty) }
     requires sizes { HoldsStructs (schema_of (nodes_of set.now)) list (ty_of ty) }
     requires known { is_type_of (nodes_of set.now) ty ≡ true }
-    ensures writes { OnOk result (EditsElementAt (words_in (A.segments arena.old))
-        (words_in (A.segments arena.new))
-        (record { place = list; at = index; around = schema_of (nodes_of set.now); ty = ty_of ty })
-        (record { path = []; verb = action_view action.now })) }
+    ensures writes { OnOk result (EditsElementAt (words_in (A.segments arena.old)) (words_in
+        (A.segments arena.new)) (typed_element list index (schema_of (nodes_of set.now)) (ty_of ty))
+        (call_at_end (action_view action.now))) }
     ensures grows { BytesGrowIn (A.segments arena.old) (A.segments arena.new) list }
     ensures cause { IfErr result (λ e. WhereElementTakes (schema_of (nodes_of set.now)) (ty_of ty)
         (action_view action.now) (IsSizeOrRefusal A.refuses e)) }

@@ -12,12 +12,13 @@ ghost use Rattle.capnp_calls.specs.Roots.{starts_with_name};
 ghost use Rattle.capnp_copy_arenas.specs.Refusals.{IsSizeOrRefusal};
 ghost use Rattle.capnp_copy_arenas.specs.States.{HasWords};
 ghost use Rattle.capnp_schema_structs.specs.Edits.{IsThere, HoldsShape};
+ghost use Rattle.capnp_schema_lists.specs.Places.{typed_element};
 ghost use Rattle.capnp_schema_lists.specs.Lists.{IsListThere};
 ghost use Rattle.capnp_schema_lists.specs.Elements.{Holds, HoldsStructs};
 ghost use Rattle.capnp_calls.specs.Ways.{IsWay};
 ghost use Rattle.capnp_calls_edits.specs.Written.{WritesPath, WhereDone, HoldsDefaultOrNull};
 ghost use Rattle.capnp_calls_edits.specs.Elements.{WritesWithin, WhereDoneWithin, WritesFieldWithin, WhereFieldDone};
-ghost use Rattle.capnp_calls_edits.specs.Behind.{call_left, HoldsInside, WritesBehind, FailsBehind, WritesAtElement, FailsAtElement, BytesGrowBehind, BytesGrowAround, BytesGrowIn};
+ghost use Rattle.capnp_calls_edits.specs.Behind.{call_left, HoldsInside, WritesBehind, FailsBehind, WritesAtElement, FailsAtElement, BytesGrowBehind, BytesGrowAround, BytesGrowIn, typed_slot};
 ghost use Rattle.capnp_values.specs.Shown.{schema_in};
 
 use crate::default::default_of;
@@ -190,15 +191,13 @@ fn write_value<A: BuilderArena>(
     requires near { slot.position < 2 ^ 61 }
     requires known { is_type_of (nodes_of set.now) ty ≡ true }
     requires way { IsWay (schema_of (nodes_of set.now)) (map step_view path.now) way.now }
-    ensures writes { WritesBehind (HoldsInside (ty_of ty) (option_copied default.entry))
-        (A.segments arena.old) (A.segments arena.new)
-        (record { slot = slot; around = schema_in set.now; ty = ty_of ty })
+    ensures writes { WritesBehind (HoldsInside (ty_of ty) (option_copied default.entry)) (A.segments
+        arena.old) (A.segments arena.new) (typed_slot slot (schema_in set.now) (ty_of ty))
         (call_left path.now action.now) result }
     ensures grows { BytesGrowBehind (A.segments arena.old) (A.segments arena.new) slot }
     ensures cause { FailsBehind (HoldsInside (ty_of ty) (option_copied default.entry))
-        (IsSizeOrRefusal A.refuses) (A.segments arena.old)
-        (record { slot = slot; around = schema_in set.now; ty = ty_of ty })
-        (call_left path.now action.now) result }
+        (IsSizeOrRefusal A.refuses) (A.segments arena.old) (typed_slot slot (schema_in set.now)
+        (ty_of ty)) (call_left path.now action.now) result }
     ensures books { A.books arena.new ≡ A.books arena.old }
 {
     match ty.which() {
@@ -230,14 +229,12 @@ fn write_struct<A: BuilderArena>(
     requires named { starts_with_name (map step_view path.now) ≡ true }
     requires way { IsWay (schema_around schema) (map step_view path.now) way.now }
     ensures writes { WritesBehind (HoldsDefaultOrNull (option_copied default.entry))
-        (A.segments arena.old) (A.segments arena.new) (record
-        { slot = slot; around = schema_around schema.entry; ty = struct (id_of schema.entry) })
-        (call_left path.now action.now) result }
+        (A.segments arena.old) (A.segments arena.new) (typed_slot slot (schema_around schema.entry)
+        (struct (id_of schema.entry))) (call_left path.now action.now) result }
     ensures grows { BytesGrowBehind (A.segments arena.old) (A.segments arena.new) slot }
     ensures cause { FailsBehind (HoldsDefaultOrNull (option_copied default.entry))
-        (IsSizeOrRefusal A.refuses) (A.segments arena.old) (record
-        { slot = slot; around = schema_around schema.entry; ty = struct (id_of schema.entry) })
-        (call_left path.now action.now) result }
+        (IsSizeOrRefusal A.refuses) (A.segments arena.old) (typed_slot slot (schema_around
+        schema.entry) (struct (id_of schema.entry))) (call_left path.now action.now) result }
     ensures books { A.books arena.new ≡ A.books arena.old }
 {
     let inner = struct_or_default(arena, slot, struct_size(schema), default)?;
@@ -261,15 +258,13 @@ fn write_list<A: BuilderArena>(
     requires near { slot.position < 2 ^ 61 }
     requires known { is_type_of (nodes_of set.now) element ≡ true }
     requires way { IsWay (schema_of (nodes_of set.now)) (map step_view path.now) way.now }
-    ensures writes { WritesBehind (HoldsDefaultOrNull (option_copied default.entry))
-        (A.segments arena.old) (A.segments arena.new)
-        (record { slot = slot; around = schema_in set.now; ty = list (ty_of element) })
-        (call_left path.now action.now) result }
+    ensures writes { WritesBehind (HoldsDefaultOrNull (option_copied default.entry)) (A.segments
+        arena.old) (A.segments arena.new) (typed_slot slot (schema_in set.now) (list (ty_of
+        element))) (call_left path.now action.now) result }
     ensures grows { BytesGrowBehind (A.segments arena.old) (A.segments arena.new) slot }
-    ensures cause { FailsBehind (HoldsDefaultOrNull (option_copied default.entry))
-        (IsSizeOrRefusal A.refuses) (A.segments arena.old)
-        (record { slot = slot; around = schema_in set.now; ty = list (ty_of element) })
-        (call_left path.now action.now) result }
+    ensures cause { FailsBehind (HoldsDefaultOrNull (option_copied default.entry)) (IsSizeOrRefusal
+        A.refuses) (A.segments arena.old) (typed_slot slot (schema_in set.now) (list (ty_of
+        element))) (call_left path.now action.now) result }
     ensures books { A.books arena.new ≡ A.books arena.old }
 {
     let Some((index, rest)) = first_index(path) else {
@@ -305,12 +300,10 @@ fn write_element<A: BuilderArena>(
     requires known { is_type_of (nodes_of set.now) ty ≡ true }
     requires way { IsWay (schema_of (nodes_of set.now)) (map step_view rest.now) way.now }
     ensures writes { OnOk result (WritesAtElement (A.segments arena.old) (A.segments arena.new)
-        (record { place = list; at = index; around = schema_in set.now; ty = ty_of ty })
-        (call_left rest.now action.now)) }
+        (typed_element list index (schema_in set.now) (ty_of ty)) (call_left rest.now action.now)) }
     ensures grows { BytesGrowIn (A.segments arena.old) (A.segments arena.new) list }
     ensures cause { IfErr result (FailsAtElement (IsSizeOrRefusal A.refuses) (A.segments arena.old)
-        (record { place = list; at = index; around = schema_in set.now; ty = ty_of ty })
-        (call_left rest.now action.now)) }
+        (typed_element list index (schema_in set.now) (ty_of ty)) (call_left rest.now action.now)) }
     ensures books { A.books arena.new ≡ A.books arena.old }
 {
     if rest.is_empty() {

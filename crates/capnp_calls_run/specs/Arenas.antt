@@ -10,6 +10,10 @@ use Rattle.capnp_schema_structs.specs.declared.init.Part.{Part}
 use Rattle.capnp_calls_run.specs.declared.fault.RunFault.{RunFault}
 use Rattle.capnp_calls_run.specs.Runs.{AnswersAt, FailsAt, PutsLongAt, RunsAt, StopsAt, EndsLongAt, RunsRoot, StopsRoot, EndsLongRoot}
 
+-- A struct, by its place and its schema.
+abbrev pub part_at : StructPlace → StructSchema → Part
+part_at place schema = record { place = place; schema = schema }
+
 -- ---- a call at a struct
 
 abbrev pub BytesAnswerAt : List (List ℕ) → List (List ℕ) → Part → Call → Reply → Type 0

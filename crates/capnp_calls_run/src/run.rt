@@ -21,7 +21,7 @@ ghost use Rattle.capnp_model.specs.Printing.{as_it_is};
 ghost use Rattle.capnp_units.specs.declared.kinds.ErrorKind.{ErrorKind};
 ghost use Rattle.capnp_calls_run.specs.declared.fault.RunFault.{RunFault};
 ghost use Rattle.capnp_calls_run.specs.Runs.{TestsAt, TellsWhy};
-ghost use Rattle.capnp_calls_run.specs.Arenas.{BytesAnswerAt, BytesFailAt, BytesPutLongAt, BytesRunAt, BytesStopAt, BytesEndLongAt};
+ghost use Rattle.capnp_calls_run.specs.Arenas.{part_at, BytesAnswerAt, BytesFailAt, BytesPutLongAt, BytesRunAt, BytesStopAt, BytesEndLongAt};
 
 use crate::fault::RunFault;
 use capnp_calls::laws::roots_are_no_groups;
@@ -104,9 +104,9 @@ fn answer<A: BuilderArena>(
     requires wide { HoldsShape object (shape_of_struct schema) }
     requires resolved { IsResolved schema call.now }
     ensures answer { IfOk result (λ r. BytesAnswerAt (A.segments arena.old) (A.segments arena.new)
-        (record { place = object; schema = schema.entry }) (call_of call.now) (reply_view r)) }
+        (part_at object schema.entry) (call_of call.now) (reply_view r)) }
     ensures stops { IfErr result (BytesFailAt (IsSizeOrRefusal A.refuses) (A.segments arena.old)
-        (A.segments arena.new) (record { place = object; schema = schema.entry })
+        (A.segments arena.new) (part_at object schema.entry)
         (call_of call.now)) }
     ensures size { result ≡ Err RunFault.Size
         → BytesPutLongAt (A.segments arena.old) object schema.entry (call_of call.now) }
@@ -155,11 +155,9 @@ pub fn run_at<A: BuilderArena>(
     requires root { IsRoot schema }
     requires resolved { AreResolved schema calls.now }
     ensures all { IfOk result (λ told. BytesRunAt (A.segments arena.old) (A.segments arena.new)
-        (record { place = object; schema = schema.entry }) (calls_of calls.now)
-        (map reply_view told.items)) }
+        (part_at object schema.entry) (calls_of calls.now) (map reply_view told.items)) }
     ensures stops { IfErr result (BytesStopAt (IsSizeOrRefusal A.refuses) (A.segments arena.old)
-        (A.segments arena.new) (record { place = object; schema = schema.entry })
-        (calls_of calls.now)) }
+        (A.segments arena.new) (part_at object schema.entry) (calls_of calls.now)) }
     ensures size { result ≡ Err RunFault.Size
         → BytesEndLongAt (A.segments arena.old) object schema.entry (calls_of calls.now) }
     ensures books { A.books arena.new ≡ A.books arena.old }

@@ -34,6 +34,9 @@ pub record SinksGrow : Type 1 where
   pub out : Type 0
   pub log : Type 0
 
+abbrev pub sinks_grow : Type 0 → Type 0 → SinksGrow
+sinks_grow out log = record { out = out; log = log }
+
 -- The answer of the relay to a message, in the plain or the canonical form, which also reads under the newer schema.
 pub record IsAnswerBetween (x : BetweenAsked) (s : Segments) (a : Answer) : Type 0 where
   pub same : IsAnswerInForm x.options.plain x.versions.older (map call_view x.calls) x.options.bounds s a

@@ -9,7 +9,7 @@ ghost use Rattle.capnp_calls_versions.specs.Renamed.{renamings_of};
 ghost use Rattle.capnp_relay_answers.specs.RootCalls.{root_schema, root_calls};
 ghost use Rattle.capnp_relay_streams.specs.Newer.{MayRun, root_versions};
 ghost use Rattle.capnp_relay_streams.specs.Relaying.{relay_work};
-ghost use Rattle.capnp_relay_streams.specs.Ends.{IsHeld, between_asked, RelaysBetween, PausesBetween, IfRun, IfHeld};
+ghost use Rattle.capnp_relay_streams.specs.Ends.{IsHeld, between_asked, RelaysBetween, PausesBetween, IfRun, IfHeld, sinks_grow};
 
 use crate::options::RelayOptions;
 use crate::relay::relay_calls;
@@ -102,7 +102,7 @@ pub fn relay_between<R: BufRead, W: Write, L: Write>(
     ensures run { let seen = streams_of ⟦<R as Read>⟧ ⟦<W as Write>⟧ ⟦<L as Write>⟧ in
         RelaysBetween RunEndsAs
         (between_asked (root_versions [] root.entry newer.entry) calls.now options)
-        (record { out = W.may_grow; log = L.may_grow })
+        (sinks_grow W.may_grow L.may_grow)
         (seen source.old out.old log.old) (seen source.new out.new log.new) result }
     ensures zeros { IfRun result (region.new ≡ replicate (length region.old) 0) }
     ensures untouched { IfHeld result ((source.new ≡ source.old) × (out.new ≡ out.old)
@@ -135,7 +135,7 @@ pub fn relay_between_with<R: BufRead, W: Write, L: Write>(
         RelaysBetween RunEndsAs
         (between_asked (root_versions (renamings_of renamings.now) root.entry newer.entry)
         calls.now options)
-        (record { out = W.may_grow; log = L.may_grow })
+        (sinks_grow W.may_grow L.may_grow)
         (seen source.old out.old log.old) (seen source.new out.new log.new) result }
     ensures zeros { IfRun result (region.new ≡ replicate (length region.old) 0) }
     ensures untouched { IfHeld result ((source.new ≡ source.old) × (out.new ≡ out.old)
@@ -162,12 +162,10 @@ pub fn relay_between_pausing<R: BufRead, W: Write, L: Write, P: Pause<R, W, L>>(
     region: &mut [u8],
 ) -> Result<Counts, BetweenFault>
     requires root { IsRoot root }
-    ensures run { let seen = streams_of ⟦<R as Read>⟧ ⟦<W as Write>⟧ ⟦<L as Write>⟧ in
-        RelaysBetween (RelaysPausing P.may_fail)
-        (between_asked (root_versions (renamings_of renamings.now) root.entry newer.entry)
-        calls.now options)
-        (record { out = W.may_grow; log = L.may_grow })
-        (seen source.old out.old log.old) (seen source.new out.new log.new) result }
+    ensures run { let seen = streams_of ⟦<R as Read>⟧ ⟦<W as Write>⟧ ⟦<L as Write>⟧ in RelaysBetween
+        (RelaysPausing P.may_fail) (between_asked (root_versions (renamings_of renamings.now)
+        root.entry newer.entry) calls.now options) (sinks_grow W.may_grow L.may_grow) (seen
+        source.old out.old log.old) (seen source.new out.new log.new) result }
     ensures pauses { PausesBetween (pauses_of ⟦<R as Read>⟧ ⟦<W as Write>⟧ ⟦<L as Write>⟧ P.holds
         P.fails) (relay_work root.entry calls.now options W.may_grow L.may_grow)
         (moment source.old out.old log.old) (moment source.new out.new log.new) result }

@@ -15,6 +15,9 @@ pub record ElementAt : Type 0 where
   pub around : Schema
   pub ty : Ty
 
+abbrev pub typed_element : ListPlace → ℕ → Schema → Ty → ElementAt
+typed_element list index s ty = record { place = list; at = index; around = s; ty = ty }
+
 -- The struct is the element at an index of a list of structs, which lie behind the tag.
 pub record IsStructAt (o : ListPlace) (i : ℕ) (p : StructPlace) : Type 0 where
   pub structs : size_number o.size ≡ 7

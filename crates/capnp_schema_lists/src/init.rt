@@ -11,6 +11,7 @@ ghost use Rattle.capnp_copy_arenas.specs.Refusals.{IsSizeOrRefusal};
 ghost use Rattle.capnp_copy_arenas.specs.States.{state_in};
 ghost use Rattle.capnp_values.specs.Shown.{schema_in};
 ghost use Rattle.capnp_schema_structs.specs.Puts.{HasCause};
+ghost use Rattle.capnp_schema_lists.specs.Places.{typed_element};
 ghost use Rattle.capnp_schema_lists.specs.Elements.{Holds, no_new_element};
 ghost use Rattle.capnp_schema_lists.specs.Lists.{IsListThere};
 ghost use Rattle.capnp_schema_lists.specs.Puts.{PutsElementZeros};
@@ -60,9 +61,8 @@ pub fn init_element<A: BuilderArena>(
     requires holds { Holds list (ty_of ty) }
     requires known { is_type_of (nodes_of set.now) ty ≡ true }
     requires index { index < list.count }
-    ensures puts { let seen = state_in A.segments A.room A.books in
-        PutsElementZeros (seen arena.old) (seen arena.new)
-        (record { place = list; at = index; around = schema_in set.now; ty = ty_of ty }) size
+    ensures puts { let seen = state_in A.segments A.room A.books in PutsElementZeros (seen
+        arena.old) (seen arena.new) (typed_element list index (schema_in set.now) (ty_of ty)) size
         result }
     ensures cause { IfErr result (HasCause (element_content (schema_in set.now) (initn size)
         (ty_of ty)) (IsSizeOrRefusal A.refuses)) }

@@ -98,9 +98,8 @@ fn copy_some<'a, A: BuilderArena, B: ReaderArena>(
     requires some { IsNotNull (seen_struct B.segments source.now) index }
     ensures writes { WritesRead A.segments (seen_struct B.segments source.now) arena.old arena.new
         object (copied_field field.entry) result }
-    ensures why { let pointer = field_pointer field.entry (seen_struct B.segments source.now) index
-        (ty_of ty) in IfErr result (SomeRefused (IsSizeOrRefusal A.refuses) pointer
-        (words_in (A.segments arena.new))) }
+    ensures why { IfErr result (SomeRefused (IsSizeOrRefusal A.refuses) (field_pointer field.entry
+        (seen_struct B.segments source.now) index (ty_of ty)) (words_in (A.segments arena.new))) }
     ensures cause { IsToldIfFaultless (IsSizeOrRefusal A.refuses)
         (seen_struct B.segments source.now) (IsFieldFaultless field.entry) result }
     ensures grows { Grows (words_in (A.segments arena.old)) (words_in (A.segments arena.new)) }

@@ -8,6 +8,7 @@ ghost use Rattle.capnp_copy_arenas.specs.Elements.{first_element};
 ghost use Rattle.capnp_records.specs.Sets.{nodes_of};
 ghost use Rattle.capnp_values_queries.specs.Types.{ty_of, is_type_of};
 ghost use Rattle.capnp_values.specs.Shown.{number_shown};
+ghost use Rattle.capnp_schema_lists.specs.Places.{typed_element};
 ghost use Rattle.capnp_schema_lists.specs.Lists.{IsListThere, GrowsIn};
 ghost use Rattle.capnp_schema_lists.specs.Elements.{Holds, HoldsStructs};
 ghost use Rattle.capnp_schema_values.specs.Built.{IsPlaced};
@@ -110,7 +111,7 @@ pub fn get_element<'a, A: BuilderArena>(
     requires sizes { HoldsStructs (schema_of (nodes_of set.now)) list (ty_of ty) }
     requires known { is_type_of (nodes_of set.now) ty ≡ true }
     ensures gets { GetsElementAt A.segments A.nesting memory.old.arena memory.new.arena
-        (record { place = list; at = index; around = schema_of (nodes_of set.now); ty = ty_of ty })
+        (typed_element list index (schema_of (nodes_of set.now)) (ty_of ty))
         result }
     ensures there { IfOk result (IsPlaced (words_in (A.segments memory.new.arena))) }
     ensures grows { GrowsIn (words_in (A.segments memory.old.arena))
