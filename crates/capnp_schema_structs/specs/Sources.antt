@@ -1,5 +1,5 @@
 -- Structs and lists that are copied into slots. (Encoding, "Structs", "Lists")
-use Rattle.std.specs.Prelude.{◌≡◌, ℕ, suc, ◌≤◌, Bool, true, false, if◌then◌else◌, List, Option, Some, None, MatchOption, Ok, Err, Result, OnErr}
+use Rattle.std.specs.Prelude.{◌≡◌, ⊤, ℕ, suc, ◌≤◌, Bool, true, false, if◌then◌else◌, List, Option, Some, None, MatchOption, Ok, Err, Result, OnErr}
 use Rattle.capnp_model.specs.Chains.{◌>>=◌}
 use Rattle.capnp_model.specs.Segments.{Segments, Place}
 use Rattle.capnp_model.specs.Schemas.{Ty, void, plain, text, blob, untyped, interface, struct, list}
