@@ -13,6 +13,7 @@ use Rattle.capnp_schema_structs.specs.Builders.{struct_view_of, words_around_str
 use Rattle.capnp_schema_structs.specs.declared.dynamic_struct.Builder.{Builder as DynamicStruct}
 use Rattle.capnp_schema_lists.specs.Builders.{words_around_list as words_of_list, IsReadyList as IsListReady}
 use Rattle.capnp_schema_lists.specs.Readers.{list_of}
+use Rattle.capnp_schema_lists.specs.Places.{typed_element}
 use Rattle.capnp_schema_lists.specs.Lists.{IsListOf}
 use Rattle.capnp_schema_lists.specs.declared.dynamic_list.Builder.{Builder as DynamicList}
 use Rattle.capnp_schema_values.specs.declared.placed.Placed.{Placed}
@@ -33,7 +34,7 @@ module _ {A : Type 0} (bytes : A → List (List ℕ)) (nesting : A → ℤ) wher
     pub place : new.place ≡ old.place
     pub set : new.set.now ≡ old.set.now
     pub element_type : new.element_type ≡ old.element_type
-    pub gets : GetsElement (schema_of (nodes_of old.set.now)) (ty_of old.element_type) (list_of bytes nesting old) (words_of_list bytes old) (words_of_list bytes new) old.place index r
+    pub gets : GetsElement (list_of bytes nesting old) (words_of_list bytes old) (words_of_list bytes new) (typed_element old.place index (schema_of (nodes_of old.set.now)) (ty_of old.element_type)) r
 
 module _ {A : Type 0} (bytes : A → List (List ℕ)) where
   -- Whatever struct is owned there, the handle is still ready.
