@@ -41,7 +41,7 @@ ENDS = {
         "set lines.0.count": PATHS[2],
         "set customer.name": PATHS[1],
         "get a": {"path": ["a"], "verb": "get"},
-        "set status.paid": PAID,
+        "set status.open": setting({"number": 0}, "status", "open"),
         "set notes.0": setting({"text": "alpha"}, "notes", 0),
         "clear customer.name": {"path": ["customer", "name"], "verb": "clear"},
         "set customer.address.zip to 0": setting({"number": 0}, "customer", "address", "zip"),
@@ -168,7 +168,7 @@ def tool(runs):
 
 def paths(runs):
     """Instructions for each byte of `nested`, of calls along paths."""
-    rows = {"three paths": PATHS, "with a member of a union": [*PATHS[:2], PAID], "a member of a union": [PAID]}
+    rows = {"three paths": PATHS, "with a void member": [*PATHS[:2], ENDS["nested"]["set status.open"]], "with a member": [*PATHS[:2], PAID], "a call in the region": [ENDS["nested"]["clear customer.name"]]}
     made = {it: {form: runs.relay("nested", form, runs.calls(it, calls)) for form in ("framed", "packed", "framed+plain")} for it, calls in rows.items()}
     cells = {it: [f"{run.result()[0] / runs.length(f'nested.{form[:6]}'):.1f}" for form, run in forms.items()] for it, forms in made.items()}
     table(["", "framed", "packed", "framed+plain"], [[it, *found] for it, found in cells.items()])
@@ -183,6 +183,25 @@ def ends(runs):
             made.append((name, said, runs.relay(name, "framed", file), runs.relay(name, "framed", file, "empty")))
     rows = [(name, said, (one.result()[0] - none.result()[0]) / runs.messages[name]) for name, said, one, none in made]
     table(["", "one call", "instructions"], [[name, f"`{said}`", f"{count:,.0f}"] for name, said, count in rows])
+
+
+def members(runs):
+    """Instructions of a message where a member of a union is set, by whether its struct has the member's word."""
+    parts = {"set status.paid, with its word": [], "set status.paid, without": []}
+    with open(runs.stream("nested.framed"), "rb") as file:
+        for message in map(bytes, frames(file.read())):
+            # (one segment: its table, the root's pointer, and the root's three words, the last of which is `paid`)
+            start = 16 + 8 * (int.from_bytes(message[8:12], "little") >> 2)
+            parts[[*parts][not any(message[start + 16 : start + 24])]].append(message)
+    file, made = runs.calls("nested set status.paid", [PAID]), {}
+    none = runs.relay("nested", "framed", file, "empty")
+    for title, part in parts.items():
+        name = re.sub(r"\W+", "_", title)
+        with open(runs.stream(name), "wb") as stream:
+            stream.write(b"".join(part))
+        made[title] = runs.relay("nested", "framed", file, name), len(part)
+    rows = [[it, str(count), f"{(run.result()[0] - none.result()[0]) / count:,.0f}"] for it, (run, count) in made.items()]
+    table(["`nested`", "messages", "instructions"], rows)
 
 
 def prints(runs):
@@ -202,6 +221,7 @@ def main(folder, *peers):
     tool(runs)
     paths(runs)
     ends(runs)
+    members(runs)
     prints(runs)
     start = runs.relay("small", "framed", runs.calls("set a", [SET_A]), "empty").result()[0]
     print(f"\nstart of the program: {start:,}")
