@@ -174,9 +174,19 @@ def paths(runs):
     table(["", "framed", "packed", "framed+plain"], [[it, *found] for it, found in cells.items()])
 
 
+def without_names(runs):
+    """The stream `nested` with each customer's name cleared."""
+    calls = runs.calls("nested without names", [ENDS["nested"]["clear customer.name"]])
+    with open(runs.stream("nested.framed"), "rb") as source, open(runs.stream("without_names"), "wb") as out:
+        words = [RELAY, runs.stream("bench.json"), calls, ROOTS["nested"], "framed"]
+        subprocess.run(words, stdin=source, stdout=out, stderr=subprocess.DEVNULL, check=True)
+    return "without_names"
+
+
 def ends(runs):
     """Instructions of a message beyond the start of the program, by what is called."""
-    made = []
+    said, file = "set customer.name, which is null", runs.calls("nested set customer.name", [PATHS[1]])
+    made = [("nested", said, runs.relay("nested", "framed", file, without_names(runs)), runs.relay("nested", "framed", file, "empty"))]
     for name, calls in ENDS.items():
         for said, call in calls.items():
             file = runs.calls(f"{name} {said}", [call])

@@ -1,5 +1,5 @@
 -- Paths that go by hops, step by step.
-use Rattle.std.proofs.Common.{◌≡◌, ℕ, Bool, true, Option, Some, None, List, [], ◌∷◌, ◌++◌, ◌⊎◌, inl, inr, refl, ap, sym, subst, ◌∙◌, append_assoc, append-nil}
+use Rattle.std.proofs.Common.{◌≡◌, ℕ, Bool, true, false, Option, Some, None, List, [], ◌∷◌, ◌++◌, ◌⊎◌, inl, inr, refl, ap, sym, subst, ◌∙◌, append_assoc, append-nil}
 use Rattle.std.specs.Prelude.{IfSome}
 use Rattle.capnp_model.specs.Trees.{Tree}
 use Rattle.capnp_model.specs.Schemas.{Ty, void, plain, text, blob, untyped, interface, struct, list, Shape, Body, void_slot, plain_slot, pointer_slot, group_slot, Schema}
@@ -16,15 +16,17 @@ use Rattle.capnp_calls_splice.specs.declared.splice.Hop.TheVariants as hops
 use Rattle.capnp_calls_splice.specs.declared.splice.Put.{Put}
 use Rattle.capnp_calls_splice.specs.declared.splice.Put.TheVariants as puts
 use Rattle.capnp_calls_splice.specs.declared.splice.Splice.{Splice}
-use Rattle.capnp_calls.specs.Splices.{IsPutOf, IsPutAt, Enters, PathLeadsTo}
-use Rattle.capnp_calls.specs.Hops.{IsAlone, FindsAlone, StepsAlone, HopsFrom, GoesOn, goes_straight, hops_made, MarksTarget, MarksInto, MarksStep, SetsAt, SetsMemberAt, SetsEnd, LeadsToEnd, LeadsToMember}
+use Rattle.capnp_calls.specs.Splices.{IsPutOf, IsPutAt, steps_to, Enters, PathLeadsTo}
+use Rattle.capnp_calls.specs.Hops.{IsAlone, FindsAlone, StepsAlone, HopsFrom, GoesOn, goes_straight, hops_made, onward_if, MarksTarget, MarksInto, MarksStep, IsElementOf, SetsAt, SetsMemberAt, SetsElementAt, SetsEnd, LeadsToEnd, LeadsToMember, LeadsToElement}
 use Rattle.capnp_calls.specs.Resolved.{IsSpliceOf}
+use Rattle.capnp_calls.specs.declared.splices.Course.{Course}
+use Rattle.capnp_calls.specs.declared.splices.ListPlace.{ListPlace}
 use Rattle.capnp_calls.specs.declared.splices.Onward.{Onward}
 use Rattle.capnp_calls.specs.declared.splices.Onward.TheVariants as ways
 
--- The rest of a path leads on from a slot, to what is put there or behind it.
+-- The rest of a path leads on from a slot that is no member of a union, to what is put there or behind it.
 abbrev LeadsFromSlot : Schema → CallValue → Put → List Hop → Body → List Step → Type 0
-LeadsFromSlot s v put [] body path = (path ≡ []) × IsPutOf put body v
+LeadsFromSlot s v put [] body path = (path ≡ steps_to put) × IsPutAt put None None body v
 LeadsFromSlot s v put (hop ∷ way) body path = (inner : Shape) × (rest : List Step) × Enters s hop body path inner rest × PathLeadsTo s v put way inner rest
 
 -- It leads on from a value of a type.
@@ -38,11 +40,29 @@ LeadsFrom s v put way (at_slot body) path = LeadsFromSlot s v put way body path
 LeadsFrom s v put way (at_value ty) path = LeadsFromType s v put way ty path
 LeadsFrom s v put way nowhere path = ⊥
 
--- What sets a slot sets a field that is no member.
-at_plain : (put : Put) (union : Option ℕ) (body : Body) (v : CallValue) → IsPutOf put body v → IsPutAt put union None body v
-at_plain (puts.Number p) union body v h = (refl, h)
-at_plain (puts.Blob j b) union body v h = (refl, h)
-at_plain (puts.Member m p) union body v h = absurd h
+-- What sets a field that is no member sets it in any struct.
+at_plain : (put : Put) (union : Option ℕ) (body : Body) (v : CallValue) → IsPutAt put None None body v → IsPutAt put union None body v
+at_plain (puts.Number p) union body v h = h
+at_plain (puts.Blob j b) union body v h = h
+at_plain (puts.Member m p) union body v h = absurd h.0
+at_plain (puts.BlobAt j k b) union body v h = h
+at_plain (puts.NumberAt j k p) union body v h = h
+
+-- What sets a slot sets such a field, with no step behind its name.
+at_slot_put : (put : Put) (body : Body) (v : CallValue) → IsPutOf put body v → ([] ≡ steps_to put) × IsPutAt put None None body v
+at_slot_put (puts.Number p) body v h = (refl, (refl, h))
+at_slot_put (puts.Blob j b) body v h = (refl, (refl, h))
+at_slot_put (puts.Member m p) body v h = absurd h
+at_slot_put (puts.BlobAt j k b) body v h = absurd h
+at_slot_put (puts.NumberAt j k p) body v h = absurd h
+
+-- What sets an element of a list sets the slot of the list, with one step behind its name.
+at_element_put : (put : Put) (place : ListPlace) (ty : Ty) (d : Option Tree) (v : CallValue) → IsElementOf put place ty v → (index place.index ∷ [] ≡ steps_to put) × IsPutAt put None None (pointer_slot place.pointer (list ty) d) v
+at_element_put (puts.Number p) place ty d v h = absurd h
+at_element_put (puts.Blob j b) place ty d v h = absurd h
+at_element_put (puts.Member m p) place ty d v h = absurd h
+at_element_put (puts.BlobAt j k b) place ty d v h = (ap (λ n. index n ∷ []) (sym h.1), (refl, (ty, d, ap (λ n. pointer_slot n (list ty) d) (sym h.0), h.2)))
+at_element_put (puts.NumberAt j k p) place ty d v h = (ap (λ n. index n ∷ []) (sym h.2), (refl, (h.0, d, ap (λ n. pointer_slot n (list ty) d) (sym h.1) ∙ ap (λ t. pointer_slot j (list t) d) h.3, h.4)))
 
 -- ---- a step
 
@@ -50,7 +70,7 @@ module _ (s : Schema) (v : CallValue) (put : Put) (way : List Hop) (rest : List 
   -- What a name finds leads on: a field that is no member by the rest of the path, a member at its end.
   abbrev Through : Option ℕ → Target → Type 0
   Through union no_target = ⊥
-  Through union (target member body) = ((member ≡ None) × LeadsFromSlot s v put way body rest) ⊎ ((way ≡ []) × (rest ≡ []) × IsPutAt put union member body v)
+  Through union (target member body) = ((member ≡ None) × LeadsFromSlot s v put way body rest) ⊎ ((way ≡ []) × (rest ≡ steps_to put) × IsPutAt put union member body v)
 
   -- So does what a step finds in a value of a type, or from where a path stands.
   abbrev OnType : Step → Ty → Type 0
@@ -116,7 +136,10 @@ module _ (s : Schema) (v : CallValue) (put : Put) (way : List Hop) (rest : List 
 
   -- A step by which a path goes on.
   pub goes : (o : Onward) (at : PathEnd) (st : Step) → GoesOn o at st → goes_straight o ≡ true → OnStep st at → LeadsFrom s v put (hops_made o ++ way) at (st ∷ rest)
-  goes ways.Here (at_slot body) st h on leads = absurd h
+  goes ways.Here (at_slot (void_slot j)) st h on leads = absurd h
+  goes ways.Here (at_slot (plain_slot q at d)) st h on leads = absurd h
+  goes ways.Here (at_slot (pointer_slot i ty d)) st h on leads = absurd h
+  goes ways.Here (at_slot (group_slot g)) st h on leads = absurd h
   goes ways.Here (at_value ty) (name n) h on leads = from_type ty n leads
   goes ways.Here (at_value ty) (index k) h on leads = absurd h
   goes ways.Here nowhere st h on leads = absurd h
@@ -126,6 +149,7 @@ module _ (s : Schema) (v : CallValue) (put : Put) (way : List Hop) (rest : List 
   goes (ways.Behind hop) (at_slot (group_slot g)) st h on leads = into_group hop g st h leads
   goes (ways.Behind hop) (at_value ty) st h on leads = absurd h
   goes (ways.Behind hop) nowhere st h on leads = absurd h
+  goes (ways.Into place) at st h on leads = absurd (cc on)
   goes ways.Astray at st h on leads = absurd (cc on)
 
   -- ---- to a field that is no member
@@ -228,10 +252,42 @@ module _ (root : StructSchema) (whole : List Step) where
       let last : StraightTo made at (st ∷ []) = subst (λ (xs : List Step). StraightTo made at (st ∷ xs)) none straight in
       subst (λ (hs : List Hop). PathLeadsTo s v put hs (shape_of_struct root) whole) (append-nil more) (onward made more o at st [] last is on forth v put [] (step_member s v mark p at st marks sets))
 
+  -- A last step to an element of a list.
+  last_index : (made : List Hop) (place : ListPlace) (at : PathEnd) (st : Step) → StraightTo made at (st ∷ []) → GoesOn (ways.Into place) at st → LeadsToElement root made whole (next_end (schema_around root) st at) place
+  last_index made place (at_slot (void_slot j)) st straight on = absurd on
+  last_index made place (at_slot (plain_slot q at d)) st straight on = absurd on
+  last_index made place (at_slot (pointer_slot i ty d)) st straight on =
+      let k = place.index in
+      let e : Ty = on.0 in
+      let Leads : ℕ → Ty → Step → Type 0 = λ j t x. StraightTo made (at_slot (pointer_slot j t d)) (x ∷ []) → LeadsToElement root made whole (next_end (schema_around root) x (at_slot (pointer_slot j t d))) place in
+      let here : Leads place.pointer (list e) (index k) = λ straight v put h. subst (λ (hs : List Hop). PathLeadsTo (schema_around root) v put hs (shape_of_struct root) whole) (append-nil made) (straight v put [] (at_element_put put place e d v h)) in
+      subst (λ (j : ℕ). Leads j ty st) on.1 (subst (λ (t : Ty). Leads place.pointer t st) (sym on.2) (subst (λ (x : Step). Leads place.pointer (list e) x) (sym on.3) here)) straight
+  last_index made place (at_slot (group_slot g)) st straight on = absurd on
+  last_index made place (at_value ty) st straight on = absurd on
+  last_index made place nowhere st straight on = absurd on
+
+  pub one_element : (made : List Hop) (place : ListPlace) (at next : PathEnd) (st : Step) (rest : List Step) → StraightTo made at (st ∷ rest) → GoesOn (ways.Into place) at st → next ≡ next_end (schema_around root) st at
+      → rest ≡ [] → LeadsToElement root made whole next place
+  one_element made place at next st rest straight on to none =
+      let last : StraightTo made at (st ∷ []) = subst (λ (xs : List Step). StraightTo made at (st ∷ xs)) none straight in
+      subst (λ (e : PathEnd). LeadsToElement root made whole e place) (sym to) (last_index made place at st last on)
+
   pub at_end : (made : List Hop) (at : PathEnd) → StraightTo made at [] → LeadsToEnd root made whole at
-  at_end made (at_slot body) straight v put h = subst (λ (hs : List Hop). PathLeadsTo (schema_around root) v put hs (shape_of_struct root) whole) (append-nil made) (straight v put [] (refl, h))
+  at_end made (at_slot body) straight v put h = subst (λ (hs : List Hop). PathLeadsTo (schema_around root) v put hs (shape_of_struct root) whole) (append-nil made) (straight v put [] (at_slot_put put body v h))
   at_end made (at_value ty) straight v put h = absurd h
   at_end made nowhere straight v put h = absurd h
+
+-- ---- what a step makes of a path that was straight, or not
+
+-- A path goes on by hops only where it was straight.
+pub went_straight : (b : Bool) (o whole : Onward) → whole ≡ onward_if b o → goes_straight whole ≡ true → (b ≡ true) × (o ≡ whole)
+went_straight true o whole is on = (refl, sym is)
+went_straight false o whole is on = absurd (cc (is, on))
+
+-- So it goes to an element.
+pub went_into : (b : Bool) (o whole : Onward) (place : ListPlace) → whole ≡ onward_if b o → whole ≡ ways.Into place → (b ≡ true) × (o ≡ ways.Into place)
+went_into true o whole place is into = (refl, sym is ∙ into)
+went_into false o whole place is into = absurd (cc (is, into))
 
 -- ---- calls
 
@@ -253,20 +309,34 @@ sets_member p (at_slot body) clear h = absurd h
 sets_member p (at_value ty) verb h = absurd h
 sets_member p nowhere verb h = absurd h
 
-module _ (root : StructSchema) (c : Call) (made : List Hop) (at : PathEnd) (is_straight : Bool) (mark : Option PlainSet) (leads : is_straight ≡ true → LeadsToEnd root made c.path at) (member : IfSome mark (LeadsToMember root made c.path at)) where
-  by_end : (put : Put) → SetsEnd put is_straight mark at c.verb → (v : CallValue) × (c.verb ≡ set_to v) × PathLeadsTo (schema_around root) v put made (shape_of_struct root) c.path
+sets_element : (put : Put) (place : ListPlace) (at : PathEnd) (verb : Verb) → SetsElementAt put place at verb → (v : CallValue) × (verb ≡ set_to v)
+sets_element put place (at_slot body) verb h = absurd h
+sets_element put place (at_value ty) get h = absurd h
+sets_element put place (at_value ty) (set_to v) h = (v, refl)
+sets_element put place (at_value ty) init h = absurd h
+sets_element put place (at_value ty) (initn n) h = absurd h
+sets_element put place (at_value ty) clear h = absurd h
+sets_element put place nowhere verb h = absurd h
+
+module _ (root : StructSchema) (c : Call) (made : List Hop) (at : PathEnd) (course : Course) (leads : course.is_straight ≡ true → LeadsToEnd root made c.path at) (member : IfSome course.mark (LeadsToMember root made c.path at)) (element : IfSome course.element (LeadsToElement root made c.path at)) where
+  by_end : (put : Put) → SetsEnd put course at c.verb → (v : CallValue) × (c.verb ≡ set_to v) × PathLeadsTo (schema_around root) v put made (shape_of_struct root) c.path
   by_end put (inl h) =
       let given = sets_value put at c.verb h.1 in
       (given.0, given.1, leads h.0 given.0 put (subst (SetsAt put at) given.1 h.1))
-  by_end put (inr h) =
+  by_end put (inr (inl h)) =
       let m : PlainSet = h.0 in
       let p : Option PlainSet = h.1 in
       let given = sets_member p at c.verb h.4 in
       let there : LeadsToMember root made c.path at m = subst (λ (o : Option PlainSet). IfSome o (LeadsToMember root made c.path at)) h.2 member in
       (given.0, given.1, subst (λ (x : Put). PathLeadsTo (schema_around root) given.0 x made (shape_of_struct root) c.path) (sym h.3) (there given.0 p (subst (SetsMemberAt p at) given.1 h.4)))
+  by_end put (inr (inr h)) =
+      let place : ListPlace = h.0 in
+      let given = sets_element put place at c.verb h.2 in
+      let there : LeadsToElement root made c.path at place = subst (λ (o : Option ListPlace). IfSome o (LeadsToElement root made c.path at)) h.1 element in
+      (given.0, given.1, there given.0 put (subst (SetsElementAt put place at) given.1 h.2))
 
   -- What is put where a call's path ends, and the hops to it.
-  pub call_splice : (o : Option Splice) → IfSome o (λ p. p.hops.items ≡ made) → IfSome o (λ p. SetsEnd p.put is_straight mark at c.verb) → IfSome o (IsSpliceOf root c)
+  pub call_splice : (o : Option Splice) → IfSome o (λ p. p.hops.items ≡ made) → IfSome o (λ p. SetsEnd p.put course at c.verb) → IfSome o (IsSpliceOf root c)
   call_splice None same puts = tt
   call_splice (Some p) same puts =
       let found = by_end p.put puts in

@@ -7,7 +7,7 @@ ghost use Rattle.capnp_values_queries.specs.Structs.{nodes_around, schema_around
 ghost use Rattle.capnp_calls.specs.CallViews.{step_view, action_view, call_view};
 ghost use Rattle.capnp_calls.specs.Ends.{end_view, IsEndOf, found_fields};
 ghost use Rattle.capnp_calls.specs.Ways.{IsWay};
-ghost use Rattle.capnp_calls.specs.Hops.{EndsSmall, LeadsToEnd, LeadsToMember};
+ghost use Rattle.capnp_calls.specs.Hops.{EndsSmall, TellsCourse};
 ghost use Rattle.capnp_calls.specs.Resolved.{calls_of, AreResolved, KnowSplices};
 
 use crate::ends::{End, next_end};
@@ -52,10 +52,8 @@ fn walk_path<'a>(alloc: Global, root: StructSchema<'a>, path: &[Step]) -> Result
         (map step_view path.now) (at_value (struct (id_of root.entry)))) }
     ensures of_set { IfOk result (λ w. IsEndOf (nodes_around root.entry) w.end) }
     ensures small { IfOk result (λ w. EndsSmall (end_view w.end)) }
-    ensures leads { IfOk result (λ w. w.course.is_straight ≡ true
-        → LeadsToEnd root.entry w.hops.items (map step_view path.now) (end_view w.end)) }
-    ensures member { IfOk result (λ w. IfSome w.course.mark
-        (LeadsToMember root.entry w.hops.items (map step_view path.now) (end_view w.end))) }
+    ensures course { IfOk result (λ w. TellsCourse root.entry w.hops.items
+        (map step_view path.now) (end_view w.end) w.course) }
     ensures kind { IfErr result (λ e. e.kind ≡ ErrorKind.OutOfMemory) }
 {
     let mut fields = Vec::new(alloc);
@@ -63,13 +61,14 @@ fn walk_path<'a>(alloc: Global, root: StructSchema<'a>, path: &[Step]) -> Result
     let mut course = Course {
         is_straight: true,
         mark: None,
+        element: None,
     };
     let mut end = End::Value(Type::from(TypeVariant::Struct(root.raw())));
     for step in path {
         let next = next_end(root.set(), step, end);
         note(&mut fields, next.found)?;
-        let goes_on = note_hop(&mut hops, course.is_straight, next_hop(end, step))?;
-        course = course_after(goes_on, next);
+        let onward = note_hop(&mut hops, course.is_straight, next_hop(end, step))?;
+        course = course_after(onward, next);
         end = next.end;
     }
     Ok(Walk {
@@ -157,12 +156,15 @@ impl<'a> Resolved<'a> {
         self.is_long
     }
 
-    /// What it puts into canonical words where they stand, and by which hops from the root. `None`
-    /// where
-    /// - it isn't the `set` of a plain field, a text or data, or of a member of a union that is
-    ///   plain or void, to a value of its type;
-    /// - its path goes elsewhere than by structs, groups and elements of lists of structs;
-    /// - a field before the last is a member of a union.
+    /// What it puts into canonical words where they stand, and by which hops from the root. There is
+    /// one for the `set` of these, to a value of its type:
+    /// - a plain field, a text or data;
+    /// - a plain or void member of a union;
+    /// - an element of a list of plain values, texts or data.
+    ///
+    /// `None` else, and where
+    /// - its path goes there elsewhere than by structs, groups and elements of lists of structs;
+    /// - a field before the last, or the list of the element, is a member of a union.
     #[inline]
     pub fn splice(&self) -> Option<&Splice>
         ensures { option_copied result ≡ self.now.splice }

@@ -1,18 +1,18 @@
 //! What calls put into canonical words where they stand, and by which hops it is reached.
 ghost use Rattle.std.specs.Prelude.{◌≡◌, ◌+◌, ◌*◌, ◌^◌, ◌<◌, ◌++◌, true, Option, Some, IfOk, IfErr, IfSome};
 ghost use Rattle.capnp_units.specs.declared.kinds.ErrorKind.{ErrorKind};
-ghost use Rattle.capnp_model.specs.Schemas.{width};
-ghost use Rattle.capnp_model.specs.Calls.{value_content, object, set_to};
-ghost use Rattle.capnp_model.specs.InKindCalls.{at_slot};
+ghost use Rattle.capnp_model.specs.Schemas.{plain, width};
+ghost use Rattle.capnp_model.specs.Calls.{set_to};
+ghost use Rattle.capnp_model.specs.InKindCalls.{at_slot, at_value};
 ghost use Rattle.capnp_values_queries.specs.Handles.{plain_of, body_of_place};
 ghost use Rattle.capnp_values_queries.specs.Types.{ty_of};
 ghost use Rattle.capnp_calls.specs.CallViews.{step_view, slot_value_view, action_view};
 ghost use Rattle.capnp_calls.specs.Ends.{end_view};
-ghost use Rattle.capnp_calls.specs.Hops.{HasSmallDefault, EndsSmall, HopsFrom, GoesOn, goes_straight, hops_made, SetsEnd};
+ghost use Rattle.capnp_calls.specs.Hops.{HasSmallDefault, EndsSmall, StepsBehind, GoesOn, goes_straight, hops_made, onward_if, IsElementOf, SetsEnd};
 ghost use Rattle.capnp_calls.specs.PlainFields.{SetsPlainSlot};
-ghost use Rattle.capnp_calls.specs.Splices.{IsPutOf, IsNumberOf};
+ghost use Rattle.capnp_calls.specs.Splices.{IsPutOf, IsNumberOf, IsBlobOf};
+ghost use Rattle.capnp_calls.specs.declared.splices.Onward.TheVariants as ways;
 ghost use Rattle.capnp_calls_splice.specs.declared.splice.Put.TheVariants as puts;
-ghost use Rattle.capnp_calls_splice.specs.Blobs.{tree_of_blob};
 
 use crate::ends::{End, Next};
 use crate::number::bits_for;
@@ -25,6 +25,13 @@ use capnp_values_queries::introspect::{Type, TypeVariant};
 use capnp_values_queries::slots::{FieldPlace, PlainType, width_of};
 use std::alloc::Global;
 
+/// An element of the list behind a pointer.
+#[derive(Clone, Copy)]
+pub(crate) struct ListPlace {
+    pub(crate) pointer: u32,
+    pub(crate) index: u32,
+}
+
 /// How a path goes on by a step.
 #[derive(Clone, Copy)]
 pub(crate) enum Onward {
@@ -32,6 +39,8 @@ pub(crate) enum Onward {
     Here,
     /// From a struct that is a hop away.
     Behind(Hop),
+    /// To an element that is no struct.
+    Into(ListPlace),
     /// In another way.
     Astray,
 }
@@ -43,40 +52,52 @@ pub(crate) struct Course {
     pub(crate) is_straight: bool,
     /// The discriminant, where it goes by hops to a member of a union, and finds no other.
     pub(crate) mark: Option<PlainSet>,
+    /// The element, where it goes by hops to one that is no struct, and finds no member of a union.
+    pub(crate) element: Option<ListPlace>,
 }
 
-/// How a path goes by a step that leads there, where it went straight before and goes on by hops.
-pub(crate) fn course_after(goes_on: bool, next: Next<'_>) -> Course
-    ensures straight { result.is_straight ≡ true → (goes_on ≡ true) × (next.entry.is_alone ≡ true) }
-    ensures mark { IfSome result.mark (λ m. (goes_on ≡ true) × (next.entry.mark ≡ Some m)) }
+/// How a path goes by a step that leads there, by how it goes on as a whole.
+pub(crate) fn course_after(onward: Onward, next: Next<'_>) -> Course
+    ensures straight { result.is_straight ≡ true
+        → (goes_straight onward ≡ true) × (next.entry.is_alone ≡ true) }
+    ensures mark { IfSome result.mark
+        (λ m. (goes_straight onward ≡ true) × (next.entry.mark ≡ Some m)) }
+    ensures element { IfSome result.element (λ place. onward ≡ ways.Into place) }
 {
-    if !goes_on {
-        return Course {
+    match onward {
+        Onward::Here | Onward::Behind(_) => Course {
+            is_straight: next.is_alone,
+            mark: next.mark,
+            element: None,
+        },
+        Onward::Into(place) => Course {
             is_straight: false,
             mark: None,
-        };
-    }
-    Course {
-        is_straight: next.is_alone,
-        mark: next.mark,
+            element: Some(place),
+        },
+        Onward::Astray => Course {
+            is_straight: false,
+            mark: None,
+            element: None,
+        },
     }
 }
 
-/// The hop that a step makes from a pointer slot of a type: to a struct, or to an element of a list
-/// of structs.
-fn hop_from(pointer: u32, ty: Type, step: &Step) -> Option<Hop>
-    ensures { IfSome result (λ hop. HopsFrom hop pointer (ty_of ty) (step_view step.now)) }
+/// How a path goes on by a step from a pointer slot of a type: by a hop to a struct, or to an
+/// element of a list.
+fn step_behind(pointer: u32, ty: Type, step: &Step) -> Onward
+    ensures { StepsBehind result pointer (ty_of ty) (step_view step.now) }
 {
     match (step, ty.which()) {
-        (Step::Name(_), TypeVariant::Struct(_)) => Some(Hop::Pointer(pointer)),
-        (Step::Index(index), TypeVariant::List(element)) => match element.which() {
-            TypeVariant::Struct(_) => Some(Hop::Element {
-                pointer,
-                index: *index,
-            }),
-            _ => None,
-        },
-        _ => None,
+        (Step::Name(_), TypeVariant::Struct(_)) => Onward::Behind(Hop::Pointer(pointer)),
+        (Step::Index(index), TypeVariant::List(element)) => {
+            let index = *index;
+            match element.which() {
+                TypeVariant::Struct(_) => Onward::Behind(Hop::Element { pointer, index }),
+                _ => Onward::Into(ListPlace { pointer, index }),
+            }
+        }
+        _ => Onward::Astray,
     }
 }
 
@@ -87,34 +108,25 @@ pub(crate) fn next_hop(end: End<'_>, step: &Step) -> Onward
     match (step, end) {
         (Step::Name(_), End::Value(_)) => Onward::Here,
         (Step::Name(_), End::Slot(FieldPlace::Group { .. })) => Onward::Behind(Hop::Group),
-        (_, End::Slot(FieldPlace::Pointer { index, ty, .. })) => match hop_from(index, ty, step) {
-            Some(hop) => Onward::Behind(hop),
-            None => Onward::Astray,
-        },
+        (_, End::Slot(FieldPlace::Pointer { index, ty, .. })) => step_behind(index, ty, step),
         _ => Onward::Astray,
     }
 }
 
-/// Adds the hop that is made, if any, where the path was straight so far. It returns whether the
-/// step goes by hops then. `OutOfMemory`: the list can't grow.
-pub(crate) fn note_hop(hops: &mut Vec<Hop>, was_straight: bool, onward: Onward) -> Result<bool>
-    ensures straight { IfOk result (λ on. on ≡ true
-        → (was_straight ≡ true) × (goes_straight onward ≡ true)) }
-    ensures hops { IfOk result (λ on. on ≡ true
-        → hops.new.items ≡ hops.old.items ++ hops_made onward) }
+/// Adds the hop that is made, if any, where the path was straight so far. It returns how the path
+/// as a whole goes on. `OutOfMemory`: the list can't grow.
+pub(crate) fn note_hop(hops: &mut Vec<Hop>, was_straight: bool, onward: Onward) -> Result<Onward>
+    ensures onward { IfOk result (λ whole. whole ≡ onward_if was_straight onward) }
+    ensures hops { IfOk result (λ whole. hops.new.items ≡ hops.old.items ++ hops_made whole) }
     ensures kind { IfErr result (λ e. e.kind ≡ ErrorKind.OutOfMemory) }
 {
     if !was_straight {
-        return Ok(false);
+        return Ok(Onward::Astray);
     }
-    match onward {
-        Onward::Here => Ok(true),
-        Onward::Behind(hop) => {
-            hops.push(hop)?;
-            Ok(true)
-        }
-        Onward::Astray => Ok(false),
+    if let Onward::Behind(hop) = onward {
+        hops.push(hop)?;
     }
+    Ok(onward)
 }
 
 /// A number of a plain type, in the word of the data that has the slot at an offset, which is
@@ -138,8 +150,8 @@ fn number_in(ty: PlainType, offset: u32, bits: u64) -> PlainSet
 /// The text or data that a slot of a type is set to by a value. `None` where the type is neither,
 /// the value isn't of it, or it is too long. `OutOfMemory`: the memory for its words was refused.
 fn blob_for(alloc: Global, ty: Type, value: &SlotValue) -> Result<Option<Blob>>
-    ensures content { IfOk result (λ found. IfSome found (λ b.
-        value_content (slot_value_view value.now) (ty_of ty) ≡ object (tree_of_blob b))) }
+    ensures blob { IfOk result
+        (λ found. IfSome found (λ b. IsBlobOf b (ty_of ty) (slot_value_view value.now))) }
     ensures kind { IfErr result (λ e. e.kind ≡ ErrorKind.OutOfMemory) }
 {
     match (ty.which(), value) {
@@ -188,6 +200,61 @@ fn put_at(alloc: Global, place: FieldPlace<'_>, value: &SlotValue) -> Result<Opt
     }
 }
 
+/// The plain type that a type is, if it is one.
+fn plain_type(ty: Type) -> Option<PlainType>
+    ensures { IfSome result (λ q. ty_of ty ≡ plain (plain_of q)) }
+{
+    match ty.which() {
+        TypeVariant::Bool => Some(PlainType::Bool),
+        TypeVariant::Int8 => Some(PlainType::Int8),
+        TypeVariant::Int16 => Some(PlainType::Int16),
+        TypeVariant::Int32 => Some(PlainType::Int32),
+        TypeVariant::Int64 => Some(PlainType::Int64),
+        TypeVariant::UInt8 => Some(PlainType::UInt8),
+        TypeVariant::UInt16 => Some(PlainType::UInt16),
+        TypeVariant::UInt32 => Some(PlainType::UInt32),
+        TypeVariant::UInt64 => Some(PlainType::UInt64),
+        TypeVariant::Enum(raw) => Some(PlainType::Enum(raw)),
+        _ => None,
+    }
+}
+
+/// What sets the element of a plain type at a place to a value. `None` where the value isn't of the
+/// type.
+fn number_at(place: ListPlace, ty: PlainType, value: &SlotValue) -> Option<Put>
+    ensures { IfSome result
+        (λ put. IsElementOf put place (plain (plain_of ty)) (slot_value_view value.now)) }
+{
+    let ListPlace { pointer, index } = place;
+    let set = number_for(ty, index, 0, value)?;
+    Some(Put::NumberAt {
+        pointer,
+        index,
+        set,
+    })
+}
+
+/// What sets the element of a type at a place to a value. `None` where the type is neither plain
+/// nor that of a text or data, or the value isn't of it. `OutOfMemory`: memory for it was refused.
+fn element_at(alloc: Global, place: ListPlace, ty: Type, value: &SlotValue) -> Result<Option<Put>>
+    ensures put { IfOk result (λ found. IfSome found
+        (λ put. IsElementOf put place (ty_of ty) (slot_value_view value.now))) }
+    ensures kind { IfErr result (λ e. e.kind ≡ ErrorKind.OutOfMemory) }
+{
+    if let Some(plain) = plain_type(ty) {
+        return Ok(number_at(place, plain, value));
+    }
+    let ListPlace { pointer, index } = place;
+    match blob_for(alloc, ty, value)? {
+        Some(blob) => Ok(Some(Put::BlobAt {
+            pointer,
+            index,
+            blob,
+        })),
+        None => Ok(None),
+    }
+}
+
 /// What sets a member with this discriminant to a value. `None` where its slot is a pointer or a
 /// group, or the value isn't of its type.
 fn member_at(mark: PlainSet, place: FieldPlace<'_>, value: &SlotValue) -> Option<Put>
@@ -221,8 +288,8 @@ fn put_by(
     value: &SlotValue,
 ) -> Result<Option<Put>>
     requires { HasSmallDefault (body_of_place place) }
-    ensures put { IfOk result (λ found. IfSome found
-        (λ put. SetsEnd put course.is_straight course.mark (at_slot (body_of_place place.entry))
+    ensures put { IfOk result (λ found. IfSome found (λ put.
+        SetsEnd put course (at_slot (body_of_place place.entry))
         (set_to (slot_value_view value.now)))) }
     ensures kind { IfErr result (λ e. e.kind ≡ ErrorKind.OutOfMemory) }
 {
@@ -233,10 +300,37 @@ fn put_by(
     }
 }
 
+/// What sets the element of a type where a path ends to a value. `None` where it goes there in
+/// another way; `None` and `OutOfMemory` else as `element_at` has it.
+fn put_into(alloc: Global, course: Course, ty: Type, value: &SlotValue) -> Result<Option<Put>>
+    ensures put { IfOk result (λ found. IfSome found (λ put.
+        SetsEnd put course (at_value (ty_of ty)) (set_to (slot_value_view value.now)))) }
+    ensures kind { IfErr result (λ e. e.kind ≡ ErrorKind.OutOfMemory) }
+{
+    match course.element {
+        Some(place) => element_at(alloc, place, ty, value),
+        None => Ok(None),
+    }
+}
+
+/// What sets an end to a value. `None` and `OutOfMemory` as `put_by` and `put_into` have it.
+fn put_for(alloc: Global, course: Course, end: End<'_>, value: &SlotValue) -> Result<Option<Put>>
+    requires { EndsSmall (end_view end) }
+    ensures put { IfOk result (λ found. IfSome found (λ put.
+        SetsEnd put course (end_view end.entry) (set_to (slot_value_view value.now)))) }
+    ensures kind { IfErr result (λ e. e.kind ≡ ErrorKind.OutOfMemory) }
+{
+    match end {
+        End::Slot(place) => put_by(alloc, course, place, value),
+        End::Value(ty) => put_into(alloc, course, ty, value),
+        End::Nowhere => Ok(None),
+    }
+}
+
 /// What an action sets where a path ends, and the hops to it: where the path is straight, or goes
-/// to a member with this discriminant. `None` where it goes in another way, or the action doesn't
-/// set the slot where it ends to a number, a text or data of its type, or a member to a number or
-/// to nothing. `OutOfMemory`: memory for it was refused.
+/// to a member with this discriminant or to an element. `None` where it goes in another way, or the
+/// action doesn't set what is there: a slot or an element to a number, a text or data of its type,
+/// or a member to a number or to nothing. `OutOfMemory`: memory for it was refused.
 pub(crate) fn splice_to(
     alloc: Global,
     hops: Vec<Hop>,
@@ -247,14 +341,13 @@ pub(crate) fn splice_to(
     requires small { EndsSmall (end_view end) }
     ensures hops { IfOk result (λ found. IfSome found (λ p. p.hops.items ≡ hops.items)) }
     ensures put { IfOk result (λ found. IfSome found
-        (λ p. SetsEnd p.put course.is_straight course.mark (end_view end.entry)
-        (action_view action.now))) }
+        (λ p. SetsEnd p.put course (end_view end.entry) (action_view action.now))) }
     ensures kind { IfErr result (λ e. e.kind ≡ ErrorKind.OutOfMemory) }
 {
-    let (End::Slot(place), Action::Set(value)) = (end, action) else {
+    let Action::Set(value) = action else {
         return Ok(None);
     };
-    match put_by(alloc, course, place, value)? {
+    match put_for(alloc, course, end, value)? {
         Some(put) => Ok(Some(Splice { hops, put })),
         None => Ok(None),
     }

@@ -1,24 +1,30 @@
 -- Calls that set slots along paths, and the splices of calls in turn.
-use Rattle.std.proofs.Common.{◌≡◌, ℕ, zero, suc, Bool, true, false, ◌&&◌, Option, Some, None, List, [], ◌∷◌, ◌++◌, length, refl, ap, sym, subst, ◌∙◌, Bor}
+use Rattle.std.proofs.Common.{◌≡◌, ℕ, zero, suc, ◌+◌, ◌<◌, ◌≤◌, Bool, true, false, ◌&&◌, Option, Some, None, List, [], ◌∷◌, ◌++◌, length, Result, Ok, Err, IfOk, IfErr, refl, ap, sym, subst, ◌∙◌, arith, Bor}
 use Rattle.std.specs.Prelude.{IfSome, ⊤, is_some, not, slice_get, option_copied}
 use Rattle.capnp_model.specs.Printing.{as_it_is}
 use Rattle.capnp_model.specs.Calls.{Step, Verb, set_to, CallValue, Call}
-use Rattle.capnp_values_queries.specs.Structs.{schema_around, shape_of_struct, id_of}
+use Rattle.capnp_model.proofs.lemmas.ReachedStructs.{IsWithin}
+use Rattle.capnp_model.proofs.lemmas.SoundSizes.{accepted_sound}
+use Rattle.capnp_values_queries.specs.Structs.{nodes_around, schema_around, shape_of_struct, id_of}
 use Rattle.capnp_values_queries.specs.declared.structs.StructSchema.{StructSchema}
 use Rattle.capnp_calls.specs.Splices.{PathLeadsTo}
 use Rattle.capnp_calls.specs.Resolved.{call_of, calls_of, IsSpliceOf, KnowsSplice, KnowSplices}
 use Rattle.capnp_calls.specs.declared.resolved.Resolved.{Resolved}
 use Rattle.capnp_calls_splice.specs.declared.splice.Splice.{Splice}
-use Rattle.capnp_calls_in_place.specs.CallSplices.{IsCallSplice, have_splices}
+use Rattle.capnp_calls_splice.specs.Splices.{TellsSplice, put_room}
+use Rattle.capnp_calls_splice.specs.declared.splice.Spliced.{Spliced}
+use Rattle.capnp_calls_splice.specs.declared.splice.Spliced.TheVariants as outcomes
+use Rattle.capnp_calls_in_place.specs.CallSplices.{IsCallSplice, have_splices, TellsCall, IsShortFor, WantsRoom}
 use Rattle.capnp_calls_in_place.proofs.SplicedCalls.{call_made, call_replied}
 
 -- ---- calls
 
 set_call : (schema : StructSchema) (path : List Step) (v : CallValue) (p : Splice) → PathLeadsTo (schema_around schema) v p.put p.hops.items (shape_of_struct schema) path → IsCallSplice schema (record { path = path; verb = set_to v }) p
 set_call schema path v p leads old new fit spliced =
-    let made = call_made (schema_around schema) (id_of schema) v p path leads old new fit spliced in
+    let within : (i : ℕ) → IsWithin ((schema_around schema).shape_of i) = λ i. (accepted_sound (nodes_around schema) schema.set.now.accepted i).within in
+    let made = call_made (schema_around schema) within (id_of schema) v p path leads old new fit spliced in
     record {
-      replied = call_replied (schema_around schema) (id_of schema) v p path leads as_it_is old new fit spliced;
+      replied = call_replied (schema_around schema) within (id_of schema) v p path leads as_it_is old new fit spliced;
       made = made.trimmed;
       deep = made.deep;
     }
@@ -105,3 +111,21 @@ lacks_one (q ∷ rs) (suc i) r at is = by (is_some q.splice) (lacks_one rs i r a
     by : (b : Bool) → have_splices rs ≡ false → (b && have_splices rs) ≡ false
     by true h = h
     by false h = refl
+
+-- ---- what is told of a call
+
+pub told_call : {E : Type 0} (call : Resolved) (p : Splice) → call.splice ≡ Some p → (count : ℕ) (old new : List (List ℕ)) (r : Result Spliced E) → IfOk r (TellsSplice p count old new) → IfOk r (TellsCall call count old new)
+told_call call p is count old new (Ok (outcomes.Done n)) h = (p, is, h)
+told_call call p is count old new (Ok outcomes.Unplaced) h = h
+told_call call p is count old new (Ok outcomes.Spoiled) h = tt
+told_call call p is count old new (Err e) h = tt
+
+pub short_call : {T E : Type 0} (call : Resolved) (p : Splice) → call.splice ≡ Some p → (count : ℕ) (buffer : List (List ℕ)) (r : Result T E) → IfErr r (λ _. length buffer < count + put_room p.put) → IfErr r (λ _. IsShortFor call count buffer)
+short_call call p is count buffer (Ok x) h = tt
+short_call call p is count buffer (Err e) h = (p, is, h)
+
+-- A call that may add more words than there is room for may add some.
+pub wanting : (calls : List Resolved) (i : ℕ) (call : Resolved) (count : ℕ) (buffer : List (List ℕ)) → slice_get calls i ≡ Some call → count ≤ length buffer → IsShortFor call count buffer → WantsRoom calls
+wanting calls i call count buffer at inside short =
+    let less = short.2 in
+    record { index = i; call = call; splice = short.0; there = at; puts = short.1; room = omega (arith, less, inside) }

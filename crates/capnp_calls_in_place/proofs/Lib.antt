@@ -2,10 +2,15 @@ mod PlainCalls
 mod SetRoots
 mod NamedFields
 mod SplicedKids
+mod InsideShapes
 mod SplicedCells
 mod SplicedStructs
 mod SplicedLists
+mod SplicedEnds
+mod SplicedNumbers
+mod SplicedElements
 mod SplicedPaths
+mod ElementSteps
 mod SplicedSteps
 mod SplicedCalls
 mod CallWays

@@ -10,6 +10,7 @@ use Rattle.capnp_model.specs.Calls.{Step, name, set_to, CallValue, Call}
 use Rattle.capnp_model.specs.Steps.{Outcome, refused, shown, done, step}
 use Rattle.capnp_model.specs.Edits.{Cell, write_path, if_done, edit}
 use Rattle.capnp_model.specs.Answers.{reply_of, reply_done}
+use Rattle.capnp_model.proofs.lemmas.ReachedStructs.{IsWithin}
 use Rattle.capnp_model.proofs.lemmas.Stripping.{stripped-stripped}
 use Rattle.capnp_calls.specs.Sizes.{IsDone}
 use Rattle.capnp_calls_splice.specs.Splices.{IsSpliced}
@@ -29,7 +30,7 @@ edited_where (refused k) new old h = absurd h
 edited_where (shown how r) new old h = absurd h
 edited_where (done r) new old h = refl
 
-module _ (s : Schema) (id : ℕ) (v : CallValue) (p : Splice) (path : List Step) (leads : PathLeadsTo s v p.put p.hops.items (s.shape_of id) path) where
+module _ (s : Schema) (within : (i : ℕ) → IsWithin (s.shape_of i)) (id : ℕ) (v : CallValue) (p : Splice) (path : List Step) (leads : PathLeadsTo s v p.put p.hops.items (s.shape_of id) path) where
   abbrev call : Call
   call = record { path = path; verb = set_to v }
 
@@ -42,7 +43,7 @@ module _ (s : Schema) (id : ℕ) (v : CallValue) (p : Splice) (path : List Step)
       let old : Cell = record { section = section; kids = kids } in
       let n : ℕ = needed_words words section in
       let cuts : IsCut n cut old = record { section = refl; kids = sym (stripped-stripped (trim_each kids)); inside = fit.2; fit = fit.3 } in
-      path_done s v p.put p.hops.items (s.shape_of id) path leads n cut h.0 old cuts h.1
+      path_done s v p.put p.hops.items (s.shape_of id) path leads n h.0 cut h.1 old cuts h.2
   call_done (plain_list z m section) new fit h = absurd h
   call_done (pointer_list ts) new fit h = absurd h
   call_done (struct_list w k es) new fit h = absurd h
@@ -51,7 +52,7 @@ module _ (s : Schema) (id : ℕ) (v : CallValue) (p : Splice) (path : List Step)
   written old new fit h =
       let b = begins s v p.put p.hops.items (s.shape_of id) path leads in
       let named : PathLeadsTo s v p.put p.hops.items (s.shape_of id) (name b.0 ∷ b.1) = subst (PathLeadsTo s v p.put p.hops.items (s.shape_of id)) b.2 leads in
-      subst (λ (way : List Step). Makes old (write_path s (s.shape_of id) way (set_to v) old) new) (sym b.2) (root_is s v p.put p.hops.items (s.shape_of id) b.0 b.1 named old new fit h)
+      subst (λ (way : List Step). Makes old (write_path s (s.shape_of id) way (set_to v) old) new) (sym b.2) (root_is s v p.put within p.hops.items id b.0 b.1 named old new fit h)
 
   pub call_made : (old new : Tree) → Fits (trim old) → IsSpliced p (trim old) new → Makes old (edit s id call old) new
   unfolding edit

@@ -12,7 +12,7 @@ use Rattle.capnp_model.proofs.lemmas.TrimTwice.{common_words_le}
 use Rattle.capnp_model.proofs.lemmas.Widening.{bare-padded_to}
 use Rattle.capnp_calls_splice.specs.Splices.{InElements, InList}
 use Rattle.capnp_calls_in_place.proofs.SplicedKids.{depths_padded, resized_all}
-use Rattle.capnp_calls_in_place.proofs.SplicedCells.{IsCut, Follows, IsEditOf, Makes, IsChangeOf, needs_kept}
+use Rattle.capnp_calls_in_place.proofs.SplicedCells.{IsCut, Follows, IsEditOf, Makes, IsChangeOf}
 
 -- ---- the words that elements need
 
@@ -82,10 +82,10 @@ record MakesElements (n p : ℕ) (old edited new : Elements) : Type 0 where
   pointers : common_pointers (trim_elements edited) ≡ common_pointers (trim_elements old)
   deep : element_depths edited ≡ element_depths old
 
-module _ (puts : ℕ → Cell → Cell → Type 0) (f : Edit) (is : IsEditOf puts f) (n p q : ℕ) where
+module _ (limit : ℕ) (puts : ℕ → ℕ → Cell → Cell → Type 0) (f : Edit) (is : IsEditOf limit puts f) (n p q : ℕ) where
   -- The element itself.
   first_made : (section : ℕ) (kids : Trees) (es : Elements) (new : Cell) → FitElements n p (with_pointers p (trim_elements (element section kids es))) → common_pointers (trim_elements (element section kids es)) ≤ p
-      → puts n (record { section = section; kids = resized p (trim_each kids) }) new
+      → puts n n (record { section = section; kids = resized p (trim_each kids) }) new
       → MakesElements n p (element section kids es) (on_elements f zero (padded_elements q (element section kids es))) (element new.section new.kids (with_pointers p (trim_elements es)))
   unfolding trim
   first_made section kids es new fit few h =
@@ -95,7 +95,7 @@ module _ (puts : ℕ → Cell → Cell → Type 0) (f : Edit) (is : IsEditOf put
       let most : tree_count (stripped (trim_each kids)) ≤ p = omega (arith, few) in
       let bare : stripped (resized p (trim_each kids)) ≡ stripped (trim_each kids) = stripped-resized p (trim_each kids) most in
       let begins : IsCut n cut old = record { section = refl; kids = bare-padded_to q kids ∙ sym bare; inside = fit.0; fit = fit.2 } in
-      let follows : Follows n cut new old edited = is n cut new old begins h in
+      let follows : Follows limit n n cut new old edited = is n n cut new old begins h in
       let rest : Elements = trim_elements (padded_elements q es) in
       let children : resized p (trim_each edited.kids) ≡ new.kids = cut_alike p (trim_each edited.kids) new.kids follows.kids ∙ resized_all new.kids p (follows.count ∙ count-resized p (trim_each kids)) in
       let counts : tree_count (stripped (trim_each edited.kids)) ≡ tree_count (stripped (trim_each kids)) = ap tree_count follows.kids ∙ follows.least ∙ ap tree_count bare in
@@ -105,13 +105,13 @@ module _ (puts : ℕ → Cell → Cell → Type 0) (f : Edit) (is : IsEditOf put
             ∙ ap (λ (ts : Trees). element new.section ts (with_pointers p rest)) children ∙ ap (element new.section new.kids) (padded_cut p q es);
         words = (subst (λ (s : ℕ). s < 2 ^ (64 * n)) (sym follows.section) follows.inside, padded_words n q es (have_words n p (trim_elements es) fit.3));
         least = λ e. ap (λ (s : ℕ). max (needed_words n s) (common_words n rest)) follows.section ∙ ap (max (needed_words n new.section)) others
-            ∙ most_kept n (needed_words n section) (common_words n (trim_elements es)) (needed_words n new.section) (needed_words_le n section) (needed_words_le n new.section) (needs_kept n section new.section follows.last) e;
+            ∙ most_kept n (needed_words n section) (common_words n (trim_elements es)) (needed_words n new.section) (needed_words_le n section) (needed_words_le n new.section) follows.words e;
         pointers = ap (λ (m : ℕ). max m (common_pointers rest)) counts ∙ ap (max (tree_count (stripped (trim_each kids)))) (padded_pointers q es);
         deep = ap (λ (m : ℕ). max m (element_depths (padded_elements q es))) (follows.deep ∙ depths_padded q kids) ∙ ap (max (depths kids)) (padded_depths q es);
       }
 
   -- An element at any index.
-  elements_made : (k : ℕ) (es new : Elements) → FitElements n p (with_pointers p (trim_elements es)) → common_pointers (trim_elements es) ≤ p → InElements (puts n) k (with_pointers p (trim_elements es)) new
+  elements_made : (k : ℕ) (es new : Elements) → FitElements n p (with_pointers p (trim_elements es)) → common_pointers (trim_elements es) ≤ p → InElements (puts n n) k (with_pointers p (trim_elements es)) new
       → MakesElements n p es (on_elements f k (padded_elements q es)) new
   unfolding trim
   elements_made zero no_elements new fit few h = absurd h
@@ -137,9 +137,9 @@ module _ (puts : ℕ → Cell → Cell → Type 0) (f : Edit) (is : IsEditOf put
 
 -- ---- lists
 
-module _ (puts : ℕ → Cell → Cell → Type 0) (f : ℕ → ℕ → Edit) (is : (w p : ℕ) → IsEditOf puts (f w p)) where
+module _ (limit : ℕ) (puts : ℕ → ℕ → Cell → Cell → Type 0) (f : ℕ → ℕ → Edit) (is : (w p : ℕ) → IsEditOf limit puts (f w p)) where
   list_makes : (k a q w p : ℕ) (es new : Elements) → Fits (trim (struct_list w p es))
-      → InElements (puts (common_words w (trim_elements es))) k (with_pointers (common_pointers (trim_elements es)) (trim_elements es)) new
+      → InElements (puts (common_words w (trim_elements es)) (common_words w (trim_elements es))) k (with_pointers (common_pointers (trim_elements es)) (trim_elements es)) new
       → Makes (struct_list w p es) (struct_list (max a w) (max q p) (on_elements (f (max a w) (max q p)) k (padded_elements q es))) (struct_list (common_words w (trim_elements es)) (common_pointers (trim_elements es)) new)
   unfolding trim
   list_makes k a q w p es new fit h =
@@ -148,7 +148,7 @@ module _ (puts : ℕ → Cell → Cell → Type 0) (f : ℕ → ℕ → Edit) (i
       let m : ℕ = common_pointers old in
       let edited : Elements = on_elements (f (max a w) (max q p)) k (padded_elements q es) in
       let now : Elements = trim_elements edited in
-      let made : MakesElements n m es edited new = elements_made puts (f (max a w) (max q p)) (is (max a w) (max q p)) n m q k es new fit.4 (omega arith) h in
+      let made : MakesElements n m es edited new = elements_made limit puts (f (max a w) (max q p)) (is (max a w) (max q p)) n m q k es new fit.4 (omega arith) h in
       let less = common_words_le w old in
       let least : common_words n old ≡ n = sym (common_more w n old less (have_words n m old fit.4)) in
       let words : common_words (max a w) now ≡ n = common_more (max a w) n now (omega (arith, less)) made.words ∙ made.least least in

@@ -8,13 +8,13 @@ use Rattle.capnp_model.specs.Schemas.{plain, struct, list, Shape, shape, Body, v
 use Rattle.capnp_model.specs.Readings.{Reading, inactive, null_pointer, fault, number, text_of, blob_of, opaque, list_of, record_as, Readings, ◌▹◌, Record, whole_words, read, read_child, struct_elements, element_as, list_reading, is_list_of, discriminant, shape_record, body_of}
 use Rattle.capnp_model.specs.Printing.{fields_in}
 use Rattle.capnp_model.specs.Calls.{Step, name, index, Verb, set_to, CallValue, Content}
-use Rattle.capnp_model.specs.Steps.{Outcome, refused, shown, done, outcome_map, Target, target, target_of, entry_of, replaced, at_target, on_name, on_index, reading_after, opened, through_value, step_path, step_field, step_element}
-use Rattle.capnp_model.specs.Edits.{Cell, put_child}
+use Rattle.capnp_model.specs.Steps.{Outcome, outcome_map, Target, target, target_of, entry_of, replaced, at_target, on_name, on_index, reading_after, opened, through_value, step_path, step_field, step_element}
+use Rattle.capnp_model.specs.Edits.{Cell}
 use Rattle.capnp_model.proofs.lemmas.Paths.{entry_of-fields_of, read_child-is}
 use Rattle.capnp_model.proofs.lemmas.Stripping.{stripped-stripped, stripped-resized}
 use Rattle.capnp_values_queries.specs.Fields.{union_in}
 use Rattle.capnp_calls.specs.Sizes.{IsDone}
-use Rattle.capnp_calls_splice.specs.Splices.{InStruct, InElements, InList, PutsBehind}
+use Rattle.capnp_calls_splice.specs.Splices.{PutsIntoCell, InStruct, InElements, InList, PutsBehind}
 use Rattle.capnp_calls_splice.specs.declared.blob.Blob.{Blob}
 use Rattle.capnp_calls_splice.specs.declared.plain.PlainSet.{PlainSet}
 use Rattle.capnp_calls_splice.specs.declared.splice.Hop.{Hop}
@@ -22,16 +22,10 @@ use Rattle.capnp_calls_splice.specs.declared.splice.Hop.TheVariants as hops
 use Rattle.capnp_calls_splice.specs.declared.splice.Put.{Put}
 use Rattle.capnp_calls_splice.specs.declared.splice.Put.TheVariants as puts
 use Rattle.capnp_calls.specs.PlainFields.{PutsInto}
-use Rattle.capnp_calls.specs.Splices.{IsPutOf, IsNumberOf, IsPutAt, FindsPlainField, Enters, PathLeadsTo}
-use Rattle.capnp_calls_in_place.proofs.SplicedKids.{child_same, child_fits}
+use Rattle.capnp_calls.specs.Splices.{IsPutOf, IsNumberOf, IsPutAt, steps_to, FindsPlainField, Enters, PathLeadsTo}
 use Rattle.capnp_calls_in_place.proofs.SplicedCells.{IsCut}
+use Rattle.capnp_calls_in_place.proofs.ElementSteps.{mapped, child_done, IsThrough, slot_through, blob_at_done, number_at_done}
 use Rattle.capnp_calls_in_place.proofs.SplicedPaths.{begins}
-
--- What is done stays done with another value.
-mapped : {A B : Type 0} (f : A → B) (o : Outcome A) → IsDone o → IsDone (outcome_map f o)
-mapped f (refused k) h = absurd h
-mapped f (shown how r) h = absurd h
-mapped f (done x) h = tt
 
 module _ (s : Schema) (v : CallValue) (put : Put) where
   abbrev verb : Verb
@@ -83,17 +77,22 @@ module _ (s : Schema) (v : CallValue) (put : Put) where
   any_done None (group_slot g) r h = absurd h
   any_done (Some p) body r h = number_done p body r h
 
-  end_done : (put : Put) (union member : Option ℕ) (body : Body) (r : Reading) → IsPutAt put union member body v → IsDone (step_field s [] verb body r)
-  end_done (puts.Number p) union member body r h = number_done p body r h.1
-  end_done (puts.Blob j b) union member body r h = blob_done j b body r h.1
-  end_done (puts.Member m p) union member body r h = any_done p body r h.1
-
   -- What is done at a struct, whenever something is put into the trimmed one.
-  abbrev DoneWhere : (ℕ → Cell → Cell → Type 0) → Shape → List Step → Type 0
-  DoneWhere puts g path = (words : ℕ) (cut new old : Cell) → IsCut words cut old → puts words cut new → IsDone (step_path s (fields_in g) path verb (record_at g old.section old.kids))
+  abbrev DoneWhere : (ℕ → ℕ → Cell → Cell → Type 0) → Shape → List Step → Type 0
+  DoneWhere puts g path = (words more : ℕ) (cut new old : Cell) → IsCut words cut old → puts words more cut new → IsDone (step_path s (fields_in g) path verb (record_at g old.section old.kids))
+
+  -- At the end, whatever is put.
+  end_done : (put : Put) (g : Shape) (n : List ℕ) (member : Option ℕ) (body : Body) → target_of n (fields_in g) ≡ target member body → IsPutAt put (union_in g) member body v → DoneWhere (PutsIntoCell put) g (name n ∷ steps_to put)
+  end_done (puts.Number p) g n member body found h words more cut new old is q = named_end g n member body (record_at g old.section old.kids) found (λ x. number_done p body x h.1)
+  end_done (puts.Blob j b) g n member body found h words more cut new old is q = named_end g n member body (record_at g old.section old.kids) found (λ x. blob_done j b body x h.1)
+  end_done (puts.Member m p) g n member body found h words more cut new old is q = named_end g n member body (record_at g old.section old.kids) found (λ x. any_done p body x h.1)
+  end_done (puts.BlobAt j k b) g n member body found h words more cut new old is q =
+      named_done g n (index k ∷ []) body old.section old.kids (found ∙ ap (λ (m : Option ℕ). target m body) h.0) (blob_at_done s v j k b body h.1 words more cut new old is q)
+  end_done (puts.NumberAt j k p) g n member body found h words more cut new old is q =
+      named_done g n (index k ∷ []) body old.section old.kids (found ∙ ap (λ (m : Option ℕ). target m body) h.0) (number_at_done s v j k p body h.1 words more cut new old is q)
 
   -- Through the value of a pointer to a struct.
-  struct_done : (puts : ℕ → Cell → Cell → Type 0) (id : ℕ) (d : Tree) (n : List ℕ) (rest : List Step) → DoneWhere puts (s.shape_of id) (name n ∷ rest) → (old new : Tree) → Fits (trim old) → InStruct puts (trim old) new
+  struct_done : (puts : ℕ → ℕ → Cell → Cell → Type 0) (id : ℕ) (d : Tree) (n : List ℕ) (rest : List Step) → DoneWhere puts (s.shape_of id) (name n ∷ rest) → (old new : Tree) → Fits (trim old) → InStruct puts (trim old) new
       → IsDone (through_value s (name n) (step_field s rest verb) (step_element s rest verb) (struct id) (opened s (struct id) d (read s old (struct id))))
   unfolding read trim
   struct_done puts id d n rest h null new fit p = absurd p
@@ -101,14 +100,14 @@ module _ (s : Schema) (v : CallValue) (put : Put) where
   struct_done puts id d n rest h (structure words section kids) new fit p =
       let cut : Cell = record { section = section; kids = stripped (trim_each kids) } in
       let cuts : IsCut (needed_words words section) cut (record { section = section; kids = kids }) = record { section = refl; kids = sym (stripped-stripped (trim_each kids)); inside = fit.2; fit = fit.3 } in
-      mapped record_as (on_name (step_field s rest verb) n (fields_in (s.shape_of id)) (record_at (s.shape_of id) section kids)) (h (needed_words words section) cut p.0 (record { section = section; kids = kids }) cuts p.1)
+      mapped record_as (on_name (step_field s rest verb) n (fields_in (s.shape_of id)) (record_at (s.shape_of id) section kids)) (h (needed_words words section) p.0 cut p.1 (record { section = section; kids = kids }) cuts p.2)
   struct_done puts id d n rest h (plain_list z m section) new fit p = absurd p
   struct_done puts id d n rest h (pointer_list ts) new fit p = absurd p
   struct_done puts id d n rest h (struct_list w k es) new fit p = absurd p
 
   -- Through an element of a list of structs.
-  element_done : (puts : ℕ → Cell → Cell → Type 0) (id : ℕ) (n : List ℕ) (rest : List Step) → DoneWhere puts (s.shape_of id) (name n ∷ rest) → (words pointers k : ℕ) (es new : Elements)
-      → FitElements words pointers (with_pointers pointers (trim_elements es)) → common_pointers (trim_elements es) ≤ pointers → InElements (puts words) k (with_pointers pointers (trim_elements es)) new
+  element_done : (puts : ℕ → ℕ → Cell → Cell → Type 0) (id : ℕ) (n : List ℕ) (rest : List Step) → DoneWhere puts (s.shape_of id) (name n ∷ rest) → (words pointers k : ℕ) (es new : Elements)
+      → FitElements words pointers (with_pointers pointers (trim_elements es)) → common_pointers (trim_elements es) ≤ pointers → InElements (puts words words) k (with_pointers pointers (trim_elements es)) new
       → IsDone (on_index (step_element s (name n ∷ rest) verb (struct id)) k (struct_elements s es (struct id)))
   unfolding step_element read trim
   element_done puts id n rest h words pointers zero no_elements new fit few p = absurd p
@@ -120,7 +119,7 @@ module _ (s : Schema) (v : CallValue) (put : Put) where
       let cuts : IsCut words cut old = record { section = refl; kids = sym (stripped-resized pointers (trim_each kids) most); inside = fit.0; fit = fit.2 } in
       let g = s.shape_of id in
       let behind : Outcome Record = on_name (step_field s rest verb) n (fields_in g) (record_at g section kids) in
-      mapped (λ (x : Reading). x ▹ struct_elements s es (struct id)) (outcome_map record_as behind) (mapped record_as behind (h words cut p.0 old cuts p.1))
+      mapped (λ (x : Reading). x ▹ struct_elements s es (struct id)) (outcome_map record_as behind) (mapped record_as behind (h words words cut p.0 old cuts p.1))
   element_done puts id n rest h words pointers (suc k) (element section kids es) new fit few p =
       let first : Reading = element_as s (struct id) whole_words section (read_child s kids) in
       mapped (λ (xs : Readings). first ▹ xs) (on_index (step_element s (name n ∷ rest) verb (struct id)) k (struct_elements s es (struct id)))
@@ -134,7 +133,7 @@ module _ (s : Schema) (v : CallValue) (put : Put) where
       ap (λ (b : Bool). b && nat_le 0 p) words ∙ pointers
 
   -- Through the value of a pointer to a list.
-  list_done : (puts : ℕ → Cell → Cell → Type 0) (id : ℕ) (d : Tree) (k : ℕ) (n : List ℕ) (rest : List Step) → DoneWhere puts (s.shape_of id) (name n ∷ rest) → (old new : Tree) → Fits (trim old) → InList puts k (trim old) new
+  list_done : (puts : ℕ → ℕ → Cell → Cell → Type 0) (id : ℕ) (d : Tree) (k : ℕ) (n : List ℕ) (rest : List Step) → DoneWhere puts (s.shape_of id) (name n ∷ rest) → (old new : Tree) → Fits (trim old) → InList puts k (trim old) new
       → IsDone (through_value s (index k) (step_field s (name n ∷ rest) verb) (step_element s (name n ∷ rest) verb) (list (struct id)) (opened s (list (struct id)) d (read s old (list (struct id)))))
   unfolding read trim
   list_done puts id d k n rest h null new fit p = absurd p
@@ -163,25 +162,6 @@ module _ (s : Schema) (v : CallValue) (put : Put) where
   named_through n rest i id d (record_as k) h = h
   named_through n rest i id d (opaque k) h = h
 
-  indexed_through : (j : ℕ) (rest : List Step) (i id : ℕ) (d : Option Tree) (r : Reading) → IsDone (through_value s (index j) (step_field s rest verb) (step_element s rest verb) (list (struct id)) (opened s (list (struct id)) (default_or_null d) r))
-      → IsDone (step_field s (index j ∷ rest) verb (pointer_slot i (list (struct id)) d) r)
-  unfolding step_field
-  indexed_through j rest i id d inactive h = absurd h
-  indexed_through j rest i id d null_pointer h = h
-  indexed_through j rest i id d (fault k) h = h
-  indexed_through j rest i id d (number k) h = h
-  indexed_through j rest i id d (text_of k) h = h
-  indexed_through j rest i id d (blob_of k) h = h
-  indexed_through j rest i id d (list_of k) h = h
-  indexed_through j rest i id d (record_as k) h = h
-  indexed_through j rest i id d (opaque k) h = h
-
-  -- What is done behind a child, where something is put into the trimmed one.
-  child_done : (P : Tree → Tree → Type 0) (D : Tree → Type 0) (i words : ℕ) (cut new old : Cell) → ((t u : Tree) → Fits (trim t) → P (trim t) u → D t) → IsCut words cut old → (t : Tree) × P (child cut.kids i) t × (new ≡ put_child i t cut) → D (child old.kids i)
-  child_done P D i words cut new old h is p =
-      let same : child cut.kids i ≡ trim (child old.kids i) = child_same old.kids cut.kids i is.kids in
-      h (child old.kids i) p.0 (subst Fits same (child_fits cut.kids i is.fit)) (subst (λ (u : Tree). P u p.0) same p.1)
-
   -- A field's step into a group.
   grouped_through : (n : List ℕ) (rest : List Step) (g : Shape) (r : Record) → IsDone (step_path s (fields_in g) (name n ∷ rest) verb r) → IsDone (step_field s (name n ∷ rest) verb (group_slot g) (record_as r))
   unfolding step_field
@@ -189,41 +169,38 @@ module _ (s : Schema) (v : CallValue) (put : Put) where
 
   -- The slot of a hop, where what is behind it is done.
   enters_done : (hop : Hop) (way : List Hop) (body : Body) (front : List Step) (inner : Shape) (n : List ℕ) (rest : List Step) → Enters s hop body front inner (name n ∷ rest) → DoneWhere (PutsBehind put way) inner (name n ∷ rest)
-      → (words : ℕ) (cut new old : Cell) → IsCut words cut old → PutsBehind put (hop ∷ way) words cut new → IsDone (step_field s front verb body (body_of body whole_words old.section (read_child s old.kids)))
+      → (words more : ℕ) (cut new old : Cell) → IsCut words cut old → PutsBehind put (hop ∷ way) words more cut new → IsDone (step_field s front verb body (body_of body whole_words old.section (read_child s old.kids)))
   unfolding body_of
-  enters_done (hops.Pointer i) way body front inner n rest h known words cut new old is p =
+  enters_done (hops.Pointer i) way body front inner n rest h known words more cut new old is p =
       let id = h.0 in
       let d = default_or_null h.1 in
       let behind : DoneWhere (PutsBehind put way) (s.shape_of id) (name n ∷ rest) = subst (λ (g : Shape). DoneWhere (PutsBehind put way) g (name n ∷ rest)) h.4 known in
       let through : Reading → Type 0 = λ r. IsDone (through_value s (name n) (step_field s rest verb) (step_element s rest verb) (struct id) (opened s (struct id) d r)) in
-      let there : through (read s (child old.kids i) (struct id)) = child_done (InStruct (PutsBehind put way)) (λ t. through (read s t (struct id))) i words cut new old (struct_done (PutsBehind put way) id d n rest behind) is p in
+      let there : through (read s (child old.kids i) (struct id)) = child_done (InStruct (PutsBehind put way)) (λ t. through (read s t (struct id))) i words more cut new old (struct_done (PutsBehind put way) id d n rest behind) is p in
       let at : IsDone (step_field s (name n ∷ rest) verb (pointer_slot i (struct id) h.1) (read_child s old.kids i (struct id))) =
       named_through n rest i id h.1 (read_child s old.kids i (struct id)) (subst through (sym (read_child-is s old.kids i (struct id))) there) in
       let whole : Body → List Step → Type 0 = λ b way. IsDone (step_field s way verb b (body_of b whole_words old.section (read_child s old.kids))) in
       subst (λ (b : Body). whole b front) (sym h.2) (subst (whole (pointer_slot i (struct id) h.1)) (sym h.3) at)
-  enters_done (hops.Element i k) way body front inner n rest h known words cut new old is p =
+  enters_done (hops.Element i k) way body front inner n rest h known words more cut new old is p =
       let id = h.0 in
       let d = default_or_null h.1 in
       let behind : DoneWhere (PutsBehind put way) (s.shape_of id) (name n ∷ rest) = subst (λ (g : Shape). DoneWhere (PutsBehind put way) g (name n ∷ rest)) h.4 known in
-      let after : Reading → Type 0 = λ r. IsDone (through_value s (index k) (step_field s (name n ∷ rest) verb) (step_element s (name n ∷ rest) verb) (list (struct id)) (opened s (list (struct id)) d r)) in
-      let there : after (read s (child old.kids i) (list (struct id))) = child_done (InList (PutsBehind put way) k) (λ t. after (read s t (list (struct id)))) i words cut new old (list_done (PutsBehind put way) id d k n rest behind) is p in
-      let at : IsDone (step_field s (index k ∷ name n ∷ rest) verb (pointer_slot i (list (struct id)) h.1) (read_child s old.kids i (list (struct id)))) =
-      indexed_through k (name n ∷ rest) i id h.1 (read_child s old.kids i (list (struct id))) (subst after (sym (read_child-is s old.kids i (list (struct id)))) there) in
+      let after : Reading → Type 0 = IsThrough s v (struct id) k (name n ∷ rest) d in
+      let there : after (read s (child old.kids i) (list (struct id))) = child_done (InList (PutsBehind put way) k) (λ t. after (read s t (list (struct id)))) i words more cut new old (list_done (PutsBehind put way) id d k n rest behind) is p in
+      let whole : List Step → Type 0 = λ way. IsDone (step_field s way verb body (body_of body whole_words old.section (read_child s old.kids))) in
+      subst whole (sym h.3) (slot_through s v i k (name n ∷ rest) (struct id) h.1 body old.section old.kids h.2 there)
+  enters_done hops.Group way body front inner n rest h known words more cut new old is p =
       let whole : Body → List Step → Type 0 = λ b way. IsDone (step_field s way verb b (body_of b whole_words old.section (read_child s old.kids))) in
-      subst (λ (b : Body). whole b front) (sym h.2) (subst (whole (pointer_slot i (list (struct id)) h.1)) (sym h.3) at)
-  enters_done hops.Group way body front inner n rest h known words cut new old is p =
-      let whole : Body → List Step → Type 0 = λ b way. IsDone (step_field s way verb b (body_of b whole_words old.section (read_child s old.kids))) in
-      let at : whole (group_slot inner) (name n ∷ rest) = grouped_through n rest inner (record_at inner old.section old.kids) (known words cut new old is p) in
+      let at : whole (group_slot inner) (name n ∷ rest) = grouped_through n rest inner (record_at inner old.section old.kids) (known words more cut new old is p) in
       subst (λ (b : Body). whole b front) (sym h.0) (subst (whole (group_slot inner)) (sym h.1) at)
 
   -- The record machine does the rest of a path.
   pub path_done : (way : List Hop) (g : Shape) (path : List Step) → PathLeadsTo s v put way g path → DoneWhere (PutsBehind put way) g path
-  path_done [] g path h words cut new old is p =
-      let r : Record = record_at g old.section old.kids in
-      subst (λ (way : List Step). IsDone (step_path s (fields_in g) way verb r)) (sym h.3) (named_end g h.0 h.1 h.2 r h.4 (λ x. end_done put (union_in g) h.1 h.2 x h.5))
-  path_done (hop ∷ way) g path h words cut new old is p =
+  path_done [] g path h words more cut new old is p =
+      subst (λ (way : List Step). IsDone (step_path s (fields_in g) way verb (record_at g old.section old.kids))) (sym h.3) (end_done put g h.0 h.1 h.2 h.4 h.5 words more cut new old is p)
+  path_done (hop ∷ way) g path h words more cut new old is p =
       let b = begins s v put way h.3 h.4 h.8 in
       let behind : DoneWhere (PutsBehind put way) h.3 (name b.0 ∷ b.1) = subst (DoneWhere (PutsBehind put way) h.3) b.2 (path_done way h.3 h.4 h.8) in
       let into : Enters s hop h.2 h.1 h.3 (name b.0 ∷ b.1) = subst (λ (rest : List Step). Enters s hop h.2 h.1 h.3 rest) b.2 h.7 in
       subst (λ (way : List Step). IsDone (step_path s (fields_in g) way verb (record_at g old.section old.kids))) (sym h.5)
-      (named_done g h.0 h.1 h.2 old.section old.kids h.6 (enters_done hop way h.2 h.1 h.3 b.0 b.1 into behind words cut new old is p))
+      (named_done g h.0 h.1 h.2 old.section old.kids h.6 (enters_done hop way h.2 h.1 h.3 b.0 b.1 into behind words more cut new old is p))

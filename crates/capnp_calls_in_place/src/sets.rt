@@ -32,6 +32,8 @@ fn number_of(splice: &Splice) -> Option<PlainSet>
         Put::Number(set) => Some(*set),
         Put::Blob { .. } => None,
         Put::Member { .. } => None,
+        Put::BlobAt { .. } => None,
+        Put::NumberAt { .. } => None,
     }
 }
 

@@ -10,8 +10,9 @@ use Rattle.capnp_model.proofs.lemmas.Numbers.{length-numbers_in}
 use Rattle.capnp_model.proofs.lemmas.RoundTrip.{links_length}
 use Rattle.capnp_wire_canonical.specs.Writes.{filled}
 use Rattle.capnp_calls_splice.specs.Splices.{PutsBehind, InList}
-use Rattle.capnp_calls_splice.specs.Cells.{Frame, framed, StandsIn, HasPut, IsStructs, MovesElements}
+use Rattle.capnp_calls_splice.specs.Cells.{Frame, framed, StandsIn, HasPut, ChangesArea, IsStructs, MovesElements}
 use Rattle.capnp_calls_splice.specs.declared.area.Area.{Area}
+use Rattle.capnp_calls_splice.specs.declared.area.Placed.{Placed}
 use Rattle.capnp_calls_splice.specs.declared.area.Structs.{Structs}
 use Rattle.capnp_calls_splice.specs.declared.splice.Hop.{Hop}
 use Rattle.capnp_calls_splice.specs.declared.splice.Hop.TheVariants as hops
@@ -72,15 +73,18 @@ front_length area f c ws i p n w k j es st l less fit =
     let between = st.between in
     omega arith
 
-module _ (put : Put) (way : List Hop) (area inner : Area) (list : Structs) (f : Frame) (c : Cell) (i j count now : ℕ) (xs mid after ys : List (List ℕ)) (a m : ℕ)
-    (st : StandsIn area f c (filled count xs)) (l : i < area.pointers) (room : count ≤ length xs) (few : count < 2 ^ 29) (short : now < 2 ^ 29) (more : now ≤ length mid) (stays : now ≤ length after)
+module _ (put : Put) (way : List Hop) (area inner : Area) (list : Structs) (f : Frame) (c : Cell) (i j count : ℕ) (q : Placed) (xs mid after ys : List (List ℕ)) (a m : ℕ)
+    (st : StandsIn area f c (filled count xs)) (l : i < area.pointers) (room : count ≤ length xs) (few : count < 2 ^ 29) (short : q.count < 2 ^ 29) (more : q.count ≤ length mid) (stays : q.count ≤ length after) (keeps : q.data_words ≡ list.data_words)
     (at : a ≡ area.at + area.data_words + i + 1) (size : m ≡ area.at + area.data_words + area.pointers - a)
     (less : j < list.count) (place : inner.at ≡ list.first + j * (list.data_words + list.pointers)) (words : inner.data_words ≡ list.data_words) (slots_are : inner.pointers ≡ list.pointers)
     (first : list.first ≡ area.at + area.data_words + i + 1 + slot_gap f c i + 1)
-    (rec : (g : Frame) (k : Cell) → StandsIn inner g k (filled count xs) → HasPut put way inner g k (filled now mid))
-    (shift : MovesElements list j count now mid after)
-    (move : Moves count now (take m (drop a after)) ys) where
-  in_structs : (es : Elements) → child c.kids i ≡ struct_list list.data_words list.pointers es → list.count ≡ element_count es → HasPut put (hops.Element i j ∷ way) area f c (filled now (take a after ++ (ys ++ drop m (drop a after))))
+    (rec : ChangesArea (PutsBehind put way) inner count xs mid q)
+    (shift : MovesElements list j count q.count mid after)
+    (move : Moves count q.count (take m (drop a after)) ys) where
+  abbrev now : ℕ
+  now = q.count
+
+  in_structs : (es : Elements) → child c.kids i ≡ struct_list list.data_words list.pointers es → list.count ≡ element_count es → HasPut put (hops.Element i j ∷ way) area f c area.data_words (filled q.count (take a after ++ (ys ++ drop m (drop a after))))
   in_structs es e many =
       let d : ℕ = area.data_words in
       let w : ℕ = list.data_words in
@@ -115,7 +119,7 @@ module _ (put : Put) (way : List Hop) (area inner : Area) (list : Structs) (f : 
       let to : ℕ = length (bodies new.kids) in
       let ds : Elements = with_cell j new es in
       let t : Tree = struct_list w k ds in
-      let spelled_then : filled now mid ≡ framed w g new = h.stands.spelled ∙ ap (λ (y : ℕ). framed y g new) words in
+      let spelled_then : filled now mid ≡ framed w g new = h.stands.spelled ∙ ap (λ (y : ℕ). framed y g new) keeps in
       let x : List ℕ = g.front ++ (words_of w new.section ++ links g.behind g.before new.kids) in
       let r : List ℕ = element_bodies (fronts j es) ++ (bodies new.kids ++ g.back) in
       let parts : filled now mid ≡ x ++ (cells (ef + z) w k (backs j es) ++ r) =
@@ -145,16 +149,16 @@ module _ (put : Put) (way : List Hop) (area inner : Area) (list : Structs) (f : 
       shifted ∙ sym (regrouped g.front (words_of w new.section) (links g.behind g.before new.kids) (cells (ef + to) w k (backs j es)) (element_bodies (fronts j es)) (bodies new.kids ++ g.back))
       ∙ sym (with_element d f c i p n w k j es new inside) ∙ ap (λ (y : ℕ). slotted d f c i y n (body t)) told in
       let new_fits : FitsCell w k new =
-      record { section = subst (λ (y : ℕ). new.section < 2 ^ (64 * y)) words h.stands.section; pointers = h.stands.pointers ∙ slots_are; each = h.stands.each } in
+      record { section = subst (λ (y : ℕ). new.section < 2 ^ (64 * y)) keeps h.stands.section; pointers = h.stands.pointers ∙ slots_are; each = h.stands.each } in
       let fits_then : Fits t = (fits.0, fits.1, subst (λ (y : ℕ). y < 2 ^ 30) (sym same) fits.2, subst (λ (y : ℕ). y * (w + k) < 2 ^ 29) (sym same) fits.3, with_cell-fits w k es j new inside fit new_fits) in
-      let puts : PutsBehind put way w own new = subst (λ (y : ℕ). PutsBehind put way y own new) words h.puts in
+      let puts : PutsBehind put way w w own new = subst (λ (y : ℕ). PutsBehind put way w y own new) keeps (subst (λ (y : ℕ). PutsBehind put way y q.data_words own new) words h.changes) in
       record {
         cell = put_child i t c;
-        puts = (t, subst (λ (u : Tree). InList (PutsBehind put way) j u t) (sym e) (ds, in_elements (PutsBehind put way w) es j new inside puts, refl), refl);
+        changes = (refl, t, subst (λ (u : Tree). InList (PutsBehind put way) j u t) (sym e) (ds, in_elements (PutsBehind put way w w) es j new inside puts, refl), refl);
         stands = moved area f c i t (filled count xs) count now after ys a m st l (filled_length xs count room) few short stays fits_then is at size move;
       }
 
-  in_list : (t : Tree) → child c.kids i ≡ t → IsStructs list t → HasPut put (hops.Element i j ∷ way) area f c (filled now (take a after ++ (ys ++ drop m (drop a after))))
+  in_list : (t : Tree) → child c.kids i ≡ t → IsStructs list t → HasPut put (hops.Element i j ∷ way) area f c area.data_words (filled q.count (take a after ++ (ys ++ drop m (drop a after))))
   in_list null e h = absurd h
   in_list (capability k) e h = absurd h
   in_list (structure w s ts) e h = absurd h
@@ -162,33 +166,33 @@ module _ (put : Put) (way : List Hop) (area inner : Area) (list : Structs) (f : 
   in_list (pointer_list ts) e h = absurd h
   in_list (struct_list w k es) e h = in_structs es (e ∙ ap (λ (y : ℕ). struct_list y k es) (sym h.1) ∙ ap (λ (y : ℕ). struct_list list.data_words y es) (sym h.2)) h.0
 
-pub element_put : (put : Put) (way : List Hop) (area inner : Area) (list : Structs) (f : Frame) (c : Cell) (i j p count now : ℕ) (xs mid after ys : List (List ℕ)) (a m : ℕ)
-    → StandsIn area f c (filled count xs) → i < area.pointers → area.at + area.data_words + area.pointers ≤ count → count ≤ length xs → count < 2 ^ 29 → now < 2 ^ 29 → now ≤ length mid → length after ≡ length mid
+pub element_put : (put : Put) (way : List Hop) (area inner : Area) (list : Structs) (f : Frame) (c : Cell) (i j p count : ℕ) (q : Placed) (xs mid after ys : List (List ℕ)) (a m : ℕ)
+    → StandsIn area f c (filled count xs) → i < area.pointers → area.at + area.data_words + area.pointers ≤ count → count ≤ length xs → count < 2 ^ 29 → q.count < 2 ^ 29 → q.count ≤ length mid → q.data_words ≡ list.data_words → length after ≡ length mid
     → a ≡ area.at + area.data_words + i + 1 → m ≡ area.at + area.data_words + area.pointers - a
     → p ≡ from_le_bytes w64 (get_or xs (area.at + area.data_words + i) [])
     → ((gap : ℕ) (t : Tree) (x r : List ℕ) → Fits t → gap < 2 ^ 30 → p ≡ pointer gap t → filled count xs ≡ x ++ (body t ++ r) → length x ≡ area.at + area.data_words + i + 1 + gap
     → IsStructs list t × (list.first ≡ area.at + area.data_words + i + 1 + gap + 1))
     → (j < list.count) × (inner.at ≡ list.first + j * (list.data_words + list.pointers)) × (inner.data_words ≡ list.data_words) × (inner.pointers ≡ list.pointers)
-    → ((g : Frame) (k : Cell) → StandsIn inner g k (filled count xs) → HasPut put way inner g k (filled now mid))
-    → MovesElements list j count now mid after
-    → Moves count now (take m (drop a after)) ys
-    → HasPut put (hops.Element i j ∷ way) area f c (filled now (take a after ++ (ys ++ drop m (drop a after))))
-element_put put way area inner list f c i j p count now xs mid after ys a m st l own room few short more same at size is leads element rec shift move =
+    → ChangesArea (PutsBehind put way) inner count xs mid q
+    → MovesElements list j count q.count mid after
+    → Moves count q.count (take m (drop a after)) ys
+    → HasPut put (hops.Element i j ∷ way) area f c area.data_words (filled q.count (take a after ++ (ys ++ drop m (drop a after))))
+element_put put way area inner list f c i j p count q xs mid after ys a m st l own room few short more keeps same at size is leads element rec shift move =
     let d : ℕ = area.data_words in
     let n : ℕ = length (body (child c.kids i)) in
-    let q : ℕ = pointer (slot_gap f c i) (child c.kids i) in
+    let head : ℕ = pointer (slot_gap f c i) (child c.kids i) in
     let within : i < tree_count c.kids = (let e = st.pointers in omega arith) in
     let word = pointer_there area f c i p count xs st l (omega arith) is in
     let near = slot_near area f c (filled count xs) i st l (let e = filled_length xs count room in omega arith) in
     let place = slot_place area f c (filled count xs) i st l in
-    let spelled : filled count xs ≡ (slot_front d f c i ++ q ∷ (slot_later f c i n ++ slot_between f c i)) ++ (body (child c.kids i) ++ slot_back f c i) =
-    st.spelled ∙ own_slot d f c i within ∙ split (slot_front d f c i) (slot_later f c i n) (slot_between f c i) (body (child c.kids i)) (slot_back f c i) q in
-    let long : length (slot_front d f c i ++ q ∷ (slot_later f c i n ++ slot_between f c i)) ≡ area.at + area.data_words + i + 1 + slot_gap f c i = (
-    let g = length-append (slot_front d f c i) (q ∷ (slot_later f c i n ++ slot_between f c i)) in
+    let spelled : filled count xs ≡ (slot_front d f c i ++ head ∷ (slot_later f c i n ++ slot_between f c i)) ++ (body (child c.kids i) ++ slot_back f c i) =
+    st.spelled ∙ own_slot d f c i within ∙ split (slot_front d f c i) (slot_later f c i n) (slot_between f c i) (body (child c.kids i)) (slot_back f c i) head in
+    let long : length (slot_front d f c i ++ head ∷ (slot_later f c i n ++ slot_between f c i)) ≡ area.at + area.data_words + i + 1 + slot_gap f c i = (
+    let g = length-append (slot_front d f c i) (head ∷ (slot_later f c i n ++ slot_between f c i)) in
     let h = length-append (slot_later f c i n) (slot_between f c i) in
     let k = links_length (slots.backs i c.kids) f.behind (f.before + length (bodies (slots.fronts i c.kids)) + n) in
     let o = length-append f.middle (bodies (slots.fronts i c.kids)) in
     let b = st.between in
     omega arith) in
-    let found = leads (slot_gap f c i) (child c.kids i) (slot_front d f c i ++ q ∷ (slot_later f c i n ++ slot_between f c i)) (slot_back f c i) (slots.child-fits c.kids i st.each) near word spelled long in
-    in_list put way area inner list f c i j count now xs mid after ys a m st l room few short more (omega arith) at size element.0 element.1 element.2 element.3 found.1 rec shift move (child c.kids i) refl found.0
+    let found = leads (slot_gap f c i) (child c.kids i) (slot_front d f c i ++ head ∷ (slot_later f c i n ++ slot_between f c i)) (slot_back f c i) (slots.child-fits c.kids i st.each) near word spelled long in
+    in_list put way area inner list f c i j count q xs mid after ys a m st l room few short more (omega arith) keeps at size element.0 element.1 element.2 element.3 found.1 rec shift move (child c.kids i) refl found.0

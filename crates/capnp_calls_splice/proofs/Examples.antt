@@ -23,18 +23,46 @@ cell n = record { section = n; kids = none }
 abbrev above : Tree → Cell
 above t = record { section = 0; kids = t ▸ none }
 
-seven_is_put : PutsNumber seven 1 (cell 5) (cell 0x7_0000_0005)
-seven_is_put = record { inside = lit< tt; last = λ e. lit≤ tt; made = refl }
+seven_is_put : PutsNumber seven 1 1 (cell 5) (cell 0x7_0000_0005)
+seven_is_put = record { made = refl; fits = lit< tt; most = lit≤ tt; least = λ e. refl }
 
-number_in_a_child : PutsBehind (puts.Number seven) (hops.Pointer 0 ∷ []) 0 (above (structure 1 5 none)) (above (structure 1 0x7_0000_0005 none))
-number_in_a_child = (structure 1 0x7_0000_0005 none, (cell 0x7_0000_0005, seven_is_put, refl), refl)
+number_in_a_child : PutsBehind (puts.Number seven) (hops.Pointer 0 ∷ []) 0 0 (above (structure 1 5 none)) (above (structure 1 0x7_0000_0005 none))
+number_in_a_child = (refl, structure 1 0x7_0000_0005 none, (1, cell 0x7_0000_0005, seven_is_put, refl), refl)
 
-number_in_an_element : PutsBehind (puts.Number seven) (hops.Element 0 1 ∷ []) 0 (above (struct_list 1 0 (element 4 none (element 5 none no_elements)))) (above (struct_list 1 0 (element 4 none (element 0x7_0000_0005 none no_elements))))
+number_in_an_element : PutsBehind (puts.Number seven) (hops.Element 0 1 ∷ []) 0 0 (above (struct_list 1 0 (element 4 none (element 5 none no_elements)))) (above (struct_list 1 0 (element 4 none (element 0x7_0000_0005 none no_elements))))
 number_in_an_element = (
+  refl,
   struct_list 1 0 (element 4 none (element 0x7_0000_0005 none no_elements)),
   (element 4 none (element 0x7_0000_0005 none no_elements), (element 0x7_0000_0005 none no_elements, (cell 0x7_0000_0005, seven_is_put, refl), refl), refl),
   refl,
 )
+
+-- ---- structs that get wider or narrower
+
+-- a number in the second word, 0 and 9
+abbrev none_there : PlainSet
+none_there = record { word = 1; shift = 0; width = 64; bits = 0; some = lit< tt; inside = lit≤ tt; fits = lit< tt }
+
+abbrev nine : PlainSet
+nine = record { word = 1; shift = 0; width = 64; bits = 9; some = lit< tt; inside = lit≤ tt; fits = lit< tt }
+
+gets_wider : PutsNumber nine 1 2 (cell 5) (cell 0x9_0000_0000_0000_0005)
+gets_wider = record { made = refl; fits = lit< tt; most = lit≤ tt; least = λ e. refl }
+
+gets_narrower : PutsNumber none_there 2 1 (cell 0x9_0000_0000_0000_0005) (cell 5)
+gets_narrower = record { made = refl; fits = lit< tt; most = lit≤ tt; least = λ e. refl }
+
+wider_child : PutsBehind (puts.Number nine) (hops.Pointer 0 ∷ []) 0 0 (above (structure 1 5 none)) (above (structure 2 0x9_0000_0000_0000_0005 none))
+wider_child = (refl, structure 2 0x9_0000_0000_0000_0005 none, (2, cell 0x9_0000_0000_0000_0005, gets_wider, refl), refl)
+
+-- its pointer tells one word more, and that behind it that its struct lies one word further on
+words_before : canonical_words (structure 0 0 (structure 1 5 none ▸ structure 1 3 none ▸ none)) ≡ 0x2_0000_0000_0000 ∷ 0x1_0000_0004 ∷ 0x1_0000_0004 ∷ 5 ∷ 3 ∷ []
+unfolding canonical_words
+words_before = refl
+
+words_after : canonical_words (structure 0 0 (structure 2 0x9_0000_0000_0000_0005 none ▸ structure 1 3 none ▸ none)) ≡ 0x2_0000_0000_0000 ∷ 0x2_0000_0004 ∷ 0x1_0000_0008 ∷ 5 ∷ 9 ∷ 3 ∷ []
+unfolding canonical_words
+words_after = refl
 
 words_of_elements : canonical_words (structure 0 0 (struct_list 1 0 (element 4 none (element 5 none no_elements)) ▸ none)) ≡ 0x1_0000_0000_0000 ∷ 0x17_0000_0001 ∷ 0x1_0000_0008 ∷ 4 ∷ 5 ∷ []
 unfolding canonical_words

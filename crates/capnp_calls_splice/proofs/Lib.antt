@@ -7,7 +7,10 @@ mod Children
 mod Pointing
 mod Placing
 mod Numbering
+mod Resizing
+mod NumbersPut
 mod Putting
+mod ListPutting
 mod ElementParts
 mod ElementShifts
 mod ElementPutting

@@ -1,14 +1,16 @@
 -- Where structs and elements stand among canonical words. (Encoding, "Structs" and "Lists")
-use Rattle.std.specs.Prelude.{◌≡◌, ℕ, ◌+◌, ◌*◌, ◌%◌, ◌^◌, ◌<◌, ◌≤◌, Bool, ◌||◌, nat_eq, if◌then◌else◌, List, ◌++◌, length}
+use Rattle.std.specs.Prelude.{◌≡◌, ℕ, ◌+◌, ◌*◌, ◌%◌, ◌^◌, ◌<◌, ◌≤◌, Bool, ◌||◌, nat_eq, if◌then◌else◌, List, ◌++◌, length, ⊤}
 use Rattle.capnp_model.specs.Sections.{words_of}
-use Rattle.capnp_model.specs.Trees.{Tree, Trees, Elements, structure, struct_list, element_count, tree_count}
+use Rattle.capnp_model.specs.Trees.{Tree, Trees, Elements, structure, pointer_list, struct_list, element_count, tree_count}
 use Rattle.capnp_model.specs.Fits.{FitEach, FitElements}
 use Rattle.capnp_model.specs.Encoding.{links, bodies, cells, element_bodies}
 use Rattle.capnp_model.specs.Edits.{Cell}
 use Rattle.capnp_wire_canonical.specs.Writes.{filled}
-use Rattle.capnp_calls_splice.specs.DataWords.{AreData}
-use Rattle.capnp_calls_splice.specs.Splices.{PutsBehind}
+use Rattle.capnp_calls_splice.specs.Splices.{PutsBehind, StandsWithin}
 use Rattle.capnp_calls_splice.specs.declared.area.Area.{Area}
+use Rattle.capnp_calls_splice.specs.declared.area.Placed.{Placed}
+use Rattle.capnp_calls_splice.specs.declared.area.Unput.{Unput}
+use Rattle.capnp_calls_splice.specs.declared.area.Unput.TheVariants as unputs
 use Rattle.capnp_calls_splice.specs.declared.area.Structs.{Structs}
 use Rattle.capnp_calls_splice.specs.declared.splice.Hop.{Hop}
 use Rattle.capnp_calls_splice.specs.declared.splice.Put.{Put}
@@ -36,29 +38,59 @@ pub record StandsIn (area : Area) (f : Frame) (c : Cell) (words : List ℕ) : Ty
   pub pointers : tree_count c.kids ≡ area.pointers
   pub each : FitEach c.kids
 
--- It stands there after something was put behind hops.
-pub record HasPut (put : Put) (way : List Hop) (area : Area) (f : Frame) (old : Cell) (words : List ℕ) : Type 0 where
-  pub cell : Cell
-  pub puts : PutsBehind put way area.data_words old cell
-  pub stands : StandsIn area f cell words
+-- The area with so many words of data.
+abbrev pub with_data_words : Area → ℕ → Area
+with_data_words a m = record { at = a.at; data_words = m; pointers = a.pointers }
 
--- The words of a section became those of a cell into which something was put; its children are as they were.
-pub record DataPut (Puts : ℕ → Cell → Cell → Type 0) (old : Cell) (from to : List (List ℕ)) : Type 0 where
+-- It stands there after a change that left it so many words of data.
+pub record HasChanged (Changes : ℕ → ℕ → Cell → Cell → Type 0) (area : Area) (f : Frame) (old : Cell) (m : ℕ) (words : List ℕ) : Type 0 where
   pub cell : Cell
-  pub puts : Puts (length from) old cell
-  pub kids : cell.kids ≡ old.kids
-  pub section : AreData to cell.section
+  pub changes : Changes area.data_words m old cell
+  pub stands : StandsIn (with_data_words area m) f cell words
+
+-- It stands there after something was put behind hops.
+abbrev pub HasPut : Put → List Hop → Area → Frame → Cell → ℕ → List ℕ → Type 0
+HasPut put way area f old m words = HasChanged (PutsBehind put way) area f old m words
+
+-- Whatever stands in the area is changed.
+abbrev pub ChangesArea : (ℕ → ℕ → Cell → Cell → Type 0) → Area → ℕ → List (List ℕ) → List (List ℕ) → Placed → Type 0
+ChangesArea Changes area count from to p = (f : Frame) (c : Cell) → StandsIn area f c (filled count from) → HasChanged Changes area f c p.data_words (filled p.count to)
+
+-- The words that are used then are among those of a message, and the data are no more than a struct's.
+abbrev pub IsWithin : List (List ℕ) → Placed → Type 0
+IsWithin to p = StandsWithin to p.count × (p.data_words < 2 ^ 16)
+
+-- What stands after a put behind a pointer of the area's.
+abbrev pub stays : Area → ℕ → Placed
+stays a n = record { count = n; data_words = a.data_words }
+
+-- What wasn't put left the words as they were, where it didn't spoil them.
+abbrev pub LeavesWords : Unput → List (List ℕ) → List (List ℕ) → Type 0
+LeavesWords unputs.Room old new = new ≡ old
+LeavesWords unputs.Place old new = new ≡ old
+LeavesWords unputs.Spoiled old new = ⊤
 
 -- An area's own words are among n, which are those of a message.
 pub record IsAreaInside (area : Area) (count : ℕ) (words : List (List ℕ)) : Type 0 where
+  pub begins : 0 < area.at
+  pub narrow : area.data_words < 2 ^ 16
   pub own : area.at + area.data_words + area.pointers ≤ count
   pub few : count < 2 ^ 29
   pub inside : count ≤ length words
 
--- The value is a struct of these sizes.
+-- The value is a struct of so many words of data and pointers.
+abbrev pub IsStructWith : ℕ → ℕ → Tree → Type 0
+IsStructWith d k (structure words section kids) = (d ≡ words) × (k ≡ tree_count kids)
+IsStructWith d k _ = ⊥
+
+-- The value is a struct of an area's sizes.
 abbrev pub IsSizedStruct : Area → Tree → Type 0
-IsSizedStruct a (structure words section kids) = (a.data_words ≡ words) × (a.pointers ≡ tree_count kids)
-IsSizedStruct a _ = ⊥
+IsSizedStruct a t = IsStructWith a.data_words a.pointers t
+
+-- The value is a list of so many pointers.
+abbrev pub IsPointerList : ℕ → Tree → Type 0
+IsPointerList n (pointer_list ts) = n ≡ tree_count ts
+IsPointerList n _ = ⊥
 
 -- What such a word tells doesn't lie behind it, or doesn't lie at all: null, the empty struct's pointer and a capability.
 abbrev pub is_fixed : ℕ → Bool

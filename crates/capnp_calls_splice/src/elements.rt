@@ -1,29 +1,36 @@
 //! Elements of lists of structs among canonical words.
-ghost use Rattle.std.specs.Prelude.{◌≡◌, ℕ, ◌+◌, ◌*◌, ◌/◌, ◌%◌, ◌^◌, ◌<◌, ◌≤◌, List, ◌++◌, length, IfSome};
+ghost use Rattle.std.specs.Prelude.{◌≡◌, ℕ, ◌+◌, ◌*◌, ◌/◌, ◌%◌, ◌^◌, ◌<◌, ◌≤◌, List, ◌++◌, length, IfOk, IfErr};
 ghost use Rattle.capnp_model.specs.Trees.{Tree, Elements, element_count};
 ghost use Rattle.capnp_model.specs.Fits.{Fits, FitElements};
 ghost use Rattle.capnp_model.specs.Encoding.{pointer, body, cells};
 ghost use Rattle.capnp_wire_canonical.specs.Writes.{words_view, filled};
+ghost use Rattle.capnp_calls_splice.specs.declared.area.Unput.{Unput};
 ghost use Rattle.capnp_calls_splice.specs.Cells.{IsStructs, AreNear, MovesElements};
 
-use crate::area::{Area, Structs};
+use crate::area::{Area, Structs, Unput};
 use crate::pointers::{gap_of, shift_all};
 use capnp_units::sizes::Word;
 
-/// The elements of the list of structs that a pointer leads to, whose words end there; `None` where
-/// it leads to none, or past n words.
-pub(crate) fn structs_behind(words: &[Word], count: usize, word: u64, end: usize) -> Option<Structs>
+/// The elements of the list of structs that a pointer leads to, whose words end there; `Place`
+/// where it leads to none, or past n words.
+pub(crate) fn structs_behind(
+    words: &[Word],
+    count: usize,
+    word: u64,
+    end: usize,
+) -> Result<Structs, Unput>
     requires { (end ≤ count) × (count ≤ length words.now) × (count < 2 ^ 29) }
     ensures behind { (gap : ℕ) (t : Tree) (x r : List ℕ) → Fits t → gap < 2 ^ 30
         → word ≡ pointer gap t → filled count words.now ≡ x ++ (body t ++ r)
-        → length x ≡ end + gap → IfSome result (λ l. IsStructs l t × (l.first ≡ end + gap + 1)) }
-    ensures within { IfSome result (λ l. (end < l.first)
+        → length x ≡ end + gap → IfOk result (λ l. IsStructs l t × (l.first ≡ end + gap + 1)) }
+    ensures within { IfOk result (λ l. (end < l.first)
         × (l.first + l.count * (l.data_words + l.pointers) ≤ count)
-        × (l.data_words + l.pointers < 2 ^ 17)) }
+        × (l.data_words < 2 ^ 16) × (l.data_words + l.pointers < 2 ^ 17)) }
+    ensures kind { IfErr result (λ why. why ≡ Unput.Place) }
 {
     let start = end + gap_of(word);
     if word % 4 != 1 || (word >> 32) % 8 != 7 || start >= count {
-        return None;
+        return Err(Unput::Place);
     }
     let tag = u64::from_le_bytes(words[start]);
     let list = Structs {
@@ -33,25 +40,26 @@ pub(crate) fn structs_behind(words: &[Word], count: usize, word: u64, end: usize
         pointers: (tag >> 48) as usize,
     };
     if list.first + list.count * (list.data_words + list.pointers) > count {
-        return None;
+        return Err(Unput::Place);
     }
-    Some(list)
+    Ok(list)
 }
 
-/// An element of a list of structs; `None` where the list has no such index.
+/// An element of a list of structs; `Place` where the list has no such index.
 #[inline]
-pub(crate) fn element_at(list: Structs, index: u32) -> Option<Area>
+pub(crate) fn element_at(list: Structs, index: u32) -> Result<Area, Unput>
     requires { list.first + list.count * (list.data_words + list.pointers) < 2 ^ 29 }
-    ensures place { IfSome result (λ a. (index < list.count)
+    ensures place { IfOk result (λ a. (index < list.count)
         × (a.at ≡ list.first + index * (list.data_words + list.pointers))
         × (a.data_words ≡ list.data_words) × (a.pointers ≡ list.pointers)) }
-    ensures within { IfSome result (λ a. a.at + a.data_words + a.pointers
+    ensures within { IfOk result (λ a. a.at + a.data_words + a.pointers
         ≤ list.first + list.count * (list.data_words + list.pointers)) }
+    ensures kind { IfErr result (λ why. why ≡ Unput.Place) }
 {
     if index as usize >= list.count {
-        return None;
+        return Err(Unput::Place);
     }
-    Some(Area {
+    Ok(Area {
         at: list.first + index as usize * (list.data_words + list.pointers),
         data_words: list.data_words,
         pointers: list.pointers,

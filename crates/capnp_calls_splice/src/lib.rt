@@ -3,10 +3,12 @@
 
 mod area;
 pub mod blob;
+mod data;
 mod elements;
 pub mod plain;
 mod pointers;
 pub mod put;
 pub mod splice;
+mod tails;
 pub mod texts;
 pub mod words;

@@ -1,7 +1,7 @@
-//! Numbers that calls put into the data of roots.
+//! Numbers that calls put into the data of structs.
 ghost use Rattle.std.specs.Prelude.{◌+◌, ◌^◌, ◌<◌, ◌≤◌};
 
-/// A number that a call puts into the data of a root.
+/// A number that a call puts into the data of a struct.
 #[derive(Clone, Copy, Debug, PartialEq, Eq)]
 pub struct PlainSet {
     /// The word of the data section, from 0 on.

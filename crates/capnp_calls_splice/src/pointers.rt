@@ -1,13 +1,15 @@
 //! Pointers among canonical words.
-ghost use Rattle.std.specs.Prelude.{◌≡◌, ℕ, ◌+◌, ◌/◌, ◌%◌, ◌^◌, ◌<◌, ◌≤◌, length, map, IfSome};
+ghost use Rattle.std.specs.Prelude.{◌≡◌, ℕ, ◌+◌, ◌*◌, ◌/◌, ◌%◌, ◌^◌, ◌<◌, ◌≤◌, length, map, true, IfOk, IfErr};
 ghost use Rattle.capnp_model.specs.Trees.{Tree, Trees, size_bits};
 ghost use Rattle.capnp_model.specs.Fits.{Fits, FitEach};
 ghost use Rattle.capnp_model.specs.Encoding.{pointer, list_pointer, body, links};
 ghost use Rattle.capnp_wire_canonical.specs.Writes.{words_view};
-ghost use Rattle.capnp_calls_splice.specs.Splices.{IsPlainList};
-ghost use Rattle.capnp_calls_splice.specs.Cells.{IsSizedStruct, FitsInOffsets, shifted};
+ghost use Rattle.capnp_calls_splice.specs.declared.area.Unput.{Unput};
+ghost use Rattle.capnp_calls_splice.specs.Splices.{IsPlainList, IsElement};
+ghost use Rattle.capnp_calls_splice.specs.Cells.{IsStructWith, IsSizedStruct, IsPointerList, FitsInOffsets, shifted};
 
-use crate::area::{Area, Run};
+use crate::area::{Area, Run, Unput};
+use crate::plain::PlainSet;
 use capnp_units::sizes::Word;
 
 /// The pointer to an empty struct, which lies at the pointer itself.
@@ -21,63 +23,121 @@ pub(crate) fn gap_of(word: u64) -> usize
     ((word >> 2) % 0x4000_0000) as usize
 }
 
-/// The struct that a pointer leads to, whose words end there; `None` where it leads to none, to an
-/// empty one, or past n words.
+/// The struct that a pointer leads to, whose words end there; `Place` where it leads to none, to
+/// an empty one, or past n words.
 #[inline]
-pub(crate) fn struct_behind(word: u64, end: usize, count: usize) -> Option<Area>
+pub(crate) fn struct_behind(word: u64, end: usize, count: usize) -> Result<Area, Unput>
     requires { (end ≤ count) × (count < 2 ^ 29) }
     ensures behind { (gap : ℕ) (t : Tree) → Fits t → gap < 2 ^ 30 → word ≡ pointer gap t
-        → IfSome result (λ a. IsSizedStruct a t × (a.at ≡ end + gap)) }
-    ensures within { IfSome result (λ a. (end ≤ a.at)
-        × (a.at + a.data_words + a.pointers ≤ count)) }
+        → IfOk result (λ a. IsSizedStruct a t × (a.at ≡ end + gap)) }
+    ensures within { IfOk result (λ a. (end ≤ a.at) × (a.data_words < 2 ^ 16)
+        × (a.pointers < 2 ^ 16) × (a.at + a.data_words + a.pointers ≤ count)) }
+    ensures some { IfOk result (λ a. 0 < a.data_words + a.pointers) }
+    ensures kind { IfErr result (λ why. why ≡ Unput.Place) }
 {
     let at = end + gap_of(word);
     let data_words = ((word >> 32) % 0x1_0000) as usize;
     let pointers = (word >> 48) as usize;
     if word % 4 != 0 || data_words + pointers == 0 || at + data_words + pointers > count {
-        return None;
+        return Err(Unput::Place);
     }
-    Some(Area {
+    Ok(Area {
         at,
         data_words,
         pointers,
     })
 }
 
-/// The bits of an element of the plain list that a pointer leads to; `None` where its elements are
+/// The bits of an element of the plain list that a pointer leads to; `Place` where its elements are
 /// pointers or structs.
 #[inline(always)]
-fn element_bits(word: u64) -> Option<u64>
-    ensures { IfSome result (λ bits. (word / 2 ^ 32 % 8 < 6)
+fn element_bits(word: u64) -> Result<u64, Unput>
+    ensures bits { IfOk result (λ bits. (word / 2 ^ 32 % 8 < 6)
         × (bits ≡ size_bits (word / 2 ^ 32 % 8)) × (bits ≤ 64)) }
+    ensures kind { IfErr result (λ why. why ≡ Unput.Place) }
 {
     match (word >> 32) % 8 {
-        0 => Some(0),
-        1 => Some(1),
-        2 => Some(8),
-        3 => Some(16),
-        4 => Some(32),
-        5 => Some(64),
-        _ => None,
+        0 => Ok(0),
+        1 => Ok(1),
+        2 => Ok(8),
+        3 => Ok(16),
+        4 => Ok(32),
+        5 => Ok(64),
+        _ => Err(Unput::Place),
     }
 }
 
-/// The words of the list of plain elements that a pointer leads to; `None` where it leads to none,
+/// The words of the list of plain elements that a pointer leads to; `Place` where it leads to none,
 /// or past n words.
 #[inline]
-pub(crate) fn plain_list_behind(word: u64, end: usize, count: usize) -> Option<Run>
+pub(crate) fn plain_list_behind(word: u64, end: usize, count: usize) -> Result<Run, Unput>
     requires { (end ≤ count) × (count < 2 ^ 29) }
     ensures behind { (gap : ℕ) (t : Tree) → Fits t → gap < 2 ^ 30 → word ≡ pointer gap t
-        → IfSome result (λ r. IsPlainList t × (r.start ≡ end + gap) × (r.len ≡ length (body t))) }
-    ensures within { IfSome result (λ r. (end ≤ r.start) × (r.start + r.len ≤ count)) }
+        → IfOk result (λ r. IsPlainList t × (r.start ≡ end + gap) × (r.len ≡ length (body t))) }
+    ensures within { IfOk result (λ r. (end ≤ r.start) × (r.start + r.len ≤ count)) }
+    ensures kind { IfErr result (λ why. why ≡ Unput.Place) }
 {
     let bits = element_bits(word)?;
     let start = end + gap_of(word);
     let len = ((bits * (word >> 35) + 63) / 64) as usize;
     if word % 4 != 1 || start + len > count {
-        return None;
+        return Err(Unput::Place);
     }
-    Some(Run { start, len })
+    Ok(Run { start, len })
+}
+
+/// Whether a number takes the place of the element at an index of the plain list that a pointer
+/// leads to: the elements are of its width, and its place is that of the element.
+#[inline]
+pub(crate) fn is_element(word: u64, index: u32, set: PlainSet) -> bool
+    ensures { (gap : ℕ) (t : Tree) → Fits t → gap < 2 ^ 30 → word ≡ pointer gap t → IsPlainList t
+        → result ≡ true → IsElement index set t }
+{
+    let at = 64 * u64::from(set.word) + u64::from(set.shift);
+    let width = u64::from(set.width);
+    match element_bits(word) {
+        Ok(bits) => bits == width
+            && u64::from(index) < word >> 35
+            && at == width * u64::from(index),
+        Err(_) => false,
+    }
+}
+
+/// The list of pointers that a pointer leads to, as the pointers of a struct without data; `Place`
+/// where it leads to none, or past n words.
+#[inline]
+pub(crate) fn pointers_behind(word: u64, end: usize, count: usize) -> Result<Area, Unput>
+    requires { (end ≤ count) × (count < 2 ^ 29) }
+    ensures behind { (gap : ℕ) (t : Tree) → Fits t → gap < 2 ^ 30 → word ≡ pointer gap t
+        → IfOk result (λ a. IsPointerList a.pointers t × (a.at ≡ end + gap)) }
+    ensures within { IfOk result (λ a. (end ≤ a.at) × (a.data_words ≡ 0)
+        × (a.at + a.pointers ≤ count)) }
+    ensures kind { IfErr result (λ why. why ≡ Unput.Place) }
+{
+    let at = end + gap_of(word);
+    let pointers = (word >> 35) as usize;
+    if word % 4 != 1 || (word >> 32) % 8 != 6 || at + pointers > count {
+        return Err(Unput::Place);
+    }
+    Ok(Area {
+        at,
+        data_words: 0,
+        pointers,
+    })
+}
+
+/// The pointer to a struct of these sizes that begins where that of another pointer does.
+#[inline]
+pub(crate) fn sized_pointer(word: u64, data_words: usize, pointers: usize) -> u64
+    requires { (data_words < 2 ^ 16) × (pointers < 2 ^ 16) }
+    ensures { (gap d k : ℕ) (t u : Tree) → gap < 2 ^ 30 → word ≡ pointer gap t
+        → IsStructWith d k t → 0 < d + k → IsStructWith data_words pointers u
+        → result ≡ pointer gap u }
+{
+    if data_words + pointers == 0 {
+        return EMPTY;
+    }
+    word % 0x1_0000_0000 + ((data_words as u64) << 32) + ((pointers as u64) << 48)
 }
 
 /// The pointer to a list of n bytes that begins where that of another pointer does.

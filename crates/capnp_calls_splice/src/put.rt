@@ -1,119 +1,166 @@
 //! Splices written where a message's canonical words stand.
-ghost use Rattle.std.specs.Prelude.{◌≡◌, ℕ, ◌+◌, ◌-◌, ◌^◌, ◌<◌, ◌≤◌, List, [], ◌∷◌, ◌++◌, length, take, drop, IfOk, IfErr, IfSome, MatchOption};
+ghost use Rattle.std.specs.Prelude.{◌≡◌, ℕ, suc, ◌+◌, ◌^◌, ◌<◌, ◌≤◌, List, [], ◌∷◌, length, get_or, IfOk, IfErr, MatchOption};
 ghost use Rattle.capnp_units.specs.declared.kinds.ErrorKind.{ErrorKind};
 ghost use Rattle.capnp_model.specs.Trees.{Tree};
 ghost use Rattle.capnp_model.specs.Fits.{Fits};
-ghost use Rattle.capnp_model.specs.Edits.{Cell};
 ghost use Rattle.capnp_model.specs.Encoding.{canonical_words};
-ghost use Rattle.capnp_wire_canonical.specs.Writes.{words_view, filled};
+ghost use Rattle.capnp_wire_canonical.specs.Writes.{filled};
+ghost use Rattle.std.specs.Int.{from_le_bytes, w64};
+ghost use Rattle.capnp_calls_splice.specs.declared.area.Unput.{Unput};
 ghost use Rattle.capnp_calls_splice.specs.declared.splice.Put.TheVariants as puts;
-ghost use Rattle.capnp_calls_splice.specs.Splices.{HasSpliced, StandsWithin, put_room};
-ghost use Rattle.capnp_calls_splice.specs.Cells.{Frame, StandsIn, HasPut, IsAreaInside};
+ghost use Rattle.capnp_calls_splice.specs.Splices.{PutsIntoCell, PutsBehind, HasSpliced, StandsWithin, TellsSplice, number_room, put_room};
+ghost use Rattle.capnp_calls_splice.specs.Cells.{ChangesArea, stays, IsAreaInside, IsWithin, LeavesWords};
 
-use crate::area::{Area, Run};
+use crate::area::{Area, Placed, Unput};
 use crate::blob::Blob;
+use crate::data::{put_member, put_number};
 use crate::elements::{element_at, move_elements, structs_behind};
-use crate::pointers::{bytes_pointer, move_pointers, plain_list_behind, struct_behind};
-use crate::splice::{Hop, Put, Splice};
-use crate::words::{put_member, put_number};
-use capnp_units::errors::Result;
+use crate::plain::PlainSet;
+use crate::pointers::{
+    bytes_pointer, is_element, move_pointers, plain_list_behind, pointers_behind, sized_pointer,
+    struct_behind,
+};
+use crate::splice::{Hop, Put, Splice, Spliced};
+use crate::tails::replace;
+use crate::words::put;
+use capnp_units::errors::Error;
 use capnp_units::limits::MOST_WORDS;
 use capnp_units::sizes::Word;
 
-/// Moves the words from a place to an end to another place.
+/// The pointer of a struct, and where those behind it end.
+#[derive(Clone, Copy)]
+struct Slot {
+    at: usize,
+    end: usize,
+    word: u64,
+}
+
+/// A pointer of a struct; `Place` where it hasn't so many.
 #[inline]
-fn move_tail(words: &mut [Word], from: usize, end: usize, to: usize)
-    requires from { (from ≤ end) × (end ≤ length words.old) }
-    requires to { to + (end - from) ≤ length words.old }
-    ensures words { words.new ≡ take to words.old
-        ++ (take (end - from) (drop from words.old) ++ drop (to + (end - from)) words.old) }
-    ensures len { length words.new ≡ length words.old }
+fn slot_of(words: &[Word], area: Area, pointer: u32) -> Result<Slot, Unput>
+    requires own { area.at + area.data_words + area.pointers ≤ length words.now }
+    requires few { length words.now < 2 ^ 61 }
+    ensures place { IfOk result (λ s. (s.at ≡ area.at + area.data_words + pointer)
+        × (s.end ≡ area.at + area.data_words + area.pointers) × (s.at < s.end)) }
+    ensures word { IfOk result (λ s. s.word ≡ from_le_bytes w64 (get_or words.now s.at [])) }
+    ensures kind { IfErr result (λ why. why ≡ Unput.Place) }
 {
-    if from == to {
-        return;
+    let end = area.at + area.data_words + area.pointers;
+    let at = area.at + area.data_words + pointer as usize;
+    if at >= end {
+        return Err(Unput::Place);
     }
-    words.copy_within(from..end, to);
+    let word = u64::from_le_bytes(words[at]);
+    Ok(Slot { at, end, word })
 }
 
-/// Puts other words in place of a run of those that are used, and returns how many are used then.
-/// `None` where they are too many for the slice, or for a message.
-fn replace(words: &mut [Word], count: usize, run: Run, new: &[Word]) -> Option<usize>
-    requires run { run.start + run.len ≤ count }
-    requires count { (count ≤ length words.old) × (count < 2 ^ 29) }
-    requires few { length new.now < 2 ^ 29 }
-    ensures words { (x l r : List ℕ) → filled count words.old ≡ x ++ (l ++ r)
-        → length x ≡ run.start → length l ≡ run.len
-        → IfSome result (λ n. filled n words.new ≡ x ++ (words_view new.now ++ r)) }
-    ensures within { IfSome result (λ n. (run.start ≤ n) × (n ≤ length words.new)
-        × (n < 2 ^ 29)) }
-    ensures len { length words.new ≡ length words.old }
+/// What stands after a put behind a pointer of a struct, which has the words that it had.
+#[inline(always)]
+fn stays(area: Area, count: usize) -> Placed
+    ensures { result ≡ stays area count }
 {
-    let end = run.start + run.len;
-    let behind = run.start + new.len();
-    let now = behind + (count - end);
-    if now > words.len() || now > MOST_WORDS as usize {
-        return None;
+    Placed {
+        count,
+        data_words: area.data_words,
     }
-    move_tail(words, end, count, behind);
-    words[run.start..behind].copy_from_slice(new);
-    Some(now)
 }
 
-/// Puts a text or data in place of the plain list behind a pointer of a struct, and returns how
-/// many words are used then.
+/// Puts a text or data in place of the plain list behind a pointer of a struct.
 fn put_blob(
     words: &mut [Word],
     count: usize,
     area: Area,
     pointer: u32,
     blob: &Blob,
-) -> Option<usize>
+) -> Result<Placed, Unput>
     requires { IsAreaInside area count words.old }
-    ensures put { (f : Frame) (c : Cell) → StandsIn area f c (filled count words.old)
-        → IfSome result (λ n.
-        HasPut (puts.Blob pointer blob.now) [] area f c (filled n words.new)) }
-    ensures within { IfSome result (StandsWithin words.new) }
+    ensures changes { IfOk result (ChangesArea (PutsIntoCell (puts.Blob pointer blob.now))
+        area count words.old words.new) }
+    ensures within { IfOk result (IsWithin words.new) }
+    ensures kept { IfErr result (λ why. LeavesWords why words.old words.new) }
     ensures len { length words.new ≡ length words.old }
 {
-    let end = area.at + area.data_words + area.pointers;
-    let slot = area.at + area.data_words + pointer as usize;
-    if slot >= end {
-        return None;
-    }
-    let word = u64::from_le_bytes(words[slot]);
-    let run = plain_list_behind(word, slot + 1, count)?;
+    let slot = slot_of(words, area, pointer)?;
+    let run = plain_list_behind(slot.word, slot.at + 1, count)?;
     let now = replace(words, count, run, &blob.words)?;
-    words[slot] = bytes_pointer(word, blob.len).to_le_bytes();
-    move_pointers(&mut words[slot + 1..end], count, now);
-    Some(now)
+    words[slot.at] = bytes_pointer(slot.word, blob.len).to_le_bytes();
+    move_pointers(&mut words[slot.at + 1..slot.end], count, now);
+    Ok(stays(area, now))
 }
 
-/// Puts a number, a text or data into a struct, and returns how many words are used then.
-fn put_here(words: &mut [Word], count: usize, area: Area, put: &Put) -> Option<usize>
-    requires inside { IsAreaInside area count words.old }
-    requires some { 0 < count }
-    ensures put { (f : Frame) (c : Cell) → StandsIn area f c (filled count words.old)
-        → IfSome result (λ n. HasPut put.now [] area f c (filled n words.new)) }
-    ensures within { IfSome result (StandsWithin words.new) }
+/// Puts a text or data in place of a plain list at an index of the list of pointers behind a
+/// pointer of a struct.
+fn put_blob_at(
+    words: &mut [Word],
+    count: usize,
+    area: Area,
+    pointer: u32,
+    index: u32,
+    blob: &Blob,
+) -> Result<Placed, Unput>
+    requires { IsAreaInside area count words.old }
+    ensures changes { IfOk result (ChangesArea (PutsIntoCell (puts.BlobAt pointer index blob.now))
+        area count words.old words.new) }
+    ensures within { IfOk result (IsWithin words.new) }
+    ensures kept { IfErr result (λ why. LeavesWords why words.old words.new) }
+    ensures len { length words.new ≡ length words.old }
+{
+    let slot = slot_of(words, area, pointer)?;
+    let list = pointers_behind(slot.word, slot.at + 1, count)?;
+    let placed = put_blob(words, count, list, index, blob)?;
+    move_pointers(&mut words[slot.at + 1..slot.end], count, placed.count);
+    Ok(stays(area, placed.count))
+}
+
+/// Puts a number in place of the element at an index of the list of elements of its width behind a
+/// pointer of a struct.
+fn put_number_at(
+    words: &mut [Word],
+    count: usize,
+    area: Area,
+    pointer: u32,
+    index: u32,
+    set: PlainSet,
+) -> Result<Placed, Unput>
+    requires { IsAreaInside area count words.old }
+    ensures changes { IfOk result (ChangesArea (PutsIntoCell (puts.NumberAt pointer index set))
+        area count words.old words.new) }
+    ensures within { IfOk result (IsWithin words.new) }
+    ensures kept { IfErr result (λ why. LeavesWords why words.old words.new) }
+    ensures len { length words.new ≡ length words.old }
+{
+    let slot = slot_of(words, area, pointer)?;
+    let run = plain_list_behind(slot.word, slot.at + 1, count)?;
+    if set.word as usize >= run.len || !is_element(slot.word, index, set) {
+        return Err(Unput::Place);
+    }
+    put(&mut words[run.start..run.start + run.len], set);
+    Ok(stays(area, count))
+}
+
+/// Puts a number, a member, a text or data into a struct, or into a list behind a pointer of it.
+fn put_here(words: &mut [Word], count: usize, area: Area, put: &Put) -> Result<Placed, Unput>
+    requires { IsAreaInside area count words.old }
+    ensures changes { IfOk result
+        (ChangesArea (PutsIntoCell put.now) area count words.old words.new) }
+    ensures within { IfOk result (IsWithin words.new) }
+    ensures kept { IfErr result (λ why. LeavesWords why words.old words.new) }
     ensures len { length words.new ≡ length words.old }
 {
     match put {
-        Put::Number(set) => {
-            if put_number(&mut words[area.at..area.at + area.data_words], *set) {
-                Some(count)
-            } else {
-                None
-            }
-        }
+        Put::Number(set) => put_number(words, count, area, *set),
         Put::Blob { pointer, blob } => put_blob(words, count, area, *pointer, blob),
-        Put::Member { mark, number } => {
-            let data = &mut words[area.at..area.at + area.data_words];
-            if put_member(data, *mark, *number) {
-                Some(count)
-            } else {
-                None
-            }
-        }
+        Put::Member { mark, number } => put_member(words, count, area, *mark, *number),
+        Put::BlobAt {
+            pointer,
+            index,
+            blob,
+        } => put_blob_at(words, count, area, *pointer, *index, blob),
+        Put::NumberAt {
+            pointer,
+            index,
+            set,
+        } => put_number_at(words, count, area, *pointer, *index, *set),
     }
 }
 
@@ -128,19 +175,19 @@ fn first_hop(hops: &[Hop]) -> Option<(Hop, &[Hop])>
     }
 }
 
-/// Puts a number, a text or data into the struct that hops lead to from this one.
+/// Puts a number, a member, a text or data into the struct that hops lead to from this one.
 fn put_in_cell(
     words: &mut [Word],
     count: usize,
     area: Area,
     hops: &[Hop],
     put: &Put,
-) -> Option<usize>
-    requires inside { IsAreaInside area count words.old }
-    requires some { 0 < count }
-    ensures put { (f : Frame) (c : Cell) → StandsIn area f c (filled count words.old)
-        → IfSome result (λ n. HasPut put.now hops.now area f c (filled n words.new)) }
-    ensures within { IfSome result (StandsWithin words.new) }
+) -> Result<Placed, Unput>
+    requires { IsAreaInside area count words.old }
+    ensures changes { IfOk result
+        (ChangesArea (PutsBehind put.now hops.now) area count words.old words.new) }
+    ensures within { IfOk result (IsWithin words.new) }
+    ensures kept { IfErr result (λ why. LeavesWords why words.old words.new) }
     ensures len { length words.new ≡ length words.old }
 {
     let Some((hop, rest)) = first_hop(hops) else {
@@ -148,63 +195,77 @@ fn put_in_cell(
     };
     match hop {
         Hop::Pointer(pointer) => {
-            let end = area.at + area.data_words + area.pointers;
-            let slot = area.at + area.data_words + pointer as usize;
-            if slot >= end {
-                return None;
-            }
-            let child = struct_behind(u64::from_le_bytes(words[slot]), slot + 1, count)?;
-            let now = put_in_cell(words, count, child, rest, put)?;
-            move_pointers(&mut words[slot + 1..end], count, now);
-            Some(now)
+            let slot = slot_of(words, area, pointer)?;
+            let child = struct_behind(slot.word, slot.at + 1, count)?;
+            let placed = put_in_cell(words, count, child, rest, put)?;
+            let word = sized_pointer(slot.word, placed.data_words, child.pointers);
+            words[slot.at] = word.to_le_bytes();
+            move_pointers(&mut words[slot.at + 1..slot.end], count, placed.count);
+            Ok(stays(area, placed.count))
         }
         Hop::Group => put_in_cell(words, count, area, rest, put),
         Hop::Element { pointer, index } => {
-            let end = area.at + area.data_words + area.pointers;
-            let slot = area.at + area.data_words + pointer as usize;
-            if slot >= end {
-                return None;
-            }
-            let word = u64::from_le_bytes(words[slot]);
-            let list = structs_behind(words, count, word, slot + 1)?;
+            let slot = slot_of(words, area, pointer)?;
+            let list = structs_behind(words, count, slot.word, slot.at + 1)?;
             let element = element_at(list, index)?;
-            let now = put_in_cell(words, count, element, rest, put)?;
-            move_elements(words, list, index, count, now);
-            move_pointers(&mut words[slot + 1..end], count, now);
-            Some(now)
+            let placed = put_in_cell(words, count, element, rest, put)?;
+            if placed.data_words != list.data_words {
+                return Err(Unput::Spoiled);
+            }
+            move_elements(words, list, index, count, placed.count);
+            move_pointers(&mut words[slot.at + 1..slot.end], count, placed.count);
+            Ok(stays(area, placed.count))
         }
     }
 }
 
 /// Puts what a splice puts into a message, as `put_splice` does, where there is room for it.
-fn put_at_root(words: &mut [Word], count: usize, splice: &Splice) -> Option<usize>
+fn put_at_root(words: &mut [Word], count: usize, splice: &Splice) -> Result<usize, Unput>
     requires inside { count ≤ length words.old }
     requires few { count < 2 ^ 29 }
     ensures spliced { (t : Tree) → Fits t → filled count words.old ≡ canonical_words t
-        → IfSome result (λ n. HasSpliced splice.now t (filled n words.new)) }
-    ensures within { IfSome result (StandsWithin words.new) }
+        → IfOk result (λ n. HasSpliced splice.now t (filled n words.new)) }
+    ensures within { IfOk result (StandsWithin words.new) }
+    ensures kept { IfErr result (λ why. LeavesWords why words.old words.new) }
+    ensures len { length words.new ≡ length words.old }
 {
     if count == 0 {
-        return None;
+        return Err(Unput::Place);
     }
-    let root = struct_behind(u64::from_le_bytes(words[0]), 1, count)?;
-    put_in_cell(words, count, root, &splice.hops, &splice.put)
+    let word = u64::from_le_bytes(words[0]);
+    let root = struct_behind(word, 1, count)?;
+    let placed = put_in_cell(words, count, root, &splice.hops, &splice.put)?;
+    words[0] = sized_pointer(word, placed.data_words, root.pointers).to_le_bytes();
+    Ok(placed.count)
 }
 
-/// How many words more a message may have after a put.
+/// The most words that a number adds to a message, if there is one.
 #[inline]
+fn room_for_number(number: Option<PlainSet>) -> usize
+    ensures room { result ≡ number_room number }
+    ensures few { result ≤ 2 ^ 32 }
+{
+    match number {
+        Some(set) => set.word as usize + 1,
+        None => 0,
+    }
+}
+
+/// The most words that a put adds to a message.
 fn room_for(put: &Put) -> usize
-    ensures few { result < 2 ^ 29 }
+    ensures few { result ≤ 2 ^ 32 }
     ensures room { result ≡ put_room put.now }
 {
     match put {
-        Put::Number(_) | Put::Member { .. } => 0,
-        Put::Blob { blob, .. } => blob.words.len(),
+        Put::Number(set) => set.word as usize + 1,
+        Put::Member { mark, number } => (mark.word as usize + 1).max(room_for_number(*number)),
+        Put::Blob { blob, .. } | Put::BlobAt { blob, .. } => blob.words.len(),
+        Put::NumberAt { .. } => 0,
     }
 }
 
 /// Makes a buffer of at least n words; those in it stay. `OutOfMemory`: the memory was refused.
-fn make_room(words: &mut Vec<Word>, count: usize) -> Result<()>
+fn make_room(words: &mut Vec<Word>, count: usize) -> Result<(), Error>
     ensures kept { (n : ℕ) → n ≤ length words.old.items
         → filled n words.new.items ≡ filled n words.old.items }
     ensures len { length words.old.items ≤ length words.new.items }
@@ -217,27 +278,40 @@ fn make_room(words: &mut Vec<Word>, count: usize) -> Result<()>
     Ok(())
 }
 
-/// Puts a number, a text or data into a message whose `count` canonical words stand at the front of
-/// a buffer. It returns how many words there are then: the canonical words of the value with what
-/// was put, in which no struct is wider or narrower than before. `None` where
-/// - the hops lead elsewhere than to a struct with a place for it;
-/// - the struct's last data word becomes zero;
-/// - the message would have 2^29 words or more.
+/// Puts a number, a member of a union, a text or data into a message whose `count` canonical words
+/// stand at the front of a buffer. Where it is put they are the canonical words of the value with
+/// it: a struct, the root among them, has as many data words then as it needs. It has no place
+/// where
+/// - the hops lead elsewhere than to a struct that has a word or a pointer;
+/// - a text or data takes the place of no other, or of no list of bytes, bits or numbers;
+/// - a list has no element at the index, or its elements are neither pointers, for a text or data,
+///   nor of the number's width;
+/// - the struct would have 2^16 data words or more, or the message 2^29 words or more.
 ///
-/// Then some of it may be put, and the words are of no use. `OutOfMemory`: the buffer is too short,
-/// and the memory for more words was refused.
-pub fn put_splice(words: &mut Vec<Word>, count: usize, splice: &Splice) -> Result<Option<usize>>
+/// Where an element of a list would need more or fewer data words than the list has for each, the
+/// words are spoiled.
+///
+/// The buffer grows where it is too short. `OutOfMemory`: that was refused.
+pub fn put_splice(words: &mut Vec<Word>, count: usize, splice: &Splice) -> Result<Spliced, Error>
     requires inside { count ≤ length words.old.items }
-    ensures spliced { (t : Tree) → Fits t → filled count words.old.items ≡ canonical_words t
-        → IfOk result (λ found. IfSome found (λ n.
-        HasSpliced splice.now t (filled n words.new.items))) }
-    ensures within { IfOk result (λ found. IfSome found (StandsWithin words.new.items)) }
+    ensures told { IfOk result
+        (TellsSplice splice.now count words.old.items words.new.items) }
     ensures kind { IfErr result (λ e. e.kind ≡ ErrorKind.OutOfMemory) }
     ensures short { IfErr result (λ _. length words.old.items < count + put_room splice.now.put) }
 {
     if count > MOST_WORDS as usize {
-        return Ok(None);
+        return Ok(Spliced::Unplaced);
+    }
+    match put_at_root(words.as_mut_slice(), count, splice) {
+        Ok(now) => return Ok(Spliced::Done(now)),
+        Err(Unput::Spoiled) => return Ok(Spliced::Spoiled),
+        Err(Unput::Place) => return Ok(Spliced::Unplaced),
+        Err(Unput::Room) => {}
     }
     make_room(words, count + room_for(&splice.put))?;
-    Ok(put_at_root(words.as_mut_slice(), count, splice))
+    match put_at_root(words.as_mut_slice(), count, splice) {
+        Ok(now) => Ok(Spliced::Done(now)),
+        Err(Unput::Spoiled) => Ok(Spliced::Spoiled),
+        Err(Unput::Room | Unput::Place) => Ok(Spliced::Unplaced),
+    }
 }

@@ -29,6 +29,20 @@ pub enum Put {
         mark: PlainSet,
         number: Option<PlainSet>,
     },
+    /// A text or data, in place of a list of bytes, bits or numbers at an index of the list of
+    /// pointers behind a pointer.
+    BlobAt {
+        pointer: u32,
+        index: u32,
+        blob: Blob,
+    },
+    /// A number, in place of the element at an index of the list of elements of its width behind a
+    /// pointer. Its word and its shift are those of the element among the words of the list.
+    NumberAt {
+        pointer: u32,
+        index: u32,
+        set: PlainSet,
+    },
 }
 
 /// What is put into a struct that is reached from the root by hops.
@@ -36,4 +50,15 @@ pub enum Put {
 pub struct Splice {
     pub hops: Vec<Hop>,
     pub put: Put,
+}
+
+/// What is told of a splice.
+#[derive(Clone, Copy, Debug, PartialEq, Eq)]
+pub enum Spliced {
+    /// It is put, and so many words are used then.
+    Done(usize),
+    /// It has no place. The words that are used are as they were.
+    Unplaced,
+    /// Some of it may be put, and the words are of no use.
+    Spoiled,
 }

@@ -1,15 +1,11 @@
 //! The data words of a root, among the canonical words of a message.
-ghost use Rattle.std.specs.Prelude.{◌≡◌, ℕ, suc, ◌*◌, ◌^◌, ◌<◌, ◌≤◌, length, true, IfSome};
+ghost use Rattle.std.specs.Prelude.{◌≡◌, ℕ, ◌*◌, ◌^◌, ◌<◌, ◌≤◌, length, true, IfSome};
 ghost use Rattle.capnp_model.specs.Sections.{needed_words};
 ghost use Rattle.capnp_model.specs.Trees.{Tree};
 ghost use Rattle.capnp_model.specs.Fits.{Fits};
 ghost use Rattle.capnp_model.specs.Encoding.{canonical_words};
 ghost use Rattle.capnp_wire_canonical.specs.Writes.{words_view};
-ghost use Rattle.capnp_model.specs.Edits.{Cell};
 ghost use Rattle.capnp_calls_splice.specs.DataWords.{put_set, put_sets, AreData, HasData, AreWordsAfter};
-ghost use Rattle.capnp_calls_splice.specs.Splices.{PutsNumberIfAny, PutsIntoCell};
-ghost use Rattle.capnp_calls_splice.specs.Cells.{DataPut};
-ghost use Rattle.capnp_calls_splice.specs.declared.splice.Put.TheVariants as puts;
 
 use crate::plain::PlainSet;
 use capnp_copy_arenas::bits::word_with;
@@ -31,7 +27,7 @@ pub(crate) fn root_data_words(words: &[Word]) -> Option<usize>
 }
 
 /// Puts a number into the words of a section, of which one is the number's.
-fn put(slice: &mut [Word], set: PlainSet)
+pub(crate) fn put(slice: &mut [Word], set: PlainSet)
     requires { set.word < length slice.old }
     ensures words { (section : ℕ) → AreData slice.old section
         → AreData slice.new (put_set set section) }
@@ -87,47 +83,4 @@ pub fn put_in_root(words: &mut [Word], sets: &[PlainSet]) -> bool
     };
     let slice = &mut words[1..1 + count];
     put_all(slice, sets) && ends_in_some(slice)
-}
-
-/// Puts a number into the words of a section, and says whether it has a word there, and whether
-/// that isn't zero where it is the last.
-#[inline]
-pub(crate) fn put_number(slice: &mut [Word], set: PlainSet) -> bool
-    ensures words { (section : ℕ) → AreData slice.old section → result ≡ true
-        → AreData slice.new (put_set set section) }
-    ensures inside { result ≡ true → set.word < length slice.old }
-    ensures last { (section : ℕ) → AreData slice.old section → result ≡ true
-        → suc set.word ≡ length slice.old → 2 ^ (64 * set.word) ≤ put_set set section }
-    ensures len { length slice.new ≡ length slice.old }
-{
-    let at = set.word as usize;
-    if at >= slice.len() {
-        return false;
-    }
-    put(slice, set);
-    at + 1 < slice.len() || ends_in_some(slice)
-}
-
-/// As `put_number`, where there is a number.
-#[inline]
-fn put_any(slice: &mut [Word], set: Option<PlainSet>) -> bool
-    ensures puts { (c : Cell) → AreData slice.old c.section → result ≡ true
-        → DataPut (PutsNumberIfAny set) c slice.old slice.new }
-    ensures len { length slice.new ≡ length slice.old }
-{
-    match set {
-        Some(set) => put_number(slice, set),
-        None => true,
-    }
-}
-
-/// Puts a discriminant into the words of a section, and then the number of its member, if it has
-/// one. It says whether each has a word there that isn't zero where it is the last.
-#[inline]
-pub(crate) fn put_member(slice: &mut [Word], mark: PlainSet, number: Option<PlainSet>) -> bool
-    ensures puts { (c : Cell) → AreData slice.old c.section → result ≡ true
-        → DataPut (PutsIntoCell (puts.Member mark number)) c slice.old slice.new }
-    ensures len { length slice.new ≡ length slice.old }
-{
-    put_number(slice, mark) && put_any(slice, number)
 }

@@ -21,6 +21,8 @@ use Rattle.capnp_relay_answers.specs.Sizes.{MayPassWords}
 use Rattle.capnp_relay_loop.specs.declared.answer.Reason.{Reason}
 use Rattle.capnp_relay_loop.specs.declared.answer.MessageAnswer.{MessageAnswer}
 use Rattle.capnp_relay_loop.specs.declared.answer.MessageAnswer.TheVariants as answers
+use Rattle.capnp_relay_answers.specs.declared.answer.Known.{Known}
+use Rattle.capnp_relay_answers.specs.declared.answer.Known.TheVariants as knowns
 
 -- What is written is one segment at the front of a buffer, and has fewer words than 2^29.
 abbrev pub StandsAlone : List (List ℕ) → MessageAnswer → Type 0
@@ -62,6 +64,13 @@ pub record IsAnswered (schema : StructSchema) (calls : List Call) (bounds : Boun
 abbrev pub ReadsRootValue : Bounds → Segments → List (List ℕ) → Result ℕ Reason → Type 0
 ReadsRootValue bounds s into (Ok count) = (r : ReadsValue bounds s into count) × (can_be_opened (trim r.value) ≡ true)
 ReadsRootValue bounds s into (Err reason) = (schema : StructSchema) (calls : List Call) (any : List (List ℕ)) → IsAnswered schema calls bounds s any (answers.Refused reason)
+
+-- What is told of calls of which it is known what each puts: what answers them, or that the message's words stand in the buffer, or nothing.
+abbrev pub TellsKnown : StructSchema → List Call → Bounds → Segments → List (List ℕ) → Known → Type 0
+TellsKnown schema calls bounds s into (knowns.Done n) = IsAnswered schema calls bounds s into (answers.Done n (length calls))
+TellsKnown schema calls bounds s into (knowns.Refused reason) = IsAnswered schema calls bounds s into (answers.Refused reason)
+TellsKnown schema calls bounds s into (knowns.Stands count) = ReadsRootValue bounds s into (Ok count)
+TellsKnown schema calls bounds s into knowns.Spoiled = ⊤
 
 -- This is the answer of calls that start from the value with these canonical words.
 abbrev pub AnswersWords : StructSchema → List Call → ℕ → List ℕ → List (List ℕ) → MessageAnswer → Type 0

@@ -3,7 +3,9 @@ ghost use Rattle.std.specs.Prelude.{◌≡◌, ◌≤◌, length, Err, IfOk, IfE
 ghost use Rattle.capnp_units.specs.Segments.{words_in};
 ghost use Rattle.capnp_copy_arenas.specs.Memory.{AllZero};
 ghost use Rattle.capnp_relay_loop.specs.declared.answer.Want.{Want};
-ghost use Rattle.capnp_relay_answers.specs.Answers.{IsAnswered, MakesTooLarge, ReadsRootValue};
+ghost use Rattle.capnp_calls_splice.specs.Splices.{StandsWithin};
+ghost use Rattle.capnp_wire_canonical.specs.Writes.{filled};
+ghost use Rattle.capnp_relay_answers.specs.Answers.{AnswersWords, IsAnswered, IsTooLargeFrom, MakesTooLarge, ReadsRootValue, TellsKnown};
 ghost use Rattle.capnp_relay_answers.specs.RootCalls.{root_schema, root_calls};
 
 use crate::bounds::Bounds;
@@ -11,6 +13,7 @@ use crate::built::answer_built;
 use crate::gets::reply_in_place;
 use crate::reading::{can_be_opened, read_value};
 use crate::root_calls::RootCalls;
+use capnp_calls_splice::splice::Spliced;
 use capnp_copy_arenas::allocator::Allocator;
 use capnp_message::builder::Builder;
 use capnp_message_allocators::scratch::ScratchSpaceHeapAllocator;
@@ -19,6 +22,20 @@ pub use capnp_relay_loop::answer::{MessageAnswer, Reason, Want};
 use capnp_units::sizes::Word;
 use capnp_wire_objects::arena::ReaderArena;
 use std::alloc::Global;
+
+/// What comes of calls of which it is known what each puts. It holds no answer: that is larger, and
+/// would be copied for each message.
+#[derive(Clone, Copy, Debug)]
+pub(crate) enum Known {
+    /// All of it is put, and the message has so many words then.
+    Done(usize),
+    /// The message is skipped.
+    Refused(Reason),
+    /// It has no place. The message's words, so many, stand in the buffer as they were read.
+    Stands(usize),
+    /// Some of it may be put, and the words in the buffer are of no use.
+    Spoiled,
+}
 
 /// How many words at the front of a buffer are those of a message's value, trimmed, which is a
 /// struct or null; or why the message is skipped.
@@ -42,32 +59,29 @@ pub(crate) fn read_root<M: ReaderArena>(
 }
 
 /// The answer where it is known what each call puts, made in the words that the message was read
-/// to; `None` where one can't be put there.
+/// to, if all can be put there.
 #[inline(always)]
 fn answer_known<M: ReaderArena>(
     message: &M,
     bounds: Bounds,
     calls: &RootCalls<'_>,
     words: &mut Vec<Word>,
-) -> Result<Option<MessageAnswer>, Want>
-    ensures answer { IfOk result (λ found. IfSome found (IsAnswered (root_schema calls.now)
-        (root_calls calls.now) bounds (words_in (M.segments message.now)) words.new.items)) }
+) -> Result<Known, Want>
+    ensures answer { IfOk result (TellsKnown (root_schema calls.now) (root_calls calls.now) bounds
+        (words_in (M.segments message.now)) words.new.items) }
     ensures memory { IfErr result (λ want. want ≡ Want.Memory) }
 {
     trimmed_values();
     words_mean_their_value();
     let count = match read_root(message, bounds, words)? {
         Ok(count) => count,
-        Err(reason) => return Ok(Some(MessageAnswer::Refused(reason))),
+        Err(reason) => return Ok(Known::Refused(reason)),
     };
-    let Some(after) = calls.put(words, count)? else {
-        return Ok(None);
-    };
-    let calls = calls.calls.len();
-    Ok(Some(MessageAnswer::Done {
-        count: after,
-        calls,
-    }))
+    match calls.put(words, count)? {
+        Spliced::Done(after) => Ok(Known::Done(after)),
+        Spliced::Unplaced => Ok(Known::Stands(count)),
+        Spliced::Spoiled => Ok(Known::Spoiled),
+    }
 }
 
 /// The answer of calls that are each a `get`: their replies, where the message's words were read to,
@@ -96,6 +110,40 @@ fn answer_gets<M: ReaderArena>(
     Ok(Some(MessageAnswer::Written { count, replies }))
 }
 
+/// The answer to a message whose canonical words stand at the front of the buffer, a struct or
+/// null, which is edited in memory of this allocator. All of it is given back.
+fn answer_read<L: Allocator>(
+    alloc: Global,
+    allocator: &mut L,
+    bounds: Bounds,
+    calls: &RootCalls<'_>,
+    count: usize,
+    words: &mut Vec<Word>,
+) -> Result<MessageAnswer, Want>
+    requires one { length (L.loans allocator.old) ≤ 1 }
+    requires stands { StandsWithin words.old.items count }
+    ensures answer { IfOk result (AnswersWords (root_schema calls.now) (root_calls calls.now)
+        bounds.nesting (filled count words.old.items) words.new.items) }
+    ensures size { result ≡ Err Want.Size → IsTooLargeFrom (root_schema calls.now)
+        (root_calls calls.now) bounds (filled count words.old.items) }
+    ensures loans { L.loans allocator.new ≡ L.loans allocator.old }
+    ensures place { L.place allocator.new ≡ L.place allocator.old }
+{
+    let mut builder = Builder::new(alloc, allocator);
+    let answered = answer_built(
+        alloc,
+        &mut builder,
+        count,
+        bounds,
+        calls.schema,
+        &calls.calls,
+        words,
+    );
+    // A message isn't dropped: this gives its memory back.
+    let _allocator = builder.into_allocator();
+    answered
+}
+
 /// The answer to a message, whose value is edited in memory of this allocator. All of it is given
 /// back.
 #[inline(never)]
@@ -119,23 +167,34 @@ fn answer_over<L: Allocator, M: ReaderArena>(
         Ok(count) => count,
         Err(reason) => return Ok(MessageAnswer::Refused(reason)),
     };
-    let mut builder = Builder::new(alloc, allocator);
-    let answered = answer_built(
-        alloc,
-        &mut builder,
-        count,
-        bounds,
-        calls.schema,
-        &calls.calls,
-        words,
-    );
-    // A message isn't dropped: this gives its memory back.
-    let _allocator = builder.into_allocator();
-    answered
+    answer_read(alloc, allocator, bounds, calls, count, words)
 }
 
-/// As `answer_in_place`, where it isn't known what each call puts, or one can't be put. It is kept
-/// apart from the way of the others.
+/// The answer to a message whose canonical words stand at the front of the buffer, a struct or
+/// null, in the region. It is kept apart from the way of calls that can be put.
+#[inline(never)]
+fn answer_standing(
+    alloc: Global,
+    bounds: Bounds,
+    calls: &RootCalls<'_>,
+    count: usize,
+    region: &mut [u8],
+    words: &mut Vec<Word>,
+) -> Result<MessageAnswer, Want>
+    requires zeros { AllZero region.old }
+    requires stands { StandsWithin words.old.items count }
+    ensures answer { IfOk result (AnswersWords (root_schema calls.now) (root_calls calls.now)
+        bounds.nesting (filled count words.old.items) words.new.items) }
+    ensures size { result ≡ Err Want.Size → IsTooLargeFrom (root_schema calls.now)
+        (root_calls calls.now) bounds (filled count words.old.items) }
+    ensures zeros { region.new ≡ region.old }
+{
+    let mut allocator = ScratchSpaceHeapAllocator::resume(alloc, region);
+    answer_read(alloc, &mut allocator, bounds, calls, count, words)
+}
+
+/// As `answer_in_place`, where it isn't known what each call puts, or the words that the message
+/// was read to are spoiled. It is kept apart from the way of the others.
 #[inline(never)]
 fn answer_unknown<M: ReaderArena>(
     alloc: Global,
@@ -165,12 +224,20 @@ fn answer_unknown<M: ReaderArena>(
 /// value, trimmed, is copied into the region and edited there. What it becomes is written into the
 /// buffer, as its canonical words.
 ///
-/// The value is edited in the buffer, and the region isn't touched, where
-/// - each call sets a plain field, a text or data, or a plain or void member of a union, on its way
-///   through structs, groups and elements of lists of structs;
-/// - no field before the last is a member of a union;
-/// - all that is on the way is there, and a text or data has an old one whose place it takes;
-/// - no struct gets wider or narrower.
+/// The value is edited in the buffer, and the region isn't touched, where each call sets
+/// - a plain field, a text or data;
+/// - a plain or void member of a union;
+/// - an element of a list of plain values, texts or data.
+///
+/// Its way goes through structs, groups and elements of lists of structs. No field before the last,
+/// and no such list, is a member of a union. All that is on the way is there, and a text, data or
+/// element takes the place of an old one. No element of a list of structs gets wider or narrower.
+///
+/// Where what the first call puts has no place, the message isn't read again: its value is copied
+/// into the region from where it stands in the buffer. It is read once more where
+/// - what a later call puts has none;
+/// - an element of a list of structs would get wider or narrower;
+/// - the root is null, and there are no calls, or each is a `get`.
 ///
 /// Where each call is a `get`, and the root isn't null, the value is read in the buffer, and the
 /// region isn't touched either.
@@ -185,8 +252,8 @@ fn answer_unknown<M: ReaderArena>(
 ///
 /// The buffer grows where it is too short: to the message's own words, and to those that it has
 /// after a call. Where pointers share words, so that the canonical words are more than the
-/// message's own, it grows to a word more than the bounds allow. What is in it before doesn't
-/// matter.
+/// message's own, it grows to a word more than the bounds allow. Where a message is read, it gets
+/// 16 words more than that. What is in it before doesn't matter.
 ///
 /// `Size`:
 /// - a call that is done puts a text or data of 2^29 bytes or more with its last zero, or a list of
@@ -217,8 +284,16 @@ pub fn answer_in_place<M: ReaderArena>(
     ensures zeros { region.new ≡ region.old }
 {
     if calls.are_known() {
-        if let Some(answer) = answer_known(message, bounds, calls, words)? {
-            return Ok(answer);
+        match answer_known(message, bounds, calls, words)? {
+            Known::Done(count) => {
+                let calls = calls.calls.len();
+                return Ok(MessageAnswer::Done { count, calls });
+            }
+            Known::Refused(reason) => return Ok(MessageAnswer::Refused(reason)),
+            Known::Stands(count) => {
+                return answer_standing(alloc, bounds, calls, count, region, words);
+            }
+            Known::Spoiled => {}
         }
     }
     answer_unknown(alloc, message, bounds, calls, region, words)

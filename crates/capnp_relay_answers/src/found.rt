@@ -16,9 +16,11 @@ use std::alloc::Global;
 /// What calls put, where that is known before a message is read.
 #[derive(Debug, Drop)]
 pub(crate) enum Found {
-    /// Each a number, into the data of the root.
-    Plain(Vec<PlainSet>),
-    /// Each a number, a member, a text or data, into a struct that a path leads to.
+    /// Each a number, into the data of the root. A root with so many data words as are wanted has a
+    /// word for each, and none makes its last one zero; no clause says so, since the numbers are
+    /// tried there alone.
+    Plain { sets: Vec<PlainSet>, wanted: usize },
+    /// Each a number, a member, a text or data, into a struct or a list that a path leads to.
     Spliced,
     /// Nothing: each is a `get`. No clause says so, since each reply tells again whether its call
     /// writes.
@@ -37,6 +39,17 @@ fn are_gets(calls: &[Resolved<'_>]) -> bool {
     true
 }
 
+/// How many data words a root must have so that each number has its word, and none can make the
+/// last one zero: one behind its own where the number is zero.
+fn wanted_words(sets: &[PlainSet]) -> usize {
+    let mut wanted = 0usize;
+    for set in sets {
+        let behind = if set.bits == 0 { 2 } else { 1 };
+        wanted = wanted.max(set.word as usize + behind);
+    }
+    wanted
+}
+
 /// What these calls put. `OutOfMemory`: memory for it was refused.
 pub(crate) fn find_puts(alloc: Global, calls: &[Resolved<'_>]) -> Result<Found>
     ensures found { (schema : AnySchema) → KnowSplices schema calls.now
@@ -44,7 +57,8 @@ pub(crate) fn find_puts(alloc: Global, calls: &[Resolved<'_>]) -> Result<Found>
     ensures kind { IfErr result (λ e. e.kind ≡ ErrorKind.OutOfMemory) }
 {
     if let Some(sets) = plain_sets(alloc, calls)? {
-        return Ok(Found::Plain(sets));
+        let wanted = wanted_words(&sets);
+        return Ok(Found::Plain { sets, wanted });
     }
     if are_spliced(calls) {
         return Ok(Found::Spliced);

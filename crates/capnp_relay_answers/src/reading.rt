@@ -30,12 +30,16 @@ const MESSAGE_WORDS: usize = 0x2000_0000;
 /// What a `get` prints takes 850 for each struct, list and group.
 pub(crate) const STACK_LEVELS: u32 = 1024;
 
-/// Makes the buffer n words long. `OutOfMemory`: it can't grow.
+/// How many words a buffer that grows gets beyond those that are asked for. So a struct that gets
+/// wider by what a call puts, or a text that gets longer, mostly needs no growth of its own.
+const SPARE_WORDS: usize = 16;
+
+/// Makes the buffer n words long, and some more. `OutOfMemory`: it can't grow.
 #[inline(never)]
 fn grow(words: &mut Vec<Word>, count: usize) -> Result<()>
     ensures { OnOk result (count ≤ length words.new.items) }
 {
-    words.resize(count, [0u8; 8])?;
+    words.resize(count.saturating_add(SPARE_WORDS), [0u8; 8])?;
     Ok(())
 }
 

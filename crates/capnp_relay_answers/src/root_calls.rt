@@ -1,5 +1,5 @@
 //! Calls at the roots of messages, of which what they put is found once.
-ghost use Rattle.std.specs.Prelude.{◌≡◌, ◌≤◌, List, true, map, length, IfOk, IfErr, IfSome};
+ghost use Rattle.std.specs.Prelude.{◌≡◌, ◌≤◌, ◌<◌, List, true, map, length, IfOk, IfErr};
 ghost use Rattle.capnp_units.specs.declared.kinds.ErrorKind.{ErrorKind};
 ghost use Rattle.capnp_model.specs.Trees.{Tree};
 ghost use Rattle.capnp_model.specs.Trimming.{trim};
@@ -13,7 +13,7 @@ ghost use Rattle.capnp_calls.specs.Roots.{IsRoot};
 ghost use Rattle.capnp_wire_canonical.specs.Writes.{filled};
 ghost use Rattle.capnp_calls_in_place.specs.PlainSets.{ArePlain, SetsWords};
 ghost use Rattle.capnp_calls_splice.specs.Splices.{StandsWithin};
-ghost use Rattle.capnp_relay_answers.specs.Found.{IsFound, SetsKnownFront};
+ghost use Rattle.capnp_relay_answers.specs.Found.{IsFound, TellsPut};
 
 use crate::found::{Found, find_puts};
 use capnp_calls::Call;
@@ -21,6 +21,7 @@ use capnp_calls::resolved::{Resolved, resolve};
 use capnp_calls_in_place::sets::write_sets;
 use capnp_calls_in_place::splices::write_splices;
 use capnp_calls_splice::plain::PlainSet;
+use capnp_calls_splice::splice::Spliced;
 use capnp_units::errors::Result;
 use capnp_units::sizes::Word;
 use capnp_values_queries::structs::StructSchema;
@@ -39,14 +40,22 @@ fn put_sets(words: &mut [Word], count: usize, sets: &[PlainSet]) -> bool
     write_sets(&mut words[..count], sets)
 }
 
+/// How many data words the root of canonical words has, a struct or null.
+#[inline(always)]
+fn root_words(words: &[Word]) -> usize
+    requires { 0 < length words.now }
+{
+    ((u64::from_le_bytes(words[0]) >> 32) % 0x1_0000) as usize
+}
+
 /// As `write_splices`, which is kept apart from the way of calls that set plain fields of the root
 /// alone.
 #[inline(never)]
-fn put_splices(words: &mut Vec<Word>, count: usize, calls: &[Resolved<'_>]) -> Result<Option<usize>>
+fn put_splices(words: &mut Vec<Word>, count: usize, calls: &[Resolved<'_>]) -> Result<Spliced>
     requires inside { count ≤ length words.old.items }
-    ensures front { (schema : AnySchema) → KnowSplices schema calls.now
-        → IfOk result (λ found. IfSome found (SetsKnownFront schema (calls_of calls.now)
-        (filled count words.old.items) words.new.items)) }
+    ensures told { (schema : AnySchema) → KnowSplices schema calls.now
+        → IfOk result (TellsPut schema (calls_of calls.now) count words.old.items
+        words.new.items) }
     ensures kind { IfErr result (λ e. e.kind ≡ ErrorKind.OutOfMemory) }
 {
     write_splices(words, count, calls)
@@ -95,7 +104,7 @@ impl<'a> RootCalls<'a> {
     /// Whether what each call puts is known.
     #[inline]
     pub(crate) fn are_known(&self) -> bool {
-        matches!(self.found, Found::Plain(_) | Found::Spliced)
+        matches!(self.found, Found::Plain { .. } | Found::Spliced)
     }
 
     /// Whether each is a `get`.
@@ -105,25 +114,33 @@ impl<'a> RootCalls<'a> {
     }
 
     /// Puts what the calls set into a message whose n canonical words stand at the front of a
-    /// buffer. It returns how many words there are then: the canonical words of what the calls make
-    /// of it, each of which is done. `None` where that isn't known, or can't be put; then some may
-    /// be put, and the words are of no use. `OutOfMemory`: the buffer is too short, and can't grow.
+    /// buffer. `Done` tells how many words there are then: the canonical words of what the calls
+    /// make of it, each of which is done.
+    ///
+    /// `Unplaced` where it isn't known what they put, or the first has no place: the words in use
+    /// are as they were. `Spoiled` where a later one has none, or an element of a list of structs
+    /// would get wider or narrower: some may be put, and the words are of no use. So it is too
+    /// where there are no calls and the root is null. `OutOfMemory`: the buffer is too short, and
+    /// can't grow.
     #[inline(always)]
-    pub(crate) fn put(&self, words: &mut Vec<Word>, count: usize) -> Result<Option<usize>>
+    pub(crate) fn put(&self, words: &mut Vec<Word>, count: usize) -> Result<Spliced>
         requires { StandsWithin words.old.items count }
-        ensures front { IfOk result (λ found. IfSome found (SetsKnownFront (root_schema self.now)
-            (root_calls self.now) (filled count words.old.items) words.new.items)) }
+        ensures told { IfOk result (TellsPut (root_schema self.now) (root_calls self.now) count
+            words.old.items words.new.items) }
         ensures kind { IfErr result (λ e. e.kind ≡ ErrorKind.OutOfMemory) }
     {
         match &self.found {
-            Found::Plain(sets) => {
-                if put_sets(words.as_mut_slice(), count, sets) {
-                    return Ok(Some(count));
+            Found::Plain { sets, wanted } => {
+                if root_words(words) < *wanted {
+                    return put_splices(words, count, &self.calls);
                 }
-                Ok(None)
+                if put_sets(words.as_mut_slice(), count, sets) {
+                    return Ok(Spliced::Done(count));
+                }
+                Ok(Spliced::Spoiled)
             }
             Found::Spliced => put_splices(words, count, &self.calls),
-            Found::Gets | Found::Unknown => Ok(None),
+            Found::Gets | Found::Unknown => Ok(Spliced::Unplaced),
         }
     }
 }

@@ -7,6 +7,7 @@ use capnp_calls::resolved::resolve;
 use capnp_calls::{Call, CallFault};
 use capnp_calls_in_place::sets::{plain_sets, write_sets};
 use capnp_calls_in_place::splices::{are_spliced, write_splices};
+use capnp_calls_splice::splice::Spliced;
 use capnp_calls_versions::admitted::{Admission, admitted, admitted_with};
 use capnp_calls_versions::compatible::{compatible, compatible_with};
 use capnp_calls_versions::root::Root;
@@ -194,10 +195,11 @@ pub fn words_after_splices(alloc: Global, case: &Case) -> Result<String, Fault> 
     let mut words = words_of(alloc, &case.bytes(alloc, "stdin")?)?;
     let count = words.len();
     match write_splices(&mut words, count, &calls)? {
-        Some(left) => {
+        Spliced::Done(left) => {
             words.truncate(left);
             hex_of(alloc, words_as_bytes(&words))
         }
-        None => text(alloc, "left"),
+        Spliced::Unplaced => text(alloc, "left"),
+        Spliced::Spoiled => text(alloc, "spoiled"),
     }
 }

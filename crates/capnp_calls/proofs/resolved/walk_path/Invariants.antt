@@ -5,7 +5,7 @@ use Rattle.capnp_model.specs.InKindCalls.{at_value, end_of}
 use Rattle.capnp_values_queries.specs.Structs.{nodes_around, schema_around, id_of}
 use Rattle.capnp_calls.specs.CallViews.{step_view}
 use Rattle.capnp_calls.specs.Ends.{end_view, IsEndOf}
-use Rattle.capnp_calls.specs.Hops.{EndsSmall, LeadsToMember}
+use Rattle.capnp_calls.specs.Hops.{EndsSmall, LeadsToMember, LeadsToElement}
 use Rattle.capnp_calls.proofs.StraightPaths.{StraightTo}
 use Rattle.capnp_calls.proofs.lemmas.EachWay.{GrowsTo}
 use Rattle.capnp_calls.proofs.resolved.walk_path.Given as goal
@@ -17,5 +17,6 @@ invariant-loop-step l = record {
   small : EndsSmall (end_view l.end);
   straight : l.course.is_straight ≡ true → StraightTo l.root (map step_view l.path) l.hops.items (end_view l.end) (map step_view (drop l.step-index l.path));
   member : IfSome l.course.mark (λ m. map step_view (drop l.step-index l.path) ≡ [] → LeadsToMember l.root l.hops.items (map step_view l.path) (end_view l.end) m);
+  element : IfSome l.course.element (λ place. map step_view (drop l.step-index l.path) ≡ [] → LeadsToElement l.root l.hops.items (map step_view l.path) (end_view l.end) place);
   grows : GrowsTo (schema_around l.root) (map step_view l.path) l.fields.items (map step_view (drop l.step-index l.path)) (end_view l.end);
 }

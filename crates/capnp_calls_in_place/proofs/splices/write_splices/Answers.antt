@@ -1,6 +1,6 @@
 -- One call more, and what stands at the end.
-use Rattle.std.proofs.Common.{◌≡◌, ℕ, ◌+◌, ◌<◌, true, false, Some, List, [], ◌∷◌, ◌++◌, length, take, Result, Ok, Err, IfErr, refl, ap, sym, subst, ◌∙◌, arith}
-use Rattle.std.specs.Prelude.{◌==◌, is_some, option_copied}
+use Rattle.std.proofs.Common.{◌≡◌, ◌+◌, ◌<◌, true, List, [], ◌∷◌, ◌++◌, length, take, Result, Ok, Err, IfErr, refl, ap, sym, subst, ◌∙◌, arith}
+use Rattle.std.specs.Prelude.{is_some}
 use Rattle.std.proofs.lemmas.List.{take_more, take_all}
 use Rattle.std.proofs.lemmas.Option.{slice_get_read}
 use Rattle.capnp_wire_canonical.specs.Writes.{filled}
@@ -8,13 +8,11 @@ use Rattle.capnp_calls.specs.declared.resolved.Resolved.{Resolved}
 use Rattle.capnp_calls.specs.Resolved.{calls_of}
 use Rattle.capnp_calls_splice.specs.Splices.{StandsWithin}
 use Rattle.capnp_calls_splice.specs.declared.splice.Splice.{Splice}
-use Rattle.capnp_calls_in_place.specs.CallSplices.{have_splices}
-use Rattle.capnp_calls_in_place.proofs.CallWays.{splices_of, each_splice, as_many, more_splices, have_more}
+use Rattle.capnp_calls_splice.specs.declared.splice.Spliced.TheVariants as outcomes
+use Rattle.capnp_calls_in_place.specs.CallSplices.{have_splices, TellsCall}
+use Rattle.capnp_calls_in_place.proofs.CallWays.{splices_of, each_splice, as_many, more_splices, have_more, wanting}
 use Rattle.capnp_calls_in_place.proofs.SpliceRuns.{HaveSpliced, next_spliced, spliced_words}
 use Rattle.capnp_calls_in_place.proofs.splices.write_splices.Goals as goal
-
-not_empty : (n : ℕ) → (n == 0) ≡ false → 0 < n
-not_empty n e = grind arith
 
 at_err : {T E W : Type 0} → (r : Result T E) → W → IfErr r (λ _. W)
 at_err (Ok x) w = tt
@@ -25,44 +23,42 @@ loop-call-preserved c =
     let i = c.loop-call.call-index in
     let calls = c.args.calls.now in
     let call : Resolved = c.call-item.result in
-    let splice : Splice = c.in-Some.splice.now in
-    let found : call.splice ≡ Some splice = sym c.call_splice.ensures.found ∙ ap option_copied c.in-Some.is in
-    let now = filled c.loop-call.left c.loop-call.words.items in
-    let new = filled c.in-Some-2.more c.put_splice.new.words.items in
-    let stands : StandsWithin c.put_splice.new.words.items c.in-Some-2.more = rw c.in-Some-2.is at c.in_ok-more.ensures.within in
+    let old = c.loop-call.words.items in
+    let buffer = c.write_splice.new.words.items in
+    let told : TellsCall call c.loop-call.left old buffer (outcomes.Done c.in-Done.more) = rw c.in-Done.is at c.in_ok-more.ensures.told in
+    let splice : Splice = told.0 in
+    let stands : StandsWithin buffer c.in-Done.more = told.2.1 in
     let more : take (i + 1) calls ≡ take i calls ++ call ∷ [] = take_more calls i call c.loop-call-test.true ∙ ap (λ (r : Resolved). take i calls ++ r ∷ []) (sym c.call-item.is) in
     record {
       inside = stands.inside;
-      stands = λ some. stands;
-      have = ap have_splices more ∙ have_more (take i calls) call c.loop-call.invariant.have (ap is_some found);
+      start = λ e. absurd (cc e);
+      whole = λ e. absurd (cc e);
+      some = λ e. omega arith;
+      stands = λ e. stands;
+      have = ap have_splices more ∙ have_more (take i calls) call c.loop-call.invariant.have (ap is_some told.1);
       puts = λ t fits is.
-          subst (λ (ps : List Splice). HaveSpliced ps t new) (sym (ap splices_of more ∙ more_splices (take i calls) call splice found))
-          (next_spliced (splices_of (take i calls)) splice t now new (c.loop-call.invariant.puts t fits is)
-          (λ u small spelled. let put = c.in_ok-more.ensures.spliced u small spelled in rw c.in-Some-2.is at put));
+          subst (λ (ps : List Splice). HaveSpliced ps t (filled c.in-Done.more buffer)) (sym (ap splices_of more ∙ more_splices (take i calls) call splice told.1))
+          (next_spliced (splices_of (take i calls)) splice t (filled c.loop-call.left old) (filled c.in-Done.more buffer) (c.loop-call.invariant.puts t fits is) told.2.0);
     }
 
-pub returns-clause-splices : goal.returns-clause-splices
-returns-clause-splices c = λ schema t known fits is spelled.
-    let calls = c.args.calls.now in
-    let words = filled c.loop-call.left c.loop-call.words.items in
-    let all : take c.loop-call.call-index calls ≡ calls = take_all c.loop-call.call-index calls c.loop-call-test.false in
-    let have : have_splices calls ≡ true = ap have_splices (sym all) ∙ c.loop-call.invariant.have in
-    let some : 0 < length calls = not_empty (length calls) (sym c.is_empty.ensures ∙ c.if-is_empty.false) in
-    spliced_words schema (calls_of calls) (splices_of calls) t words (each_splice schema calls known have) fits is (subst (λ n. 0 < n) (sym (as_many calls have)) some)
-    (subst (λ (rs : List Resolved). HaveSpliced (splices_of rs) t words) all (c.loop-call.invariant.puts t fits spelled))
+pub returns-clause-told : goal.returns-clause-told
+returns-clause-told c = (
+  λ schema t known fits is spelled.
+      let calls = c.args.calls.now in
+      let words = filled c.loop-call.left c.loop-call.words.items in
+      let all : take c.loop-call.call-index calls ≡ calls = take_all c.loop-call.call-index calls c.loop-call-test.false in
+      let have : have_splices calls ≡ true = ap have_splices (sym all) ∙ c.loop-call.invariant.have in
+      let some = c.loop-call.invariant.some c.if-is_whole-2.false in
+      let end = c.loop-call.auto.call-index-end in
+      let many : 0 < length calls = omega (arith, some, end) in
+      spliced_words schema (calls_of calls) (splices_of calls) t words (each_splice schema calls known have) fits is (subst (λ n. 0 < n) (sym (as_many calls have)) many)
+      (subst (λ (rs : List Resolved). HaveSpliced (splices_of rs) t words) all (c.loop-call.invariant.puts t fits spelled)),
+  c.loop-call.invariant.stands c.if-is_whole-2.false,
+)
 
 pub returns-in_err-more-clause-wanted : goal.returns-in_err-more-clause-wanted
 returns-in_err-more-clause-wanted c =
-    let i : ℕ = c.loop-call.call-index in
     let calls = c.args.calls.now in
     let call : Resolved = c.call-item.result in
-    let short = c.in_err-more.ensures.short in
-    let left = c.loop-call.invariant.inside in
-    at_err c.from_residual.result (record {
-      index = i;
-      call = call;
-      splice = c.in-Some.splice.now;
-      there = slice_get_read calls (length calls) i call refl c.loop-call-test.true c.call-item.is;
-      puts = sym c.call_splice.ensures.found ∙ ap option_copied c.in-Some.is;
-      room = omega (arith, short, left);
-    })
+    at_err c.from_residual.result
+    (wanting calls c.loop-call.call-index call c.loop-call.left c.loop-call.words.items (slice_get_read calls (length calls) c.loop-call.call-index call refl c.loop-call-test.true c.call-item.is) c.loop-call.invariant.inside c.in_err-more.ensures.short)

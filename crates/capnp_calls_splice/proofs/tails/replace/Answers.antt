@@ -2,7 +2,7 @@
 use Rattle.std.proofs.Common.{ℕ, ◌+◌, ◌-◌, List, ◌++◌, length, ap, ◌∙◌, arith}
 use Rattle.capnp_wire_canonical.specs.Writes.{words_view}
 use Rattle.capnp_calls_splice.proofs.Segmenting.{run_put}
-use Rattle.capnp_calls_splice.proofs.put.replace.Goals as goal
+use Rattle.capnp_calls_splice.proofs.tails.replace.Goals as goal
 
 pub returns-clause-words : goal.returns-clause-words
 returns-clause-words c = λ x l r e at long.

@@ -1,7 +1,7 @@
 -- They stay where they are.
 use Rattle.std.proofs.Common.{ℕ, ◌+◌, ◌-◌, ◌++◌, take, drop, ap, sym, ◌∙◌}
 use Rattle.capnp_calls_splice.proofs.Segmenting.{same_tail}
-use Rattle.capnp_calls_splice.proofs.put.move_tail.Goals as goal
+use Rattle.capnp_calls_splice.proofs.tails.move_tail.Goals as goal
 
 pub returns-then-from-to-clause-words : goal.returns-then-from-to-clause-words
 returns-then-from-to-clause-words c =
