@@ -7,9 +7,8 @@ ghost use Rattle.capnp_copy_arenas.specs.States.{HasWords};
 ghost use Rattle.capnp_message.specs.Built.{loans_held};
 
 use crate::cars::{CAR, CAR_WHEELS, ENGINE, LOT, MAKE, MODEL, PART, WHEELS, make_of, model_of};
-use capnp_layout::laws::words_that_stay;
 use capnp_layout::{
-    BuilderArena, Error, ErrorKind, Memory, Place, PointerBuilder, Primitive, Result,
+    BuilderArena, DataSection, Error, ErrorKind, Memory, Place, PointerBuilder, Result,
     StructBuilder, StructPlace, StructSize, has_words,
 };
 use capnp_message::message::{Allocator, Builder};
@@ -19,99 +18,66 @@ fn not_there() -> Error {
     Error::from(ErrorKind::OutOfBounds)
 }
 
-/// Sets a number of a struct.
-fn set<A: BuilderArena, T: Primitive>(
+/// Writes a section of N words over the data of a struct, where it has as many and they are there.
+#[inline(always)]
+fn set_section<A: BuilderArena, const N: usize>(
     memory: &mut Memory<A>,
     place: StructPlace,
-    offset: usize,
-    value: T,
-)
-    requires there { HasWords (A.segments memory.old.arena) place.start place.data_words }
-    requires near { place.start.position < 2 ^ 61 }
-    requires inside { T.BYTES * offset + T.BYTES ≤ 8 * place.data_words }
-    ensures there { HasWords (A.segments memory.new.arena) place.start place.data_words }
-    ensures books { A.books memory.new.arena ≡ A.books memory.old.arena }
-{
-    words_that_stay();
-    StructBuilder { memory, place }.set_data_field::<T>(offset, value);
-}
-
-/// Sets a truth value of a struct.
-fn set_bool<A: BuilderArena>(memory: &mut Memory<A>, place: StructPlace, offset: usize, value: bool)
-    requires there { HasWords (A.segments memory.old.arena) place.start place.data_words }
-    requires near { place.start.position < 2 ^ 61 }
-    requires inside { offset < 64 * place.data_words }
-    ensures there { HasWords (A.segments memory.new.arena) place.start place.data_words }
-    ensures books { A.books memory.new.arena ≡ A.books memory.old.arena }
-{
-    words_that_stay();
-    StructBuilder { memory, place }.set_bool_field(offset, value);
-}
-
-/// Fills a wheel of a car, both by their numbers.
-fn fill_wheel<A: BuilderArena>(
-    memory: &mut Memory<A>,
-    place: StructPlace,
-    car: u32,
-    wheel: u32,
+    section: &DataSection<N>,
 ) -> Result<()>
     ensures { A.books memory.new.arena ≡ A.books memory.old.arena }
 {
-    if place.start.position >= 1 << 60 || place.data_words != 1 {
+    if place.start.position >= 1 << 60 || place.data_words as usize != N {
         return Err(not_there());
     }
-    if !has_words(&memory.arena, place.start, 1) {
+    if !has_words(&memory.arena, place.start, N) {
         return Err(not_there());
     }
-    set::<A, u16>(memory, place, 0, (25 + car % 15) as u16);
-    set::<A, u32>(memory, place, 1, 30 + car.wrapping_add(wheel) % 20);
-    set_bool(memory, place, 16, car % 16 == 0);
+    StructBuilder { memory, place }.set_data_section(section);
     Ok(())
 }
 
-/// Fills the engine of a car, by its number.
-fn fill_engine<A: BuilderArena>(memory: &mut Memory<A>, place: StructPlace, car: u32) -> Result<()>
-    ensures { A.books memory.new.arena ≡ A.books memory.old.arena }
-{
-    if place.start.position >= 1 << 60 || place.data_words != 1 {
-        return Err(not_there());
-    }
-    if !has_words(&memory.arena, place.start, 1) {
-        return Err(not_there());
-    }
-    set::<A, u16>(memory, place, 0, (100 * (car % 400)) as u16);
-    set::<A, u8>(memory, place, 2, (4 + 2 * (car % 3)) as u8);
-    set::<A, u32>(memory, place, 1, 800 + car % 10_000);
-    set_bool(memory, place, 24, true);
-    set_bool(memory, place, 25, car % 2 == 1);
-    Ok(())
+/// The data of a wheel of a car, both by their numbers.
+#[inline(always)]
+fn wheel_of(car: u32, wheel: u32) -> DataSection<1> {
+    let mut data = DataSection::<1>::new();
+    data.set_data_field::<u16>(0, (25 + car % 15) as u16);
+    data.set_data_field::<u32>(1, 30 + car.wrapping_add(wheel) % 20);
+    data.set_bool_field(16, car % 16 == 0);
+    data
 }
 
-/// Sets the numbers and the truth values of a car, by its number.
-fn fill_numbers<A: BuilderArena>(memory: &mut Memory<A>, place: StructPlace, car: u32) -> Result<()>
-    ensures { A.books memory.new.arena ≡ A.books memory.old.arena }
-{
-    if place.start.position >= 1 << 60 || place.data_words != 3 {
-        return Err(not_there());
-    }
-    if !has_words(&memory.arena, place.start, 3) {
-        return Err(not_there());
-    }
-    set::<A, u16>(memory, place, 0, (car % 9) as u16);
-    set::<A, u8>(memory, place, 2, (2 + car % 6) as u8);
-    set::<A, u8>(memory, place, 3, (2 + car % 3) as u8);
-    set::<A, u16>(memory, place, 2, (170 + car % 150) as u16);
-    set::<A, u16>(memory, place, 3, (48 + car % 36) as u16);
-    set::<A, u16>(memory, place, 4, (54 + car % 48) as u16);
-    set::<A, u32>(memory, place, 3, car.wrapping_mul(7));
-    set::<A, u32>(memory, place, 4, 100 + car % 300);
-    set::<A, u32>(memory, place, 5, car % 100);
-    set_bool(memory, place, 80, car % 2 == 1);
-    set_bool(memory, place, 81, car % 3 == 0);
-    set_bool(memory, place, 82, car % 4 == 0);
-    set::<A, u8>(memory, place, 11, (car % 12) as u8);
-    set_bool(memory, place, 83, car % 5 == 0);
-    Ok(())
+/// The data of the engine of a car, by its number.
+#[inline(always)]
+fn engine_of(car: u32) -> DataSection<1> {
+    let mut data = DataSection::<1>::new();
+    data.set_data_field::<u16>(0, (100 * (car % 400)) as u16);
+    data.set_data_field::<u8>(2, (4 + 2 * (car % 3)) as u8);
+    data.set_data_field::<u32>(1, 800 + car % 10_000);
+    data.set_bool_field(24, true);
+    data.set_bool_field(25, car % 2 == 1);
+    data
+}
+
+/// The numbers and the truth values of a car, by its number.
+#[inline(always)]
+fn numbers_of(car: u32) -> DataSection<3> {
+    let mut data = DataSection::<3>::new();
+    data.set_data_field::<u16>(0, (car % 9) as u16);
+    data.set_data_field::<u8>(2, (2 + car % 6) as u8);
+    data.set_data_field::<u8>(3, (2 + car % 3) as u8);
+    data.set_data_field::<u16>(2, (170 + car % 150) as u16);
+    data.set_data_field::<u16>(3, (48 + car % 36) as u16);
+    data.set_data_field::<u16>(4, (54 + car % 48) as u16);
+    data.set_data_field::<u32>(3, car.wrapping_mul(7));
+    data.set_data_field::<u32>(4, 100 + car % 300);
+    data.set_data_field::<u32>(5, car % 100);
+    data.set_bool_field(80, car % 2 == 1);
+    data.set_bool_field(81, car % 3 == 0);
+    data.set_bool_field(82, car % 4 == 0);
+    data.set_data_field::<u8>(11, (car % 12) as u8);
+    data.set_bool_field(83, car % 5 == 0);
+    data
 }
 
 /// Where a pointer of a struct stands.
@@ -189,7 +155,11 @@ fn add_wheels<A: BuilderArena>(memory: &mut Memory<A>, place: StructPlace, car: 
 {
     let tag = init_structs(memory, pointer_of(place, CAR_WHEELS), WHEELS, PART)?;
     for wheel in 0..WHEELS {
-        fill_wheel(memory, element_of(tag, PART, wheel), car, wheel)?;
+        set_section(
+            memory,
+            element_of(tag, PART, wheel),
+            &wheel_of(car, wheel),
+        )?;
     }
     Ok(())
 }
@@ -198,12 +168,12 @@ fn add_wheels<A: BuilderArena>(memory: &mut Memory<A>, place: StructPlace, car: 
 fn fill_car<A: BuilderArena>(memory: &mut Memory<A>, place: StructPlace, car: u32) -> Result<()>
     ensures { A.books memory.new.arena ≡ A.books memory.old.arena }
 {
-    fill_numbers(memory, place, car)?;
+    set_section(memory, place, &numbers_of(car))?;
     set_text(memory, pointer_of(place, MAKE), make_of(car))?;
     set_text(memory, pointer_of(place, MODEL), model_of(car))?;
     add_wheels(memory, place, car)?;
     let engine = init_struct(memory, pointer_of(place, ENGINE), PART)?;
-    fill_engine(memory, engine, car)
+    set_section(memory, engine, &engine_of(car))
 }
 
 /// Builds n cars in an empty message.

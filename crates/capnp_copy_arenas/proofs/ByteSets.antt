@@ -119,7 +119,7 @@ with_first k v s l m small small' =
     ∙ ap (with_bits (0 + 64) k v) (in_front l s m small')
     ∙ behind_one 0 k v s l small
 
-spliced_section : (i : ℕ) (vs ws : List ℕ) → i + length vs ≤ length ws → section_of (spliced i vs ws) ≡ with_bits (64 * i) (64 * length vs) (section_of vs) (section_of ws)
+pub spliced_section : (i : ℕ) (vs ws : List ℕ) → i + length vs ≤ length ws → section_of (spliced i vs ws) ≡ with_bits (64 * i) (64 * length vs) (section_of vs) (section_of ws)
 unfolding spliced
 spliced_section zero [] [] l = refl
 spliced_section (suc i) [] [] l = absurd (omega (arith, l))

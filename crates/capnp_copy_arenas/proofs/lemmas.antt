@@ -1,4 +1,5 @@
 pub mod FieldLaws
+pub mod SectionWords
 pub mod Ends
 pub mod ZeroedWords
 pub mod RoomLaws

@@ -32,6 +32,7 @@ fn last_word(rest: &[u8]) -> u64
 
 /// Writes bytes in place of n words, which they fill but for the last; what they lack of that one
 /// becomes zero.
+#[inline(always)]
 pub fn write_bytes<A: BuilderArena>(arena: &mut A, start: Place, words: usize, bytes: &[u8])
     requires near { start.position + words < 2 ^ 61 }
     requires there { is_some (words_at (words_in (A.segments arena.old)) (place_view start) words)
@@ -55,6 +56,7 @@ pub fn write_bytes<A: BuilderArena>(arena: &mut A, start: Place, words: usize, b
 
 /// Puts a list of n bytes in place of the value of the pointer at a place, which is cleared: these,
 /// and at most one zero byte behind them.
+#[inline(always)]
 fn set_bytes<A: BuilderArena>(arena: &mut A, slot: Place, bytes: &[u8], count: u32) -> Result<()>
     requires there { is_some (words_at (words_in (A.segments arena.old)) (place_view slot) 1)
         ≡ true }
@@ -97,6 +99,7 @@ pub fn set_data<A: BuilderArena>(arena: &mut A, slot: Place, bytes: &[u8]) -> Re
 /// - with `SizeOverflow` exactly where the bytes with the zero byte or the message's words, a pad
 ///   counted, would pass 2^29 - 1;
 /// - else as the allocator refuses.
+#[inline(always)]
 pub fn set_text<A: BuilderArena>(arena: &mut A, slot: Place, text: &[u8]) -> Result<()>
     requires there { is_some (words_at (words_in (A.segments arena.old)) (place_view slot) 1)
         ≡ true }

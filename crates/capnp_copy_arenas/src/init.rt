@@ -43,6 +43,7 @@ pub struct ListPlace {
 /// It is refused, and all stands as it was,
 /// - with `SizeOverflow` exactly where the message's words would pass 2^29 - 1 with a pad counted;
 /// - else as the allocator refuses.
+#[inline(always)]
 fn init_zeros<A: BuilderArena>(
     arena: &mut A,
     slot: Place,
@@ -70,6 +71,7 @@ fn init_zeros<A: BuilderArena>(
 /// It is refused, and all stands as it was,
 /// - with `SizeOverflow` exactly where the message's words would pass 2^29 - 1 with a pad counted;
 /// - else as the allocator refuses.
+#[inline(always)]
 pub fn init_struct<A: BuilderArena>(
     arena: &mut A,
     slot: Place,
@@ -111,6 +113,7 @@ fn words_of(size: ElementSize, count: u32) -> u32
 /// - with `SizeOverflow` exactly where the count or the message's words, a pad counted, would pass
 ///   2^29 - 1;
 /// - else as the allocator refuses.
+#[inline(always)]
 pub fn init_list<A: BuilderArena>(
     arena: &mut A,
     slot: Place,

@@ -66,6 +66,7 @@ pub fn list_word(size: ElementSize, count: u32) -> u64
 /// counted, else as the allocator refuses the words and a pad. The allocator is asked only where
 /// neither the pointer's segment has room for the words nor the last for these and a pad. After a
 /// refusal nothing is allocated.
+#[inline(always)]
 pub fn allocate_near<A: BuilderArena>(arena: &mut A, slot: Place, words: u32) -> Result<Room>
     requires there { is_some (word_at (words_in (A.segments arena.old)) (place_view slot)) ≡ true }
     requires few { words ≤ 2 ^ 29 }
@@ -96,6 +97,7 @@ pub fn allocate_near<A: BuilderArena>(arena: &mut A, slot: Place, words: u32) ->
 }
 
 /// Where the object begins that the pointer at a place names.
+#[inline(always)]
 pub fn begin_of(slot: Place, room: Room) -> Place
     requires slot { slot.position < 2 ^ 61 }
     requires room { IsAddressed room }
@@ -115,6 +117,7 @@ pub fn begin_of(slot: Place, room: Room) -> Place
 }
 
 /// The word of a pointer in its slot: that of a far pointer where the object lies behind a pad.
+#[inline(always)]
 fn slot_word(room: Room, pointer: u64) -> u64
     requires room { IsAddressed room }
     requires offset { pointer < 2 ^ 64 - 2 ^ 32 + 4 }
@@ -143,6 +146,7 @@ fn write_pad<A: BuilderArena>(arena: &mut A, room: Room, pointer: u64)
 }
 
 /// Writes the pad, where there is one, and then the pointer, whose word is told with offset 0.
+#[inline(always)]
 pub fn link<A: BuilderArena>(arena: &mut A, slot: Place, room: Room, pointer: u64)
     requires slot { is_some (words_at (words_in (A.segments arena.old)) (place_view slot) 1)
         ≡ true }

@@ -51,6 +51,7 @@ pub fn tag_word(count: u32, size: StructSize) -> u64
 /// - with `SizeOverflow` exactly where the count, the structs' words or the message's words, with
 ///   the tag and a pad counted, would pass 2^29 - 1;
 /// - else as the allocator refuses.
+#[inline(always)]
 pub fn init_struct_list<A: BuilderArena>(
     arena: &mut A,
     slot: Place,

@@ -12,6 +12,7 @@ pub use capnp_copy_arenas::fields::StructPlace;
 pub use capnp_copy_arenas::init::ListPlace;
 pub use capnp_copy_arenas::segments::BuilderArenaImpl;
 pub use capnp_layout_builders::data_builder::DataBuilder;
+pub use capnp_layout_builders::data_section::DataSection;
 pub use capnp_layout_builders::element::BuilderElement;
 pub use capnp_layout_builders::list_builder::ListBuilder;
 pub use capnp_layout_builders::owned;

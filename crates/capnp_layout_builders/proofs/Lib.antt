@@ -1,3 +1,4 @@
+pub mod DataSections
 pub mod lemmas
 mod BlobEnds
 mod ElementFronts

@@ -1,5 +1,6 @@
 pub use Rattle.capnp_copy_arenas.specs.Structs
 pub use Rattle.capnp_copy_arenas.specs.Values
+pub mod DataSections
 pub mod Elements
 pub mod Gets
 pub mod Lending

@@ -4,6 +4,7 @@
 mod blobs;
 mod copies;
 pub mod data_builder;
+pub mod data_section;
 pub mod element;
 mod fronts;
 pub mod gets;

@@ -127,6 +127,7 @@ impl<'a, A: BuilderArena> PointerBuilder<'a, A> {
     /// - with `SizeOverflow` exactly where the message's words would pass 2^29 - 1 with a pad
     ///   counted;
     /// - else as the allocator refuses.
+    #[inline(always)]
     pub fn init_struct(self, size: StructSize) -> Result<StructBuilder<'a, A>>
         requires there { HasWords (A.segments self.memory.now.arena) self.place 1 }
         requires near { self.place.position < 2 ^ 61 }
@@ -181,6 +182,7 @@ impl<'a, A: BuilderArena> PointerBuilder<'a, A> {
     /// - with `SizeOverflow` exactly where the count, the structs' words or the message's words,
     ///   with the tag and a pad counted, would pass 2^29 - 1;
     /// - else as the allocator refuses.
+    #[inline(always)]
     pub fn init_struct_list(
         self,
         element_count: ElementCount32,
@@ -233,6 +235,7 @@ impl<'a, A: BuilderArena> PointerBuilder<'a, A> {
     /// - with `SizeOverflow` exactly where the bytes with the zero byte or the message's words, a
     ///   pad counted, would pass 2^29 - 1;
     /// - else as the allocator refuses.
+    #[inline(always)]
     pub fn set_text(&mut self, value: &[u8]) -> Result<()>
         requires there { HasWords (A.segments self.old.memory.now.arena) self.old.place 1 }
         requires near { self.old.place.position < 2 ^ 61 }

@@ -7,7 +7,9 @@ ghost use Rattle.capnp_wire_objects.specs.Places.{place_view};
 ghost use Rattle.capnp_wire.specs.Views.{bit_of_bool, seen_struct, struct_at};
 ghost use Rattle.capnp_copy_arenas.specs.States.{HasWords};
 ghost use Rattle.capnp_copy_arenas.specs.Structs.{HasBits, SetsBits};
+ghost use Rattle.capnp_layout_builders.specs.DataSections.{section_in};
 
+use crate::data_section::DataSection;
 use crate::pointer_builder::PointerBuilder;
 use capnp_copy_arenas::arena::{BuilderArena, Memory};
 use capnp_copy_arenas::bits::{bit_of, bits_of, number_in};
@@ -247,5 +249,26 @@ impl<'a, A: BuilderArena> StructBuilder<'a, A> {
             (bit_xor (bit_of_bool value) (bit_of_bool mask)) }
     {
         self.set_bool_field(offset, value != mask);
+    }
+
+    /// Writes a section of N words over the first N of the data section, which has as many. What
+    /// stands behind them stays.
+    #[inline(always)]
+    pub fn set_data_section<const N: usize>(&mut self, section: &DataSection<N>)
+        requires there { HasWords (A.segments self.old.memory.now.arena)
+            self.old.place.start self.old.place.data_words }
+        requires near { self.old.place.start.position < 2 ^ 61 }
+        requires inside { N ≤ self.old.place.data_words }
+        ensures same { self.new.memory.ghost_name ≡ self.old.memory.ghost_name }
+        ensures place { self.new.place ≡ self.old.place }
+        ensures books { A.books self.new.memory.now.arena ≡ A.books self.old.memory.now.arena }
+        ensures sizes { map length (words_in (A.segments self.new.memory.now.arena))
+            ≡ map length (words_in (A.segments self.old.memory.now.arena)) }
+        ensures sets { SetsBits (words_in (A.segments self.old.memory.now.arena))
+            (words_in (A.segments self.new.memory.now.arena)) self.old.place 0 (64 * N)
+            (section_in section.now) }
+    {
+        let start = self.place.start;
+        self.memory.arena.write_words(start, section.as_bytes());
     }
 }

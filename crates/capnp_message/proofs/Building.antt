@@ -22,6 +22,7 @@ use Rattle.capnp_model_writes.specs.Writes.{spliced, with_words, with_zeros, seg
 use Rattle.capnp_model_writes.proofs.lemmas.Splices.{spliced_whole}
 use Rattle.capnp_copy_arenas.specs.Allocations.{Allocates, total_words}
 use Rattle.capnp_copy_arenas.specs.Values.{Becomes}
+use Rattle.capnp_copy_arenas.proofs.lemmas.SectionWords.{flat_words}
 use Rattle.capnp_model.specs.Encoding.{canonical_words}
 use Rattle.capnp_model.specs.Traversal.{tree_at}
 use Rattle.capnp_model.specs.Trimming.{trim}
@@ -47,18 +48,6 @@ map_both f g (x ∷ xs) = ap (λ (zs : List (List ℕ)). g (f x) ∷ zs) (map_bo
 -- a root that is set
 pub root_set : (r : Result ⊤ Error) (s t u : Segments) (p : Place) (v : Tree) → s ≡ t → p ≡ root → OnOk r (Becomes s u p v) → OnOk r (Becomes t u root v)
 root_set r s t u p v e f h = on_ok r h (λ b. rw (sym e) (rw (sym f) b))
-
--- ---- words of eight bytes each
-
-pub flat_words : (ws : List (List ℕ)) → ((i : ℕ) → i < length ws → length (get_or ws i []) ≡ 8) → words_in_bytes (length ws) (flat_map (λ w. w) ws) ≡ words_view ws
-flat_words [] h = refl
-flat_words (w ∷ ws) h =
-    let eight : length w ≡ 8 = h 0 (omega arith) in
-    let rest : List ℕ = flat_map (λ v. v) ws in
-    let first : from_le_bytes w64 (w ++ rest) ≡ from_le_bytes w64 w = sym (word_of_eight (w ++ rest)) ∙ ap (from_le_bytes w64) (take_at w rest 8 eight) in
-    ap (λ (n : ℕ). n ∷ words_in_bytes (length ws) (drop 8 (w ++ rest))) first
-    ∙ ap (λ (bytes : List ℕ). from_le_bytes w64 w ∷ words_in_bytes (length ws) bytes) (drop_at w rest 8 eight)
-    ∙ ap (λ (ns : List ℕ). from_le_bytes w64 w ∷ ns) (flat_words ws (λ i l. h (suc i) (omega (arith, l))))
 
 -- ---- the first segment
 
