@@ -40,6 +40,8 @@ pub struct ListPlace {
 /// Puts an object of n zero words in place of the value of the pointer at a place, which is
 /// cleared, and returns where the object begins. The new pointer's word is told with offset 0.
 ///
+/// It is inlined, with the functions of `room`: a caller's sizes are constants most often.
+///
 /// It is refused, and all stands as it was,
 /// - with `SizeOverflow` exactly where the message's words would pass 2^29 - 1 with a pad counted;
 /// - else as the allocator refuses.

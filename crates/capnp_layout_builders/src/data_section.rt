@@ -1,5 +1,5 @@
 //! Data sections apart from a message: the fields of a struct are set in one, and all are written at
-//! once.
+//! once. Each function is inlined, so that a field at a constant offset takes a few instructions.
 ghost use Rattle.std.specs.Prelude.{◌≡◌, ◌+◌, ◌*◌, ◌%◌, ◌^◌, ◌<◌, ◌≤◌, ◌==◌, bit_xor, length};
 ghost use Rattle.capnp_model.specs.Bytes.{words_in_bytes};
 ghost use Rattle.capnp_model.specs.Sections.{bits_at, with_bits};
