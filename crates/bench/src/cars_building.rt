@@ -155,11 +155,7 @@ fn add_wheels<A: BuilderArena>(memory: &mut Memory<A>, place: StructPlace, car: 
 {
     let tag = init_structs(memory, pointer_of(place, CAR_WHEELS), WHEELS, PART)?;
     for wheel in 0..WHEELS {
-        set_section(
-            memory,
-            element_of(tag, PART, wheel),
-            &wheel_of(car, wheel),
-        )?;
+        set_section(memory, element_of(tag, PART, wheel), &wheel_of(car, wheel))?;
     }
     Ok(())
 }

@@ -73,7 +73,8 @@ pub fn set_struct_canonical<A: BuilderArena, B: ReaderArena, C: BuilderArena>(
     ensures scratch { StaysThere scratch.old scratch.new }
     ensures copy { let d = words_around C.segments scratch.new in
         let k = place_view scratch.old.place in let v = seen_struct B.segments value.entry in
-        ThroughScratch (SetsStruct v (words_around C.segments scratch.old) d k) (level_above v.levels)
+        ThroughScratch (SetsStruct v (words_around C.segments scratch.old) d k)
+        (level_above v.levels)
         (record { words = d; slot = k; lent = lent.old; after = lent.new })
         (slot_change A.segments builder.old builder.new) limiter.old result limiter.new }
     ensures books { (A.books builder.new.memory.now.arena ≡ A.books builder.old.memory.now.arena)
