@@ -5,5 +5,5 @@ use Rattle.capnp_wire_canonical.specs.Writes.{words_view}
 use Rattle.capnp_layout_builders.specs.declared.data_section.DataSection.{DataSection}
 
 -- The section as a number, its first bit the lowest.
-abbrev pub section_in : {n : ℕ} → DataSection n → ℕ
-section_in s = section_of (words_view s.words)
+abbrev pub section_number : {n : ℕ} → DataSection n → ℕ
+section_number s = section_of (words_view s.words)

@@ -29,12 +29,12 @@ pub struct DataSection<const N: usize> {
 }
 
 impl<const N: usize> DataSection<N> {
-    ghost use Rattle.capnp_layout_builders.specs.DataSections.{section_in};
+    ghost use Rattle.capnp_layout_builders.specs.DataSections.{section_number};
 
     /// A section of zeros, as a new struct has.
     pub fn new() -> Self
         requires { N < 2 ^ 16 }
-        ensures { section_in result ≡ 0 }
+        ensures { section_number result ≡ 0 }
     {
         DataSection { words: [[0; 8]; N] }
     }
@@ -44,7 +44,7 @@ impl<const N: usize> DataSection<N> {
     fn get_bits(&self, at: usize, width: u32) -> u64
         requires inside { at + width ≤ 64 * N }
         requires one_word { (at % 64 + width ≤ 64) × (0 < width) }
-        ensures { result ≡ bits_at at width (section_in self.now) }
+        ensures { result ≡ bits_at at width (section_number self.now) }
     {
         let word = u64::from_le_bytes(self.words[at / 64]);
         bits_in(word, (at % 64) as u32, width)
@@ -56,7 +56,7 @@ impl<const N: usize> DataSection<N> {
         requires inside { at + width ≤ 64 * N }
         requires one_word { (at % 64 + width ≤ 64) × (0 < width) }
         requires fits { value < 2 ^ width }
-        ensures { section_in self.new ≡ with_bits at width value (section_in self.old) }
+        ensures { section_number self.new ≡ with_bits at width value (section_number self.old) }
     {
         let word = u64::from_le_bytes(self.words[at / 64]);
         let word = word_with(word, (at % 64) as u32, width, value);
@@ -68,7 +68,7 @@ impl<const N: usize> DataSection<N> {
     pub fn get_data_field<T: Primitive>(&self, offset: ElementCount) -> T
         requires inside { T.BYTES * offset + T.BYTES ≤ 8 * N }
         ensures { result ≡ T.from_bits
-            (bits_at (8 * (T.BYTES * offset)) (8 * T.BYTES) (section_in self.now)) }
+            (bits_at (8 * (T.BYTES * offset)) (8 * T.BYTES) (section_number self.now)) }
     {
         let bits = self.get_bits(8 * (T::BYTES * offset), 8 * T::BYTES as u32);
         number_in(bits)
@@ -79,7 +79,7 @@ impl<const N: usize> DataSection<N> {
     pub fn get_data_field_mask<T: Primitive + Mask>(&self, offset: ElementCount, mask: T::T) -> T
         requires inside { T.BYTES * offset + T.BYTES ≤ 8 * N }
         ensures { let at = 8 * (T.BYTES * offset) in result ≡ T.from_bits
-            (bit_xor (bits_at at (8 * T.BYTES) (section_in self.now)) (T.mask_bits mask)) }
+            (bit_xor (bits_at at (8 * T.BYTES) (section_number self.now)) (T.mask_bits mask)) }
     {
         T::mask(self.get_data_field::<T>(offset), mask)
     }
@@ -89,8 +89,8 @@ impl<const N: usize> DataSection<N> {
     #[inline(always)]
     pub fn set_data_field<T: Primitive>(&mut self, offset: ElementCount, value: T)
         requires inside { T.BYTES * offset + T.BYTES ≤ 8 * N }
-        ensures { section_in self.new ≡ with_bits
-            (8 * (T.BYTES * offset)) (8 * T.BYTES) (T.bits value) (section_in self.old) }
+        ensures { section_number self.new ≡ with_bits
+            (8 * (T.BYTES * offset)) (8 * T.BYTES) (T.bits value) (section_number self.old) }
     {
         let bits = bits_of(value);
         self.set_bits(8 * (T::BYTES * offset), 8 * T::BYTES as u32, bits);
@@ -106,8 +106,8 @@ impl<const N: usize> DataSection<N> {
         mask: T::T,
     )
         requires inside { T.BYTES * offset + T.BYTES ≤ 8 * N }
-        ensures { section_in self.new ≡ with_bits (8 * (T.BYTES * offset)) (8 * T.BYTES)
-            (bit_xor (T.bits value) (T.mask_bits mask)) (section_in self.old) }
+        ensures { section_number self.new ≡ with_bits (8 * (T.BYTES * offset)) (8 * T.BYTES)
+            (bit_xor (T.bits value) (T.mask_bits mask)) (section_number self.old) }
     {
         self.set_data_field(offset, T::mask(value, mask));
     }
@@ -116,7 +116,7 @@ impl<const N: usize> DataSection<N> {
     #[inline(always)]
     pub fn get_bool_field(&self, offset: ElementCount) -> bool
         requires inside { offset < 64 * N }
-        ensures { result ≡ (bits_at offset 1 (section_in self.now) == 1) }
+        ensures { result ≡ (bits_at offset 1 (section_number self.now) == 1) }
     {
         self.get_bits(offset, 1) == 1
     }
@@ -126,7 +126,7 @@ impl<const N: usize> DataSection<N> {
     pub fn get_bool_field_mask(&self, offset: ElementCount, mask: bool) -> bool
         requires inside { offset < 64 * N }
         ensures { result
-            ≡ (bit_xor (bits_at offset 1 (section_in self.now)) (bit_of_bool mask) == 1) }
+            ≡ (bit_xor (bits_at offset 1 (section_number self.now)) (bit_of_bool mask) == 1) }
     {
         self.get_bool_field(offset) != mask
     }
@@ -136,8 +136,8 @@ impl<const N: usize> DataSection<N> {
     #[inline(always)]
     pub fn set_bool_field(&mut self, offset: ElementCount, value: bool)
         requires inside { offset < 64 * N }
-        ensures { section_in self.new
-            ≡ with_bits offset 1 (bit_of_bool value) (section_in self.old) }
+        ensures { section_number self.new
+            ≡ with_bits offset 1 (bit_of_bool value) (section_number self.old) }
     {
         self.set_bits(offset, 1, bit_of(value));
     }
@@ -146,8 +146,8 @@ impl<const N: usize> DataSection<N> {
     #[inline(always)]
     pub fn set_bool_field_mask(&mut self, offset: ElementCount, value: bool, mask: bool)
         requires inside { offset < 64 * N }
-        ensures { section_in self.new ≡ with_bits offset 1
-            (bit_xor (bit_of_bool value) (bit_of_bool mask)) (section_in self.old) }
+        ensures { section_number self.new ≡ with_bits offset 1
+            (bit_xor (bit_of_bool value) (bit_of_bool mask)) (section_number self.old) }
     {
         self.set_bool_field(offset, value != mask);
     }

@@ -7,7 +7,7 @@ ghost use Rattle.capnp_wire_objects.specs.Places.{place_view};
 ghost use Rattle.capnp_wire.specs.Views.{bit_of_bool, seen_struct, struct_at};
 ghost use Rattle.capnp_copy_arenas.specs.States.{HasWords};
 ghost use Rattle.capnp_copy_arenas.specs.Structs.{HasBits, SetsBits};
-ghost use Rattle.capnp_layout_builders.specs.DataSections.{section_in};
+ghost use Rattle.capnp_layout_builders.specs.DataSections.{section_number};
 
 use crate::data_section::DataSection;
 use crate::pointer_builder::PointerBuilder;
@@ -266,7 +266,7 @@ impl<'a, A: BuilderArena> StructBuilder<'a, A> {
             ≡ map length (words_in (A.segments self.old.memory.now.arena)) }
         ensures sets { SetsBits (words_in (A.segments self.old.memory.now.arena))
             (words_in (A.segments self.new.memory.now.arena)) self.old.place 0 (64 * N)
-            (section_in section.now) }
+            (section_number section.now) }
     {
         let start = self.place.start;
         self.memory.arena.write_words(start, section.as_bytes());
