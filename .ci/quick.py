@@ -221,6 +221,17 @@ def faults_of_named_tests():
             yield from (f"docs/TESTS.md: {cells[1]} has no edit {it}" for it in names if f"{it}.edit" not in edits)
 
 
+def faults_of_counts(crates):
+    """Files of JSON cases, one in a line, of which a program's stdout tells another number than they have lines."""
+    for crate in crates:
+        if not os.path.isfile(f"crates/{crate}/stdout"):
+            continue
+        for name, count in re.findall(r"^(\S+\.jsonl): (\d+) cases ", text_of(f"crates/{crate}/stdout"), re.M):
+            lines = len(text_of(f"crates/{crate}/data/{name}").splitlines())
+            if lines != int(count):
+                yield f"crates/{crate}/stdout tells {count} cases of {name}, which has {lines}"
+
+
 def faults_of_lengths(crates):
     """Files of code that are too long."""
     for crate in crates:
@@ -249,7 +260,7 @@ def faults_of_layout(crate, room):
 def main():
     crates = listed_crates()
     found = [*faults_of_crates(crates), *faults_of_uses(), *faults_of_edits(crates), *faults_of_links(), *faults_of_samples()]
-    found += [*faults_of_named_tests(), *faults_of_lengths(crates)]
+    found += [*faults_of_named_tests(), *faults_of_lengths(crates), *faults_of_counts(crates)]
     found += [*faults_of_storeys(), *faults_of_roads(crates), *faults_of_words(crates), *faults_of_parameters(crates)]
     with tempfile.TemporaryDirectory() as room:
         shutil.copy("crates.txt", room)
