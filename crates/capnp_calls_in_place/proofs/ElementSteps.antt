@@ -1,6 +1,6 @@
 -- The record machine does what is put at an index of a list of plain elements, or of texts or data.
 use Rattle.std.proofs.Common.{◌≡◌, ℕ, zero, suc, ◌*◌, ◌<◌, Bool, true, false, ◌==◌, if◌then◌else◌, Option, List, [], ◌∷◌, length, refl, ap, sym, subst, ◌∙◌, arith}
-use Rattle.capnp_model.specs.Trees.{Tree, null, capability, structure, plain_list, pointer_list, struct_list, Trees, none, ◌▸◌, child, is_null, size_bits, size_of_width, plain_elements}
+use Rattle.capnp_model.specs.Trees.{Tree, null, capability, structure, plain_list, pointer_list, struct_list, Trees, none, ◌▸◌, tree_count, child, size_bits, size_of_width, plain_elements}
 use Rattle.capnp_model.specs.Fits.{Fits}
 use Rattle.capnp_model.specs.Trimming.{trim}
 use Rattle.capnp_model.specs.Schemas.{PlainType, width, Ty, void, plain, text, blob, untyped, interface, struct, list, Body, pointer_slot, Schema, default_or_null}
@@ -19,7 +19,7 @@ use Rattle.capnp_calls.specs.PlainFields.{SetsPlainSlot}
 use Rattle.capnp_calls.specs.Splices.{IsBlobOf, IsElementPut}
 use Rattle.capnp_calls_in_place.proofs.SplicedKids.{child_same, child_fits}
 use Rattle.capnp_calls_in_place.proofs.SplicedCells.{IsCut}
-use Rattle.capnp_calls_in_place.proofs.SplicedElements.{kid_kept, PutsElement}
+use Rattle.capnp_calls_in_place.proofs.SplicedElements.{slot_inside, PutsElement}
 
 -- What is done stays done with another value.
 pub mapped : {A B : Type 0} (f : A → B) (o : Outcome A) → IsDone o → IsDone (outcome_map f o)
@@ -37,15 +37,15 @@ child_done P D i words more cut new old h is p =
 
 -- What is done at any element is done at those that there are.
 module _ (s : Schema) (ty : Ty) (f : Reading → Outcome Reading) (all : (r : Reading) → IsDone (f r)) where
-  pointers_done : (k : ℕ) (ts : Trees) → is_null (child ts k) ≡ false → IsDone (on_index f k (pointer_elements s ts ty))
+  pointers_done : (k : ℕ) (ts : Trees) → k < tree_count ts → IsDone (on_index f k (pointer_elements s ts ty))
   unfolding read
-  pointers_done k none some = absurd (cc some)
-  pointers_done zero (t ▸ ts) some =
+  pointers_done k none l = absurd (omega (arith, l))
+  pointers_done zero (t ▸ ts) l =
       let first : Reading = element_as s ty (just_bits 0) 0 (only_child (read s t)) in
       mapped (λ (x : Reading). x ▹ pointer_elements s ts ty) (f first) (all first)
-  pointers_done (suc k) (t ▸ ts) some =
+  pointers_done (suc k) (t ▸ ts) l =
       let first : Reading = element_as s ty (just_bits 0) 0 (only_child (read s t)) in
-      mapped (λ (xs : Readings). first ▹ xs) (on_index f k (pointer_elements s ts ty)) (pointers_done k ts some)
+      mapped (λ (xs : Readings). first ▹ xs) (on_index f k (pointer_elements s ts ty)) (pointers_done k ts (omega (arith, l)))
 
   numbers_done : (size k : ℕ) (xs : List ℕ) → k < length xs → IsDone (on_index f k (plain_readings s size xs ty))
   numbers_done size k [] below = absurd (omega (arith, below))
@@ -123,7 +123,7 @@ module _ (s : Schema) (v : CallValue) where
   blob_through b k ty d ends (pointer_list ts) new fit p =
       let rs : Readings = pointer_elements s ts ty in
       let e : Reading → Outcome Reading = step_element s [] (set_to v) ty in
-      let there : IsDone (outcome_map list_of (on_index e k rs)) = mapped list_of (on_index e k rs) (pointers_done s ty e ends.0 k ts (kid_kept ts k p.0).0) in
+      let there : IsDone (outcome_map list_of (on_index e k rs)) = mapped list_of (on_index e k rs) (pointers_done s ty e ends.0 k ts (slot_inside ts k p.0)) in
       subst (λ (b : Bool). IsThrough ty k [] d (list_reading b rs)) (sym (ends.1 ts)) there
   blob_through b k ty d ends (struct_list w q es) new fit p = absurd p
 

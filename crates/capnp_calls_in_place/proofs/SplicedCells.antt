@@ -10,7 +10,7 @@ use Rattle.capnp_calls_splice.specs.DataWords.{put_set}
 use Rattle.capnp_calls_splice.specs.Splices.{PutsNumber, PutsNumberIfAny, PutsMember}
 use Rattle.capnp_calls_splice.specs.declared.plain.PlainSet.{PlainSet}
 use Rattle.capnp_calls_in_place.proofs.InsideShapes.{IsBelow}
-use Rattle.capnp_calls_in_place.proofs.SplicedKids.{child_same, child_fits, count_put, bare_count_put, depths_put}
+use Rattle.capnp_calls_in_place.proofs.SplicedKids.{child_same, child_fits, count_put, bare_count_more, depths_put}
 use Rattle.capnp_model.proofs.lemmas.TrimTwice.{null_trimmed}
 
 -- A trimmed cell, of so many words, and the whole one.
@@ -28,7 +28,7 @@ pub record Follows (limit n m : ℕ) (cut new old edited : Cell) : Type 0 where
   pub most : m ≤ max n limit
   pub words : needed_words n cut.section ≡ n → needed_words m new.section ≡ m
   pub count : tree_count new.kids ≡ tree_count cut.kids
-  pub least : tree_count (stripped new.kids) ≡ tree_count (stripped cut.kids)
+  pub least : tree_count (stripped cut.kids) ≤ tree_count (stripped new.kids)
   pub deep : depths edited.kids ≡ depths old.kids
 
 -- What is put into trimmed cells is what the edit does to whole ones, where no cell gets wider than a limit.
@@ -65,7 +65,7 @@ number_is limit p below n m cut new old is puts =
       most = omega (arith, most, below);
       words = puts.least;
       count = ap tree_count children;
-      least = ap (λ (ts : Trees). tree_count (stripped ts)) children;
+      least = (let same = ap (λ (ts : Trees). tree_count (stripped ts)) children in omega (arith, same));
       deep = refl;
     }
 
@@ -92,7 +92,7 @@ then_any limit (Some p) below n w m cut marked new old edited fit first puts =
       most = omega (arith, once, twice);
       words = λ e. second.words (first.words e);
       count = second.count ∙ first.count;
-      least = second.least ∙ first.least;
+      least = (let more = second.least in let before = first.least in omega (arith, more, before));
       deep = second.deep ∙ first.deep;
     }
 
@@ -125,6 +125,6 @@ child_is limit puts f i h n m cut new old is p =
       most = omega (arith, wide);
       words = λ e. ap (needed_words m) sections ∙ ap (λ (k : ℕ). needed_words k cut.section) wide ∙ e ∙ sym wide;
       count = ap tree_count children ∙ count_put cut.kids i t some;
-      least = ap (λ (us : Trees). tree_count (stripped us)) children ∙ bare_count_put cut.kids i t some made.some_new;
+      least = (let same = ap (λ (us : Trees). tree_count (stripped us)) children in let more = bare_count_more cut.kids i t made.some_new in omega (arith, same, more));
       deep = depths_put old.kids i (f was) (sym (null_trimmed was) ∙ made.some) made.deep;
     }

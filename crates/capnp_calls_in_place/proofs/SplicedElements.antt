@@ -1,46 +1,37 @@
 -- What is put at an index of a trimmed list of plain elements, or of texts or data, and the change that does the same to the whole one.
-use Rattle.std.proofs.Common.{◌≡◌, ℕ, zero, suc, ◌+◌, ◌*◌, ◌^◌, ◌<◌, false, Option, None, [], ◌∷◌, refl, ap, sym, subst, ◌∙◌}
+use Rattle.std.proofs.Common.{◌≡◌, ℕ, zero, suc, ◌+◌, ◌*◌, ◌^◌, ◌<◌, Option, None, [], ◌∷◌, refl, ap, sym, subst, ◌∙◌, arith}
 use lib.Bits.{xor_zero_r}
 use Rattle.capnp_model.specs.Sections.{with_bits, numbers_in, number_of}
-use Rattle.capnp_model.specs.Trees.{Tree, null, capability, structure, plain_list, pointer_list, struct_list, Trees, none, ◌▸◌, child, with_child, is_null, size_bits, depth, depths}
+use Rattle.capnp_model.specs.Trees.{Tree, null, capability, structure, plain_list, pointer_list, struct_list, Trees, none, ◌▸◌, child, with_child, tree_count, is_null, size_bits, depths}
 use Rattle.capnp_model.specs.Trimming.{trim, trim_each}
 use Rattle.capnp_model.specs.Schemas.{PlainType, width, Ty, void, plain, text, blob, untyped, interface, struct, list, Body, Schema, default_or_null}
 use Rattle.capnp_model.specs.Calls.{index, set_to, CallValue, Content}
 use Rattle.capnp_model.specs.Edits.{Cell, Edit, put_child, put_in_element, opened_tree, on_plain, on_pointers, edit_list, as_list, edit_field, edit_element}
 use Rattle.capnp_model.proofs.lemmas.Stripping.{child-trim_each}
+use Rattle.capnp_model.proofs.lemmas.TrimFits.{count-trim_each, depths-trim_each}
 use Rattle.capnp_model.proofs.lemmas.Widening.{trim_each-with_child}
 use Rattle.capnp_calls_splice.specs.Blobs.{tree_of_blob}
 use Rattle.capnp_calls_splice.specs.DataWords.{put_set}
-use Rattle.capnp_calls_splice.specs.Splices.{IsPlainList, PutsBlobAt, IsElement, set_element, PutsIntoCell}
+use Rattle.capnp_calls_splice.specs.Splices.{TakesBlob, IsBlobSlot, PutsBlobAt, IsElement, set_element, PutsIntoCell}
 use Rattle.capnp_calls_splice.specs.declared.blob.Blob.{Blob}
 use Rattle.capnp_calls_splice.specs.declared.plain.PlainSet.{PlainSet}
 use Rattle.capnp_calls_splice.specs.declared.splice.Put.TheVariants as puts
 use Rattle.capnp_calls.specs.PlainFields.{SetsPlainSlot}
 use Rattle.capnp_calls.specs.Splices.{IsBlobOf, IsElementPut}
-use Rattle.capnp_calls_in_place.proofs.SplicedKids.{depths_put}
+use Rattle.capnp_calls_in_place.proofs.SplicedKids.{took_depths}
 use Rattle.capnp_calls_in_place.proofs.SplicedCells.{IsEditOf, IsChangeOf, child_is}
 use Rattle.capnp_calls_in_place.proofs.SplicedEnds.{opened_is}
 use Rattle.capnp_calls_in_place.proofs.SplicedNumbers.{element_put}
 
 -- ---- a list of bytes among pointers
 
--- What is a plain list after trimming was one before.
-pub plain_kept : (t : Tree) → IsPlainList (trim t) → (is_null t ≡ false) × (depth t ≡ 1)
-unfolding trim
-plain_kept null h = absurd h
-plain_kept (capability i) h = absurd h
-plain_kept (structure w section kids) h = absurd h
-plain_kept (plain_list z n section) h = (refl, refl)
-plain_kept (pointer_list ts) h = absurd h
-plain_kept (struct_list w p es) h = absurd h
+pub slot_inside : (ts : Trees) (k : ℕ) → IsBlobSlot k (trim_each ts) → k < tree_count ts
+slot_inside ts k h = let same = count-trim_each ts in let less = h.inside in omega (arith, less, same)
 
-pub kid_kept : (ts : Trees) (k : ℕ) → IsPlainList (child (trim_each ts) k) → (is_null (child ts k) ≡ false) × (depth (child ts k) ≡ 1)
-kid_kept ts k h = plain_kept (child ts k) (subst IsPlainList (child-trim_each ts k) h)
-
-pointers_put : (f : Edit) (t : Tree) → ((c : Cell) → f c ≡ put_child 0 t c) → (k : ℕ) (ts : Trees) → is_null (child ts k) ≡ false → on_pointers f k ts ≡ with_child ts k t
-pointers_put f t is k none some = absurd (cc some)
-pointers_put f t is zero (u ▸ ts) some = ap (λ (c : Cell). child c.kids 0 ▸ ts) (is (record { section = 0; kids = u ▸ none }))
-pointers_put f t is (suc k) (u ▸ ts) some = ap (λ us. u ▸ us) (pointers_put f t is k ts some)
+pointers_put : (f : Edit) (t : Tree) → ((c : Cell) → f c ≡ put_child 0 t c) → (k : ℕ) (ts : Trees) → k < tree_count ts → on_pointers f k ts ≡ with_child ts k t
+pointers_put f t is k none l = absurd (omega (arith, l))
+pointers_put f t is zero (u ▸ ts) l = ap (λ (c : Cell). child c.kids 0 ▸ ts) (is (record { section = 0; kids = u ▸ none }))
+pointers_put f t is (suc k) (u ▸ ts) l = ap (λ us. u ▸ us) (pointers_put f t is k ts (omega (arith, l)))
 
 module _ (b : Blob) (k : ℕ) (e : ℕ → ℕ → Edit) (is : (w p : ℕ) (c : Cell) → e w p c ≡ put_child 0 (tree_of_blob b) c) where
   blob_made : IsChangeOf (PutsBlobAt k b) (edit_list e k)
@@ -51,11 +42,11 @@ module _ (b : Blob) (k : ℕ) (e : ℕ → ℕ → Edit) (is : (w p : ℕ) (c : 
   blob_made (plain_list z n section) new fit h = absurd h
   blob_made (pointer_list ts) new fit h =
       let t : Tree = tree_of_blob b in
-      let kept = kid_kept ts k h.0 in
-      let put : on_pointers (e 0 1) k ts ≡ with_child ts k t = pointers_put (e 0 1) t (is 0 1) k ts kept.0 in
+      let put : on_pointers (e 0 1) k ts ≡ with_child ts k t = pointers_put (e 0 1) t (is 0 1) k ts (slot_inside ts k h.0) in
+      let takes : TakesBlob (depths (trim_each ts)) (trim (child ts k)) = subst (TakesBlob (depths (trim_each ts))) (child-trim_each ts k) h.0.takes in
       record {
         trimmed = ap (λ (us : Trees). pointer_list (trim_each us)) put ∙ ap pointer_list (trim_each-with_child ts k t) ∙ sym h.1;
-        deep = ap (λ (us : Trees). suc (depths us)) put ∙ ap suc (depths_put ts k t kept.0 (sym kept.1));
+        deep = ap (λ (us : Trees). suc (depths us)) put ∙ ap suc (took_depths ts (depths (trim_each ts)) k b (depths-trim_each ts) takes);
         some = refl;
         some_new = ap is_null h.1;
       }

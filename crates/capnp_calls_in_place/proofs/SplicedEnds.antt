@@ -1,17 +1,19 @@
 -- The edits at the ends of paths do what is put there, and whatever isn't null is opened as it is.
-use Rattle.std.proofs.Common.{◌≡◌, ℕ, ◌+◌, ◌*◌, false, Option, Some, None, bit_xor, refl, ap, sym, subst, ◌∙◌}
-use Rattle.capnp_model.specs.Sections.{with_bits}
-use Rattle.capnp_model.specs.Trees.{Tree, null, capability, structure, plain_list, pointer_list, struct_list, is_null}
-use Rattle.capnp_model.specs.Trimming.{trim}
+use Rattle.std.proofs.Common.{◌≡◌, ℕ, ◌+◌, ◌*◌, ◌^◌, ◌<◌, false, Option, Some, None, bit_xor, refl, ap, sym, subst, ◌∙◌, arith}
+use Rattle.capnp_model.specs.Sections.{with_bits, needed_words}
+use Rattle.capnp_model.specs.Trees.{Tree, null, capability, structure, plain_list, pointer_list, struct_list, Trees, tree_count, child, with_child, is_null, depths}
+use Rattle.capnp_model.specs.Trimming.{stripped, trim, trim_each}
 use Rattle.capnp_model.specs.Schemas.{PlainType, width, Ty, Body, void_slot, plain_slot, pointer_slot, group_slot, Schema}
 use Rattle.capnp_model.specs.Accepted.{areas_of_body}
 use Rattle.capnp_model.specs.Calls.{set_to, CallValue, Content}
 use Rattle.capnp_model.specs.Edits.{Cell, Edit, put_bits, put_child, mark, put_content, put_field, opened_tree}
 use Rattle.capnp_model.proofs.lemmas.Bits.{xor_twice}
+use Rattle.capnp_model.proofs.lemmas.Counts.{count-with_child}
+use Rattle.capnp_model.proofs.lemmas.Widening.{stripped-with_child, trim_each-with_child}
 use Rattle.capnp_model.proofs.lemmas.ReachedStructs.{AllInside}
 use Rattle.capnp_calls_splice.specs.Blobs.{tree_of_blob}
 use Rattle.capnp_calls_splice.specs.DataWords.{put_set}
-use Rattle.capnp_calls_splice.specs.Splices.{IsPlainList, PutsNumber as PutsInCell, PutsIntoCell}
+use Rattle.capnp_calls_splice.specs.Splices.{TakesBlob, PutsNumber as PutsInCell, PutsIntoCell}
 use Rattle.capnp_calls_splice.specs.declared.blob.Blob.{Blob}
 use Rattle.capnp_calls_splice.specs.declared.plain.PlainSet.{PlainSet}
 use Rattle.capnp_calls_splice.specs.declared.splice.Put.{Put}
@@ -19,7 +21,8 @@ use Rattle.capnp_calls_splice.specs.declared.splice.Put.TheVariants as puts
 use Rattle.capnp_calls.specs.PlainFields.{SetsPlainSlot}
 use Rattle.capnp_calls.specs.Splices.{IsPutOf, MarksMember, IsNumberOf}
 use Rattle.capnp_calls_in_place.proofs.InsideShapes.{number_below}
-use Rattle.capnp_calls_in_place.proofs.SplicedCells.{Follows, IsEditOf, Makes, IsChangeOf, with_number, number_is, with_any, child_is}
+use Rattle.capnp_calls_in_place.proofs.SplicedCells.{Follows, IsEditOf, Makes, IsChangeOf, with_number, number_is, with_any}
+use Rattle.capnp_calls_in_place.proofs.SplicedKids.{child_same, bare_count_more, deeper_whole, took_depths}
 use Rattle.capnp_model.proofs.lemmas.TrimTwice.{null_trimmed}
 
 -- Edits that do the same.
@@ -42,18 +45,31 @@ opened_is puts f ty d h old new fit p =
 
 -- ---- the end of a path
 
--- A list of bytes in place of a plain list.
-blob_makes : (b : Blob) → IsChangeOf (λ t u. IsPlainList t × (u ≡ tree_of_blob b)) (λ t. tree_of_blob b)
-unfolding trim
-blob_makes b null new fit h = absurd h.0
-blob_makes b (capability i) new fit h = absurd h.0
-blob_makes b (structure w section kids) new fit h = absurd h.0
-blob_makes b (plain_list z n section) new fit h = record { trimmed = sym h.1; deep = refl; some = refl; some_new = ap is_null h.1 }
-blob_makes b (pointer_list ts) new fit h = absurd h.0
-blob_makes b (struct_list w p es) new fit h = absurd h.0
-
+-- A list of bytes at a pointer.
 blob_is : (limit i : ℕ) (b : Blob) → IsEditOf limit (PutsIntoCell (puts.Blob i b)) (put_child i (tree_of_blob b))
-blob_is limit i b n m cut new old is p = child_is limit (λ t u. IsPlainList t × (u ≡ tree_of_blob b)) (λ t. tree_of_blob b) i (blob_makes b) n m cut new old is (p.0, tree_of_blob b, (p.1, refl), p.2)
+unfolding trim
+blob_is limit i b n m cut new old is p =
+    let t : Tree = tree_of_blob b in
+    let slot = p.1 in
+    let same : child cut.kids i ≡ trim (child old.kids i) = child_same old.kids cut.kids i is.kids in
+    let takes : TakesBlob (depths cut.kids) (trim (child old.kids i)) = subst (TakesBlob (depths cut.kids)) same slot.takes in
+    let sections : new.section ≡ cut.section = ap (λ (c : Cell). c.section) p.2 in
+    let children : new.kids ≡ with_child cut.kids i t = ap (λ (c : Cell). c.kids) p.2 in
+    let kids : stripped (trim_each (with_child old.kids i t)) ≡ stripped (with_child cut.kids i t) =
+    ap stripped (trim_each-with_child old.kids i t) ∙ sym (stripped-with_child (trim_each old.kids) i t) ∙ ap (λ (us : Trees). stripped (with_child us i t)) is.kids ∙ stripped-with_child cut.kids i t in
+    let wide = p.0 in
+    let more = bare_count_more cut.kids i t refl in
+    let bare = ap (λ (us : Trees). tree_count (stripped us)) children in
+    record {
+      section = is.section ∙ sym sections;
+      kids = kids ∙ ap stripped (sym children);
+      inside = subst (λ (k : ℕ). new.section < 2 ^ (64 * k)) (sym wide) (subst (λ (s : ℕ). s < 2 ^ (64 * n)) (sym sections) is.inside);
+      most = omega (arith, wide);
+      words = λ e. ap (needed_words m) sections ∙ ap (λ (k : ℕ). needed_words k cut.section) wide ∙ e ∙ sym wide;
+      count = ap tree_count children ∙ count-with_child cut.kids i t slot.inside;
+      least = omega (arith, bare, more);
+      deep = took_depths old.kids (depths cut.kids) i b (deeper_whole old.kids cut.kids is.kids) takes;
+    }
 
 module _ (s : Schema) (v : CallValue) where
   number_put : (p : PlainSet) (q : PlainType) (at d : ℕ) → SetsPlainSlot q at d v p → (c : Cell) → with_number p c ≡ put_field s (set_to v) (plain_slot q at d) c

@@ -7,7 +7,7 @@ use Rattle.capnp_model.specs.Trimming.{stripped, common_words, common_pointers, 
 use Rattle.capnp_model.specs.Schemas.{Shape, shape}
 use Rattle.capnp_model.specs.Edits.{Cell, Edit, padded_elements, widened_list, edit_list, on_elements}
 use Rattle.capnp_model.proofs.lemmas.Numbers.{needed_words-more, needed_words_le}
-use Rattle.capnp_model.proofs.lemmas.Stripping.{stripped-resized, resized-stripped, count-resized}
+use Rattle.capnp_model.proofs.lemmas.Stripping.{stripped-resized, resized-stripped, count-resized, count-stripped}
 use Rattle.capnp_model.proofs.lemmas.TrimTwice.{common_words_le}
 use Rattle.capnp_model.proofs.lemmas.Widening.{bare-padded_to}
 use Rattle.capnp_calls_splice.specs.Splices.{InElements, InList}
@@ -79,7 +79,8 @@ record MakesElements (n p : ℕ) (old edited new : Elements) : Type 0 where
   cut : with_pointers p (trim_elements edited) ≡ new
   words : HaveWords n (trim_elements edited)
   least : common_words n (trim_elements old) ≡ n → common_words n (trim_elements edited) ≡ n
-  pointers : common_pointers (trim_elements edited) ≡ common_pointers (trim_elements old)
+  few : common_pointers (trim_elements edited) ≤ p
+  pointers : common_pointers (trim_elements old) ≡ p → common_pointers (trim_elements edited) ≡ p
   deep : element_depths edited ≡ element_depths old
 
 module _ (limit : ℕ) (puts : ℕ → ℕ → Cell → Cell → Type 0) (f : Edit) (is : IsEditOf limit puts f) (n p q : ℕ) where
@@ -98,7 +99,12 @@ module _ (limit : ℕ) (puts : ℕ → ℕ → Cell → Cell → Type 0) (f : Ed
       let follows : Follows limit n n cut new old edited = is n n cut new old begins h in
       let rest : Elements = trim_elements (padded_elements q es) in
       let children : resized p (trim_each edited.kids) ≡ new.kids = cut_alike p (trim_each edited.kids) new.kids follows.kids ∙ resized_all new.kids p (follows.count ∙ count-resized p (trim_each kids)) in
-      let counts : tree_count (stripped (trim_each edited.kids)) ≡ tree_count (stripped (trim_each kids)) = ap tree_count follows.kids ∙ follows.least ∙ ap tree_count bare in
+      let bares : tree_count (stripped (trim_each edited.kids)) ≡ tree_count (stripped new.kids) = ap tree_count follows.kids in
+      let all : tree_count (stripped (resized p (trim_each kids))) ≡ tree_count (stripped (trim_each kids)) = ap tree_count bare in
+      let count : tree_count new.kids ≡ p = follows.count ∙ count-resized p (trim_each kids) in
+      let no_more = count-stripped new.kids in
+      let no_fewer = follows.least in
+      let of_rest : common_pointers rest ≡ common_pointers (trim_elements es) = padded_pointers q es in
       let others : common_words n rest ≡ common_words n (trim_elements es) = padded_alike n es q in
       record {
         cut = ap (λ (s : ℕ). element s (resized p (trim_each edited.kids)) (with_pointers p rest)) follows.section
@@ -106,7 +112,8 @@ module _ (limit : ℕ) (puts : ℕ → ℕ → Cell → Cell → Type 0) (f : Ed
         words = (subst (λ (s : ℕ). s < 2 ^ (64 * n)) (sym follows.section) follows.inside, padded_words n q es (have_words n p (trim_elements es) fit.3));
         least = λ e. ap (λ (s : ℕ). max (needed_words n s) (common_words n rest)) follows.section ∙ ap (max (needed_words n new.section)) others
             ∙ most_kept n (needed_words n section) (common_words n (trim_elements es)) (needed_words n new.section) (needed_words_le n section) (needed_words_le n new.section) follows.words e;
-        pointers = ap (λ (m : ℕ). max m (common_pointers rest)) counts ∙ ap (max (tree_count (stripped (trim_each kids)))) (padded_pointers q es);
+        few = omega (arith, few, bares, count, no_more, of_rest);
+        pointers = λ e. omega (arith, few, bares, all, count, no_more, no_fewer, of_rest, e);
         deep = ap (λ (m : ℕ). max m (element_depths (padded_elements q es))) (follows.deep ∙ depths_padded q kids) ∙ ap (max (depths kids)) (padded_depths q es);
       }
 
@@ -131,7 +138,14 @@ module _ (limit : ℕ) (puts : ℕ → ℕ → Cell → Cell → Type 0) (f : Ed
             most_kept n (common_words n (trim_elements es)) (needed_words n section) (common_words n rest) (common_words_le n (trim_elements es)) (common_words_le n rest) made.least turned in
             omega (arith, kept)
             );
-        pointers = ap (λ (ts : Trees). max (tree_count ts) (common_pointers rest)) (bare-padded_to q kids) ∙ ap (max (tree_count (stripped (trim_each kids)))) made.pointers;
+        few = (let same = ap tree_count (bare-padded_to q kids) in let less = made.few in omega (arith, few, same, less));
+        pointers = λ e. (
+            let same = ap tree_count (bare-padded_to q kids) in
+            let turned : max (common_pointers (trim_elements es)) (tree_count (stripped (trim_each kids))) ≡ p = omega (arith, e) in
+            let kept : max (common_pointers rest) (tree_count (stripped (trim_each kids))) ≡ p =
+            most_kept p (common_pointers (trim_elements es)) (tree_count (stripped (trim_each kids))) (common_pointers rest) (omega (arith, few)) made.few made.pointers turned in
+            omega (arith, kept, same)
+            );
         deep = ap (λ (m : ℕ). max m (element_depths (on_elements f k (padded_elements q es)))) (depths_padded q kids) ∙ ap (max (depths kids)) made.deep;
       }
 
@@ -154,7 +168,7 @@ module _ (limit : ℕ) (puts : ℕ → ℕ → Cell → Cell → Type 0) (f : �
       let words : common_words (max a w) now ≡ n = common_more (max a w) n now (omega (arith, less)) made.words ∙ made.least least in
       record {
         trimmed = ap (λ (c : ℕ). struct_list c (common_pointers now) (with_pointers (common_pointers now) now)) words
-            ∙ ap (λ (c : ℕ). struct_list n c (with_pointers c now)) made.pointers ∙ ap (struct_list n m) made.cut;
+            ∙ ap (λ (c : ℕ). struct_list n c (with_pointers c now)) (made.pointers refl) ∙ ap (struct_list n m) made.cut;
         deep = ap suc made.deep;
         some = refl;
         some_new = refl;

@@ -6,7 +6,7 @@ use Rattle.capnp_model.specs.Fits.{Fits}
 use Rattle.capnp_model.specs.Trimming.{stripped, trim, trim_each}
 use Rattle.capnp_model.specs.Edits.{Cell, Edit, in_struct}
 use Rattle.capnp_model.proofs.lemmas.Numbers.{needed_words-more, needed_words_le}
-use Rattle.capnp_model.proofs.lemmas.Stripping.{stripped-stripped}
+use Rattle.capnp_model.proofs.lemmas.Stripping.{stripped-stripped, count-stripped}
 use Rattle.capnp_model.proofs.lemmas.Widening.{bare-padded_to}
 use Rattle.capnp_calls_splice.specs.Splices.{InStruct}
 use Rattle.capnp_calls_in_place.proofs.SplicedKids.{depths_padded, all_kept}
@@ -32,7 +32,7 @@ module _ (w : ℕ) (puts : ℕ → ℕ → Cell → Cell → Type 0) (f : Edit) 
       let most = follows.most in
       let least : needed_words n section ≡ n = sym (needed_words-more words n section less fit.2) in
       let needs : needed_words (max w words) new.section ≡ m = needed_words-more (max w words) m new.section (omega (arith, less, most)) follows.inside ∙ follows.words least in
-      let whole : stripped new.kids ≡ new.kids = all_kept new.kids (follows.least ∙ ap tree_count again ∙ sym follows.count) in
+      let whole : stripped new.kids ≡ new.kids = all_kept new.kids (let few = follows.least in let all = ap tree_count again in let count = follows.count in let most = count-stripped new.kids in omega (arith, few, all, count, most)) in
       record {
         trimmed = ap (λ (s : ℕ). structure (needed_words (max w words) s) s (stripped (trim_each edited.kids))) follows.section
             ∙ ap (λ (k : ℕ). structure k new.section (stripped (trim_each edited.kids))) needs ∙ ap (structure m new.section) (follows.kids ∙ whole);

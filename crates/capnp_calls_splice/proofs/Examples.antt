@@ -1,10 +1,10 @@
 -- Values after splices, and their canonical words, as the encoding document gives them.
 use Rattle.std.proofs.Common.{◌≡◌, ℕ, [], ◌∷◌, codes, refl, lit<, lit≤}
-use Rattle.capnp_model.specs.Trees.{Tree, structure, struct_list, none, ◌▸◌, no_elements, element, with_child}
+use Rattle.capnp_model.specs.Trees.{Tree, null, structure, struct_list, none, ◌▸◌, no_elements, element, with_child}
 use Rattle.capnp_model.specs.Calls.{text_tree}
 use Rattle.capnp_model.specs.Encoding.{canonical_words}
 use Rattle.capnp_model.specs.Edits.{Cell}
-use Rattle.capnp_calls_splice.specs.Splices.{PutsNumber, PutsBehind}
+use Rattle.capnp_calls_splice.specs.Splices.{IsBlobSlot, PutsNumber, PutsBehind}
 use Rattle.capnp_calls_splice.specs.Cells.{shifted}
 use Rattle.capnp_calls_splice.specs.declared.plain.PlainSet.{PlainSet}
 use Rattle.capnp_calls_splice.specs.declared.splice.Hop.TheVariants as hops
@@ -74,6 +74,18 @@ words_of_elements = refl
 short_text : canonical_words (structure 0 0 (text_tree (codes "hi") ▸ structure 1 9 none ▸ none)) ≡ 0x2_0000_0000_0000 ∷ 0x1a_0000_0005 ∷ 0x1_0000_0004 ∷ 0x6968 ∷ 9 ∷ []
 unfolding canonical_words
 short_text = refl
+
+-- in place of null before that struct, whose pointer told none off
+null_before : canonical_words (structure 0 0 (null ▸ structure 1 9 none ▸ none)) ≡ 0x2_0000_0000_0000 ∷ 0 ∷ 0x1_0000_0000 ∷ 9 ∷ []
+unfolding canonical_words
+null_before = refl
+
+takes_null : IsBlobSlot 0 (null ▸ structure 1 9 none ▸ none)
+takes_null = record { inside = lit< tt; takes = lit< tt }
+
+text_for_null : canonical_words (structure 0 0 (with_child (null ▸ structure 1 9 none ▸ none) 0 (text_tree (codes "hi")))) ≡ 0x2_0000_0000_0000 ∷ 0x1a_0000_0005 ∷ 0x1_0000_0004 ∷ 0x6968 ∷ 9 ∷ []
+unfolding canonical_words
+text_for_null = refl
 
 -- and then two
 long_text : canonical_words (structure 0 0 (with_child (text_tree (codes "hi") ▸ structure 1 9 none ▸ none) 0 (text_tree (codes "Hello, World!"))))

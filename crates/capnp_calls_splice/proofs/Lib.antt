@@ -5,6 +5,7 @@ mod Segmenting
 mod Shifts
 mod Children
 mod Pointing
+mod Targets
 mod Placing
 mod Numbering
 mod Resizing

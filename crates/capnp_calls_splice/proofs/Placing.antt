@@ -80,6 +80,30 @@ slot_near area f c ws i st l few =
     let e = st.between in
     omega arith
 
+-- The pointers behind one, and that what they lead to lies in a message.
+pub later_links : (area : Area) (f : Frame) (c : Cell) (i count : ℕ) (xs : List (List ℕ)) (a m : ℕ) → StandsIn area f c (filled count xs) → i < area.pointers → count ≤ length xs → count < 2 ^ 29
+    → a ≡ area.at + area.data_words + i + 1 → m ≡ area.at + area.data_words + area.pointers - a
+    → FitsInOffsets f.behind (f.before + length (bodies (fronts i c.kids)) + length (body (child c.kids i))) (backs i c.kids)
+    × (words_view (take m (drop a xs)) ≡ links f.behind (f.before + length (bodies (fronts i c.kids)) + length (body (child c.kids i))) (backs i c.kids))
+later_links area f c i count xs a m st l room few at size =
+    let d : ℕ = area.data_words in
+    let inside : i < tree_count c.kids = (let e = st.pointers in omega arith) in
+    let n : ℕ = length (body (child c.kids i)) in
+    let p : ℕ = pointer (slot_gap f c i) (child c.kids i) in
+    let before : ℕ = f.before + length (bodies (fronts i c.kids)) in
+    let x : List ℕ = slot_front d f c i ++ p ∷ [] in
+    let r : List ℕ = slot_between f c i ++ (body (child c.kids i) ++ slot_back f c i) in
+    let place = slot_place area f c (filled count xs) i st l in
+    let e : filled count xs ≡ x ++ (slot_later f c i n ++ r) = st.spelled ∙ own_slot d f c i inside ∙ sym (append_assoc (slot_front d f c i) (p ∷ []) (slot_later f c i n ++ r)) in
+    let begins : length x ≡ a = length-append (slot_front d f c i) (p ∷ []) ∙ omega arith in
+    let backs_are = backs_count c.kids i inside in
+    let later : length (slot_later f c i n) ≡ m = links_length (backs i c.kids) f.behind (before + n) ∙ (let g = st.pointers in omega arith) in
+    let whole = slotted_length d f c i p n (body (child c.kids i)) in
+    let was = ap length (st.spelled ∙ own_slot d f c i inside) in
+    let used = filled_length xs count room in
+    let between = st.between in
+    (omega arith, part_is xs count a m x (slot_later f c i n) r e begins later)
+
 -- ---- the pointers behind are moved
 
 pub moved : (area : Area) (f : Frame) (c : Cell) (i : ℕ) (t : Tree) (ws : List ℕ) (count now : ℕ) (xs ys : List (List ℕ)) (a m : ℕ)

@@ -1,17 +1,17 @@
 -- What is put behind a pointer of a struct stands there.
-use Rattle.std.proofs.Common.{◌≡◌, ℕ, ◌+◌, ◌-◌, ◌^◌, ◌<◌, ◌≤◌, Result, Ok, Err, List, [], ◌∷◌, ◌++◌, length, take, drop, get_or, set, refl, ap, sym, subst, ◌∙◌, append_assoc, length-append, arith}
+use Rattle.std.proofs.Common.{◌≡◌, ℕ, ◌+◌, ◌-◌, ◌^◌, ◌<◌, ◌≤◌, max, Result, Ok, Err, List, [], ◌∷◌, ◌++◌, length, take, drop, get_or, set, refl, ap, sym, subst, ◌∙◌, append_assoc, length-append, arith}
 use Rattle.std.specs.Prelude.{IfOk}
 use Rattle.std.specs.Int.{from_le_bytes, w64}
 use Rattle.std.proofs.lemmas.List.{length-set, append-nil}
 use Rattle.capnp_model.specs.Sections.{words_of}
-use Rattle.capnp_model.specs.Trees.{Tree, null, capability, structure, plain_list, pointer_list, struct_list, Trees, tree_count, child}
+use Rattle.capnp_model.specs.Trees.{Tree, null, capability, structure, plain_list, pointer_list, struct_list, Trees, tree_count, child, depths}
 use Rattle.capnp_model.specs.Fits.{Fits, FitEach}
 use Rattle.capnp_model.specs.Encoding.{pointer, list_pointer, body, links, bodies, canonical_words}
 use Rattle.capnp_model.specs.Edits.{Cell, put_child}
 use Rattle.capnp_wire_canonical.specs.Writes.{words_view, filled}
 use Rattle.capnp_model.proofs.lemmas.RoundTrip.{links_length}
 use Rattle.capnp_calls_splice.specs.Blobs.{tree_of_blob}
-use Rattle.capnp_calls_splice.specs.Splices.{IsPlainList, PutsBehind, InStruct, HasSpliced}
+use Rattle.capnp_calls_splice.specs.Splices.{TakesBlob, PutsBehind, InStruct, HasSpliced}
 use Rattle.capnp_calls_splice.specs.Cells.{Frame, StandsIn, HasPut, ChangesArea, IsStructWith, IsSizedStruct, FitsInOffsets}
 use Rattle.capnp_calls_splice.specs.declared.area.Area.{Area}
 use Rattle.capnp_calls_splice.specs.declared.area.Placed.{Placed}
@@ -23,9 +23,10 @@ use Rattle.capnp_calls_splice.specs.declared.splice.Hop.TheVariants as hops
 use Rattle.capnp_calls_splice.specs.declared.splice.Put.{Put}
 use Rattle.capnp_calls_splice.specs.declared.splice.Put.TheVariants as puts
 use Rattle.capnp_calls_splice.specs.declared.splice.Splice.{Splice}
-use Rattle.capnp_calls_splice.proofs.Children.{fronts, backs, child-fits}
+use Rattle.capnp_calls_splice.proofs.Children.{fronts, backs, child-fits, backs-fit}
 use Rattle.capnp_calls_splice.proofs.Segmenting.{filled_length, word_is, word_put}
-use Rattle.capnp_calls_splice.proofs.Placing.{slot_front, slot_gap, slot_later, slot_between, slot_back, slotted, own_slot, slot_place, slot_near, moved, struct_frame, in_struct_frame, enters}
+use Rattle.capnp_calls_splice.proofs.Targets.{slot_takes, later_take}
+use Rattle.capnp_calls_splice.proofs.Placing.{slot_front, slot_gap, slot_later, slot_between, slot_back, slotted, own_slot, slot_place, slot_near, later_links, moved, struct_frame, in_struct_frame, enters}
 
 -- The pointer at a place of the words.
 pub pointer_there : (area : Area) (f : Frame) (c : Cell) (i p count : ℕ) (xs : List (List ℕ)) → StandsIn area f c (filled count xs) → i < area.pointers → area.at + area.data_words + i < length xs
@@ -119,14 +120,14 @@ module _ (b : Blob) (area : Area) (f : Frame) (c : Cell) (i s p v count now : �
     (st : StandsIn area f c (filled count xs)) (l : i < area.pointers) (room : count ≤ length xs) (few : count < 2 ^ 29) (short : now < 2 ^ 29) (more : now ≤ length mid)
     (there : s ≡ area.at + area.data_words + i) (at : a ≡ area.at + area.data_words + i + 1) (size : m ≡ area.at + area.data_words + area.pointers - a)
     (word : p ≡ pointer (slot_gap f c i) (child c.kids i)) (near : slot_gap f c i < 2 ^ 30)
+    (takes : TakesBlob (max (depths (fronts i c.kids)) (depths (backs i c.kids))) (child c.kids i))
     (start : run.start ≡ area.at + area.data_words + i + 1 + slot_gap f c i) (len : run.len ≡ length (body (child c.kids i)))
     (replaces : (x l r : List ℕ) → filled count xs ≡ x ++ (l ++ r) → length x ≡ run.start → length l ≡ run.len → filled now mid ≡ x ++ (words_view b.words.items ++ r))
-    (points : (gap size n : ℕ) → gap < 2 ^ 30 → p ≡ list_pointer gap size n → v ≡ list_pointer gap 2 b.len)
+    (told : v ≡ list_pointer (slot_gap f c i) 2 b.len)
     (spells : from_le_bytes w64 bytes ≡ v)
     (move : Moves count now (take m (drop a (set mid s bytes))) ys) where
-  in_bytes : (z n u : ℕ) → child c.kids i ≡ plain_list z n u
-      → HasPut (puts.Blob i b) [] area f c area.data_words (filled now (take a (set mid s bytes) ++ (ys ++ drop m (drop a (set mid s bytes)))))
-  in_bytes z n u e =
+  in_bytes : HasPut (puts.Blob i b) [] area f c area.data_words (filled now (take a (set mid s bytes) ++ (ys ++ drop m (drop a (set mid s bytes)))))
+  in_bytes =
       let d : ℕ = area.data_words in
       let old : ℕ = length (body (child c.kids i)) in
       let t : Tree = tree_of_blob b in
@@ -147,7 +148,6 @@ module _ (b : Blob) (area : Area) (f : Frame) (c : Cell) (i s p v count now : �
       let put : filled now mid ≡ slot_front d f c i ++ p ∷ (slot_later f c i old ++ (slot_between f c i ++ (words_view b.words.items ++ slot_back f c i))) =
       replaces (slot_front d f c i ++ p ∷ (slot_later f c i old ++ slot_between f c i)) (body (child c.kids i)) (slot_back f c i) spelled front (sym len)
       ∙ sym (regrouped (slot_front d f c i) (slot_later f c i old) (slot_between f c i) (words_view b.words.items) (slot_back f c i) p) in
-      let told : v ≡ pointer (slot_gap f c i) t = points (slot_gap f c i) z n near (word ∙ ap (pointer (slot_gap f c i)) e) in
       let pointed : filled now (set mid s bytes) ≡ slot_front d f c i ++ v ∷ (slot_later f c i old ++ (slot_between f c i ++ (words_view b.words.items ++ slot_back f c i))) =
       word_put mid now s p v bytes (slot_front d f c i) (slot_later f c i old ++ (slot_between f c i ++ (words_view b.words.items ++ slot_back f c i))) more put place spells in
       let is : filled now (set mid s bytes) ≡ slotted d f c i (pointer (slot_gap f c i) t) old (body t) =
@@ -155,34 +155,30 @@ module _ (b : Blob) (area : Area) (f : Frame) (c : Cell) (i s p v count now : �
       let fit : Fits t = (omega arith, b.few, b.fits) in
       record {
         cell = put_child i t c;
-        changes = (refl, subst IsPlainList (sym e) tt, refl);
+        changes = (refl, slot_takes c.kids i within takes, refl);
         stands = moved area f c i t (filled count xs) count now (set mid s bytes) ys a m st l (filled_length xs count room) few short (let g = length-set mid s bytes in omega arith) fit is at size move;
       }
 
-  in_list : (t : Tree) → child c.kids i ≡ t → IsPlainList t
-      → HasPut (puts.Blob i b) [] area f c area.data_words (filled now (take a (set mid s bytes) ++ (ys ++ drop m (drop a (set mid s bytes)))))
-  in_list null e h = absurd h
-  in_list (capability k) e h = absurd h
-  in_list (structure w u ts) e h = absurd h
-  in_list (plain_list z n u) e h = in_bytes z n u e
-  in_list (pointer_list ts) e h = absurd h
-  in_list (struct_list d k es) e h = absurd h
-
-pub blob_put : (b : Blob) (area : Area) (f : Frame) (c : Cell) (i s p v count now : ℕ) (bytes : List ℕ) (run : Run) (xs mid ys : List (List ℕ)) (a m : ℕ)
+pub blob_put : (b : Blob) (area : Area) (f : Frame) (c : Cell) (i s p v count now : ℕ) (bytes : List ℕ) (run : Run) (xs mid ys : List (List ℕ)) (a m k : ℕ)
     → StandsIn area f c (filled count xs) → i < area.pointers → area.at + area.data_words + area.pointers ≤ count → count ≤ length xs → count < 2 ^ 29 → now < 2 ^ 29 → now ≤ length mid
-    → s ≡ area.at + area.data_words + i → a ≡ area.at + area.data_words + i + 1 → m ≡ area.at + area.data_words + area.pointers - a
+    → s ≡ area.at + area.data_words + i → a ≡ area.at + area.data_words + i + 1 → m ≡ area.at + area.data_words + area.pointers - a → k ≡ m
     → p ≡ from_le_bytes w64 (get_or xs s [])
-    → ((gap : ℕ) (t : Tree) → Fits t → gap < 2 ^ 30 → p ≡ pointer gap t → IsPlainList t × (run.start ≡ area.at + area.data_words + i + 1 + gap) × (run.len ≡ length (body t)))
+    → ((behind before : ℕ) (t : Tree) (ts : Trees) → Fits t → FitEach ts → FitsInOffsets behind (before + length (body t)) ts → p ≡ pointer (tree_count ts + behind + before) t → words_view (take k (drop a xs)) ≡ links behind (before + length (body t)) ts
+    → TakesBlob (depths ts) t × (run.len ≡ length (body t)) × (run.start ≡ a + (tree_count ts + behind + before)))
     → ((x l r : List ℕ) → filled count xs ≡ x ++ (l ++ r) → length x ≡ run.start → length l ≡ run.len → filled now mid ≡ x ++ (words_view b.words.items ++ r))
-    → ((gap size n : ℕ) → gap < 2 ^ 30 → p ≡ list_pointer gap size n → v ≡ list_pointer gap 2 b.len)
+    → v ≡ list_pointer (run.start - a) 2 b.len
     → from_le_bytes w64 bytes ≡ v
     → Moves count now (take m (drop a (set mid s bytes))) ys
     → HasPut (puts.Blob i b) [] area f c area.data_words (filled now (take a (set mid s bytes) ++ (ys ++ drop m (drop a (set mid s bytes)))))
-blob_put b area f c i s p v count now bytes run xs mid ys a m st l own room few short more there at size is leads replaces points spells move =
+blob_put b area f c i s p v count now bytes run xs mid ys a m k st l own room few short more there at size same is leads replaces told spells move =
+    let n : ℕ = length (body (child c.kids i)) in
     let word = pointer_there area f c i p count xs st l (omega arith) (is ∙ ap (λ (k : ℕ). from_le_bytes w64 (get_or xs k [])) there) in
     let near = slot_near area f c (filled count xs) i st l (let e = filled_length xs count room in omega arith) in
-    let found = leads (slot_gap f c i) (child c.kids i) (child-fits c.kids i st.each) near word in
-    in_list b area f c i s p v count now bytes run xs mid ys a m st l room few short more there at size word near found.1 found.2 replaces points spells move (child c.kids i) refl found.0
+    let later = later_links area f c i count xs a k st l room few at (same ∙ size) in
+    let found = leads f.behind (f.before + length (bodies (fronts i c.kids))) (child c.kids i) (backs i c.kids) (child-fits c.kids i st.each) (backs-fit c.kids i st.each) later.0 word later.1 in
+    let start : run.start ≡ area.at + area.data_words + i + 1 + slot_gap f c i = found.2 ∙ (omega arith) in
+    let gap : run.start - a ≡ slot_gap f c i = omega arith in
+    in_bytes b area f c i s p v count now bytes run xs mid ys a m st l room few short more there at size word near (later_take c.kids i found.0) start found.1 replaces (told ∙ ap (λ (g : ℕ). list_pointer g 2 b.len) gap) spells move
 
 -- ---- at the root
 

@@ -12,7 +12,7 @@ pub record Shift (by old new : ℕ) : Type 0 where
   pub old_few : old < 2 ^ 29
   pub new_few : new < 2 ^ 29
 
-not_equal : (a b : ℕ) → (a ≡ b → ⊥) → nat_eq a b ≡ false
+pub not_equal : (a b : ℕ) → (a ≡ b → ⊥) → nat_eq a b ≡ false
 not_equal a b h = grind arith
 
 moves : (by w : ℕ) → (w ≡ 0 → ⊥) → (w % 4 ≡ 3 → ⊥) → (w ≡ 0xffff_fffc → ⊥) → shifted by w ≡ (w + by) % 2 ^ 64

@@ -1,7 +1,7 @@
 -- What is put into the structs of a value. Elements of lists get no wider and no narrower. (Encoding, "Structs" and "Lists")
 use Rattle.std.specs.Prelude.{◌≡◌, ℕ, zero, suc, ◌+◌, ◌*◌, ◌^◌, ◌<◌, ◌≤◌, max, Option, Some, None, List, [], ◌∷◌, length, ⊤}
 use Rattle.capnp_model.specs.Sections.{needed_words}
-use Rattle.capnp_model.specs.Trees.{Tree, structure, plain_list, pointer_list, struct_list, Elements, no_elements, element, child, with_child, size_bits}
+use Rattle.capnp_model.specs.Trees.{Tree, null, structure, plain_list, pointer_list, struct_list, Trees, Elements, no_elements, element, child, with_child, size_bits, tree_count, depths}
 use Rattle.capnp_model.specs.Fits.{Fits}
 use Rattle.capnp_model.specs.Encoding.{canonical_words}
 use Rattle.capnp_model.specs.Edits.{Cell, put_child}
@@ -23,6 +23,17 @@ abbrev pub IsPlainList : Tree → Type 0
 IsPlainList (plain_list size n section) = ⊤
 IsPlainList _ = ⊥
 
+-- A text or data takes the place of a list of plain elements, or of null in a row of values with so many levels of pointers.
+abbrev pub TakesBlob : ℕ → Tree → Type 0
+TakesBlob levels null = 0 < levels
+TakesBlob levels (plain_list size n section) = ⊤
+TakesBlob levels _ = ⊥
+
+-- So it does at an index of values in a row. Null is one of them, and another leads to something.
+pub record IsBlobSlot (i : ℕ) (ts : Trees) : Type 0 where
+  pub inside : i < tree_count ts
+  pub takes : TakesBlob (depths ts) (child ts i)
+
 -- A number is put into the data, which are m words then instead of n: where all n were needed, all m are.
 pub record PutsNumber (p : PlainSet) (n m : ℕ) (old new : Cell) : Type 0 where
   pub made : new ≡ record { section = put_set p old.section; kids = old.kids }
@@ -42,9 +53,9 @@ pub record PutsMember (mark : PlainSet) (p : Option PlainSet) (n m : ℕ) (old n
   pub first : PutsNumber mark n words old marked
   pub second : PutsNumberIfAny p words m marked new
 
--- A list of bytes takes the place of one of plain elements at an index of a list of pointers.
+-- A list of bytes is put at an index of a list of pointers.
 abbrev pub PutsBlobAt : ℕ → Blob → Tree → Tree → Type 0
-PutsBlobAt k b (pointer_list ts) new = IsPlainList (child ts k) × (new ≡ pointer_list (with_child ts k (tree_of_blob b)))
+PutsBlobAt k b (pointer_list ts) new = IsBlobSlot k ts × (new ≡ pointer_list (with_child ts k (tree_of_blob b)))
 PutsBlobAt k b _ new = ⊥
 
 -- A number has the place of the element at an index of a list of elements of its width.
@@ -61,7 +72,7 @@ set_element p t = t
 abbrev pub PutsIntoCell : Put → ℕ → ℕ → Cell → Cell → Type 0
 PutsIntoCell (puts.Number p) n m old new = PutsNumber p n m old new
 PutsIntoCell (puts.Member mark p) n m old new = PutsMember mark p n m old new
-PutsIntoCell (puts.Blob i b) n m old new = (m ≡ n) × IsPlainList (child old.kids i) × (new ≡ put_child i (tree_of_blob b) old)
+PutsIntoCell (puts.Blob i b) n m old new = (m ≡ n) × IsBlobSlot i old.kids × (new ≡ put_child i (tree_of_blob b) old)
 PutsIntoCell (puts.BlobAt i k b) n m old new = (m ≡ n) × (t : Tree) × PutsBlobAt k b (child old.kids i) t × (new ≡ put_child i t old)
 PutsIntoCell (puts.NumberAt i k p) n m old new = (m ≡ n) × IsElement k p (child old.kids i) × (new ≡ put_child i (set_element p (child old.kids i)) old)
 

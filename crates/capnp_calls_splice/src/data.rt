@@ -39,6 +39,24 @@ fn zero_words(slice: &mut [Word])
     }
 }
 
+/// Makes the data of a struct so many words, as `resize_data` does, where they aren't so many.
+#[inline]
+fn fit_data(words: &mut [Word], count: usize, area: Area, wide: usize) -> Result<usize, Unput>
+    requires inside { IsAreaInside area count words.old }
+    requires wide { wide < 2 ^ 16 }
+    ensures stands { IfOk result (λ n. (f : Frame) (c : Cell)
+        → StandsIn area f c (filled count words.old) → c.section < 2 ^ (64 * wide)
+        → StandsIn (with_data_words area wide) f c (filled n words.new)) }
+    ensures within { IfOk result (λ n. IsAreaInside (with_data_words area wide) n words.new) }
+    ensures kept { IfErr result (λ why. LeavesWords why words.old words.new) }
+    ensures len { length words.new ≡ length words.old }
+{
+    if wide == area.data_words {
+        return Ok(count);
+    }
+    resize_data(words, count, area, wide)
+}
+
 /// Makes the data of a struct so many words, and returns how many words are used then: zeros are
 /// added behind the data, or dropped there. `Room` where they don't fit the slice, `Place` where
 /// they are 2^29 or more.
@@ -109,10 +127,10 @@ pub(crate) fn put_number(
     if wide >= STRUCT_WORDS {
         return Err(Unput::Place);
     }
-    let more = resize_data(words, count, area, wide)?;
+    let more = fit_data(words, count, area, wide)?;
     put(&mut words[area.at..area.at + wide], set);
     let needed = count_needed(&words[area.at..area.at + wide]);
-    match resize_data(words, more, with_data_words(area, wide), needed) {
+    match fit_data(words, more, with_data_words(area, wide), needed) {
         Ok(now) => Ok(Placed {
             count: now,
             data_words: needed,

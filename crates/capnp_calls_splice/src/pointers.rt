@@ -1,12 +1,12 @@
 //! Pointers among canonical words.
-ghost use Rattle.std.specs.Prelude.{◌≡◌, ℕ, ◌+◌, ◌*◌, ◌/◌, ◌%◌, ◌^◌, ◌<◌, ◌≤◌, length, map, true, IfOk, IfErr};
-ghost use Rattle.capnp_model.specs.Trees.{Tree, Trees, size_bits};
+ghost use Rattle.std.specs.Prelude.{◌≡◌, ℕ, ◌+◌, ◌*◌, ◌/◌, ◌%◌, ◌^◌, ◌<◌, ◌≤◌, length, map, true, IfOk, IfErr, IfSome};
+ghost use Rattle.capnp_model.specs.Trees.{Tree, Trees, tree_count, size_bits, depths};
 ghost use Rattle.capnp_model.specs.Fits.{Fits, FitEach};
 ghost use Rattle.capnp_model.specs.Encoding.{pointer, list_pointer, body, links};
 ghost use Rattle.capnp_wire_canonical.specs.Writes.{words_view};
 ghost use Rattle.capnp_calls_splice.specs.declared.area.Unput.{Unput};
-ghost use Rattle.capnp_calls_splice.specs.Splices.{IsPlainList, IsElement};
-ghost use Rattle.capnp_calls_splice.specs.Cells.{IsStructWith, IsSizedStruct, IsPointerList, FitsInOffsets, shifted};
+ghost use Rattle.capnp_calls_splice.specs.Splices.{IsPlainList, TakesBlob, IsElement};
+ghost use Rattle.capnp_calls_splice.specs.Cells.{IsStructWith, IsSizedStruct, IsPointerList, FitsInOffsets, is_fixed, shifted};
 
 use crate::area::{Area, Run, Unput};
 use crate::plain::PlainSet;
@@ -86,6 +86,58 @@ pub(crate) fn plain_list_behind(word: u64, end: usize, count: usize) -> Result<R
     Ok(Run { start, len })
 }
 
+/// Whether a pointer tells no distance: null, a capability, or the pointer to an empty struct.
+#[inline(always)]
+fn is_fixed(word: u64) -> bool
+    ensures { result ≡ is_fixed word }
+{
+    word == 0 || (word % 4 == 3 || word == EMPTY)
+}
+
+/// Where what the first of pointers in a row leads to begins that tells a distance; the row begins
+/// at a word. `None` where none does.
+#[inline]
+fn first_target(slice: &[Word], at: usize) -> Option<usize>
+    requires { at + length slice.now < 2 ^ 60 }
+    ensures begins { (behind before : ℕ) (ts : Trees) → FitEach ts → FitsInOffsets behind before ts
+        → words_view slice.now ≡ links behind before ts
+        → IfSome result (λ n. (0 < depths ts) × (n ≡ at + (tree_count ts + behind + before))) }
+    ensures behind { IfSome result (λ n. at < n) }
+{
+    for i in 0..slice.len() {
+        let word = u64::from_le_bytes(slice[i]);
+        if !is_fixed(word) {
+            return Some(at + i + 1 + gap_of(word));
+        }
+    }
+    None
+}
+
+/// The words in whose place those of a text or data come, where a pointer is followed by others of
+/// its struct. They are those of the plain list that it leads to. Where it is null there are none:
+/// they would begin where what the first of the others leads to begins that tells a distance.
+/// `Place` where it leads to something else or past n words, or where no other tells a distance.
+#[inline]
+pub(crate) fn blob_run(word: u64, others: &[Word], at: usize, count: usize) -> Result<Run, Unput>
+    requires { (at + length others.now ≤ count) × (count < 2 ^ 29) }
+    ensures behind { (behind before : ℕ) (t : Tree) (ts : Trees) → Fits t → FitEach ts
+        → FitsInOffsets behind (before + length (body t)) ts
+        → word ≡ pointer (tree_count ts + behind + before) t
+        → words_view others.now ≡ links behind (before + length (body t)) ts
+        → IfOk result (λ r. TakesBlob (depths ts) t × (r.len ≡ length (body t))
+        × (r.start ≡ at + (tree_count ts + behind + before))) }
+    ensures within { IfOk result (λ r. (at ≤ r.start) × (r.start + r.len ≤ count)) }
+    ensures kind { IfErr result (λ why. why ≡ Unput.Place) }
+{
+    if word != 0 {
+        return plain_list_behind(word, at, count);
+    }
+    match first_target(others, at) {
+        Some(start) if start <= count => Ok(Run { start, len: 0 }),
+        _ => Err(Unput::Place),
+    }
+}
+
 /// Whether a number takes the place of the element at an index of the plain list that a pointer
 /// leads to: the elements are of its width, and its place is that of the element.
 #[inline]
@@ -140,14 +192,13 @@ pub(crate) fn sized_pointer(word: u64, data_words: usize, pointers: usize) -> u6
     word % 0x1_0000_0000 + ((data_words as u64) << 32) + ((pointers as u64) << 48)
 }
 
-/// The pointer to a list of n bytes that begins where that of another pointer does.
+/// The pointer to a list of n bytes that begins so many words behind it.
 #[inline]
-pub(crate) fn bytes_pointer(word: u64, len: u32) -> u64
-    requires { len < 2 ^ 29 }
-    ensures { (gap size n : ℕ) → gap < 2 ^ 30 → word ≡ list_pointer gap size n
-        → result ≡ list_pointer gap 2 len }
+pub(crate) fn bytes_pointer(gap: usize, len: u32) -> u64
+    requires { (gap < 2 ^ 30) × (len < 2 ^ 29) }
+    ensures { result ≡ list_pointer gap 2 len }
 {
-    word % 0x1_0000_0000 + 0x2_0000_0000 + 0x8_0000_0000 * len as u64
+    0x2_0000_0001 + 4 * gap as u64 + 0x8_0000_0000 * len as u64
 }
 
 /// A pointer with so much more, but for one that tells no distance.

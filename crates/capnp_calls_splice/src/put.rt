@@ -17,8 +17,8 @@ use crate::data::{put_member, put_number};
 use crate::elements::{element_at, move_elements, structs_behind};
 use crate::plain::PlainSet;
 use crate::pointers::{
-    bytes_pointer, is_element, move_pointers, plain_list_behind, pointers_behind, sized_pointer,
-    struct_behind,
+    blob_run, bytes_pointer, is_element, move_pointers, plain_list_behind, pointers_behind,
+    sized_pointer, struct_behind,
 };
 use crate::splice::{Hop, Put, Splice, Spliced};
 use crate::tails::replace;
@@ -65,7 +65,7 @@ fn stays(area: Area, count: usize) -> Placed
     }
 }
 
-/// Puts a text or data in place of the plain list behind a pointer of a struct.
+/// Puts a text or data behind a pointer of a struct, in place of the plain list there or of null.
 fn put_blob(
     words: &mut [Word],
     count: usize,
@@ -81,15 +81,16 @@ fn put_blob(
     ensures len { length words.new ≡ length words.old }
 {
     let slot = slot_of(words, area, pointer)?;
-    let run = plain_list_behind(slot.word, slot.at + 1, count)?;
+    let behind = slot.at + 1;
+    let run = blob_run(slot.word, &words[behind..slot.end], behind, count)?;
     let now = replace(words, count, run, &blob.words)?;
-    words[slot.at] = bytes_pointer(slot.word, blob.len).to_le_bytes();
+    words[slot.at] = bytes_pointer(run.start - behind, blob.len).to_le_bytes();
     move_pointers(&mut words[slot.at + 1..slot.end], count, now);
     Ok(stays(area, now))
 }
 
-/// Puts a text or data in place of a plain list at an index of the list of pointers behind a
-/// pointer of a struct.
+/// Puts a text or data at an index of the list of pointers behind a pointer of a struct, in place
+/// of a plain list or of null.
 fn put_blob_at(
     words: &mut [Word],
     count: usize,
@@ -283,7 +284,8 @@ fn make_room(words: &mut Vec<Word>, count: usize) -> Result<(), Error>
 /// it: a struct, the root among them, has as many data words then as it needs. It has no place
 /// where
 /// - the hops lead elsewhere than to a struct that has a word or a pointer;
-/// - a text or data takes the place of no other, or of no list of bytes, bits or numbers;
+/// - a text or data takes the place of a list of others than bytes, bits or numbers;
+/// - it takes the place of null, and no later pointer of the struct or list leads to words;
 /// - a list has no element at the index, or its elements are neither pointers, for a text or data,
 ///   nor of the number's width;
 /// - the struct would have 2^16 data words or more, or the message 2^29 words or more.

@@ -19,7 +19,7 @@ pub enum Hop {
 pub enum Put {
     /// A number, into its data.
     Number(PlainSet),
-    /// A text or data, in place of the list of bytes, bits or numbers behind a pointer.
+    /// A text or data, in place of null or of the list of bytes, bits or numbers behind a pointer.
     Blob {
         pointer: u32,
         blob: Blob,
@@ -29,8 +29,8 @@ pub enum Put {
         mark: PlainSet,
         number: Option<PlainSet>,
     },
-    /// A text or data, in place of a list of bytes, bits or numbers at an index of the list of
-    /// pointers behind a pointer.
+    /// A text or data, in place of null or of a list of bytes, bits or numbers at an index of the
+    /// list of pointers behind a pointer.
     BlobAt {
         pointer: u32,
         index: u32,

@@ -18,7 +18,7 @@ returns-in-Ok-clause-changes c = λ f cell st.
     let w : ℕ = c.args.set.word + 1 in
     let k : ℕ = c.count_needed-needed.result in
     let more = c.in_ok-more in
-    let put = take a.at c.resize_data.new.words ++ (c.put-2.new.slice ++ drop (a.at + w - a.at) (drop a.at c.resize_data.new.words)) in
-    sized_number c.args.set a f cell w (a.at + w - a.at) k more.more c.in-Ok.now (filled c.args.count c.args.words.now) c.resize_data.new.words c.put-2.new.slice put c.resize_data-2.new.words st (omega arith) (omega arith) (omega arith)
+    let put = take a.at c.fit_data.new.words ++ (c.put-2.new.slice ++ drop (a.at + w - a.at) (drop a.at c.fit_data.new.words)) in
+    sized_number c.args.set a f cell w (a.at + w - a.at) k more.more c.in-Ok.now (filled c.args.count c.args.words.now) c.fit_data.new.words c.put-2.new.slice put c.fit_data-2.new.words st (omega arith) (omega arith) (omega arith)
     (more.ensures.stands f cell st (wider cell.section (64 * a.data_words) (64 * w) (omega arith) st.section)) more.ensures.within.inside c.put-2.ensures.words c.put-2.ensures.len refl c.count_needed-needed.ensures.needed
-    (λ g e. subst (λ (b : Area). StandsIn b g e (filled more.more put) → e.section < 2 ^ (64 * k) → StandsIn (with_data_words b k) g e (filled c.in-Ok.now c.resize_data-2.new.words)) c.with_data_words.ensures (c.in-Ok.ensures.stands g e))
+    (λ g e. subst (λ (b : Area). StandsIn b g e (filled more.more put) → e.section < 2 ^ (64 * k) → StandsIn (with_data_words b k) g e (filled c.in-Ok.now c.fit_data-2.new.words)) c.with_data_words.ensures (c.in-Ok.ensures.stands g e))

@@ -1,5 +1,5 @@
--- The list behind the pointer is replaced.
-use Rattle.std.proofs.Common.{◌≡◌, ℕ, ◌+◌, ◌-◌, List, ◌++◌, take, drop, set, ap, sym, subst, ◌∙◌, arith}
+-- The words behind the pointer are replaced.
+use Rattle.std.proofs.Common.{◌≡◌, ℕ, ◌+◌, ◌-◌, List, ◌++◌, take, drop, set, refl, ap, sym, subst, ◌∙◌, arith}
 use Rattle.std.specs.Int.{from_le_bytes, w64}
 use Rattle.std.proofs.lemmas.Nat.{from_le_bytes-to_le_bytes_8}
 use Rattle.capnp_wire_canonical.specs.Writes.{words_view, filled}
@@ -25,7 +25,7 @@ returns-clause-changes c = λ f cell st.
     let within = c.in_ok-now.ensures.within in
     let after = set c.replace.new.words slot.at c.to_le_bytes.result in
     subst (λ (q : Placed). HasChanged (PutsIntoCell (puts.Blob i b)) area f cell q.data_words (filled q.count (take a after ++ (c.move_pointers.new.slice ++ drop m (drop a after))))) (sym c.stays.ensures)
-    (blob_put b area f cell i slot.at slot.word v c.args.count now c.to_le_bytes.result c.in_ok-run.run' c.args.words.now c.replace.new.words c.move_pointers.new.slice a m st (omega arith) c.requires.own c.requires.inside c.requires.few (omega arith) (omega arith) place.0 (omega arith) (omega arith)
-    c.in_ok-slot.ensures.word (λ gap t fits near e. let r = c.in_ok-run.ensures.behind gap t fits near e in (r.0, r.1 ∙ (omega arith), r.2))
+    (blob_put b area f cell i slot.at slot.word v c.args.count now c.to_le_bytes.result c.in_ok-run.run' c.args.words.now c.replace.new.words c.move_pointers.new.slice a m m st (omega arith) c.requires.own c.requires.inside c.requires.few (omega arith) (omega arith) place.0 (omega arith) (omega arith) refl
+    c.in_ok-slot.ensures.word c.in_ok-run.ensures.behind
     (λ x l r e at long. c.in_ok-now.ensures.words x l r e at long ∙ ap (λ (ws : List (List ℕ)). x ++ (words_view ws ++ r)) c.deref.ensures.value)
     c.bytes_pointer.ensures spells c.move_pointers.ensures.moved)
