@@ -230,8 +230,9 @@ fn answer_unknown<M: ReaderArena>(
 /// - an element of a list of plain values, texts or data.
 ///
 /// Its way goes through structs, groups and elements of lists of structs. No field before the last,
-/// and no such list, is a member of a union. All that is on the way is there, and a text, data or
-/// element takes the place of an old one. No element of a list of structs gets wider or narrower.
+/// and no such list, is a member of a union. All that is on the way is there, and an element takes
+/// the place of an old one. So does a text or data, or else the place of null where another pointer
+/// of its struct or list leads to words. No element of a list of structs gets wider or narrower.
 ///
 /// Where what the first call puts has no place, the message isn't read again: its value is copied
 /// into the region from where it stands in the buffer. It is read once more where
