@@ -1,5 +1,5 @@
 -- What is put into an element of a list behind a pointer of a struct stands there.
-use Rattle.std.proofs.Common.{◌≡◌, ℕ, suc, ◌+◌, ◌-◌, ◌*◌, ◌^◌, ◌<◌, ◌≤◌, List, [], ◌∷◌, ◌++◌, length, take, drop, get_or, refl, ap, sym, subst, ◌∙◌, append_assoc, length-append, arith}
+use Rattle.std.proofs.Common.{◌≡◌, ℕ, suc, ◌+◌, ◌-◌, ◌*◌, ◌^◌, ◌<◌, ◌≤◌, None, List, [], ◌∷◌, ◌++◌, length, take, drop, get_or, refl, ap, sym, subst, ◌∙◌, append_assoc, length-append, arith}
 use Rattle.std.specs.Int.{from_le_bytes, w64}
 use Rattle.capnp_model.specs.Sections.{words_of}
 use Rattle.capnp_model.specs.Trees.{Tree, null, capability, structure, plain_list, pointer_list, struct_list, Elements, tree_count, element_count, child}
@@ -10,7 +10,7 @@ use Rattle.capnp_model.proofs.lemmas.Numbers.{length-numbers_in}
 use Rattle.capnp_model.proofs.lemmas.RoundTrip.{links_length}
 use Rattle.capnp_wire_canonical.specs.Writes.{filled}
 use Rattle.capnp_calls_splice.specs.Splices.{PutsBehind, InList}
-use Rattle.capnp_calls_splice.specs.Cells.{Frame, framed, StandsIn, HasPut, ChangesArea, IsStructs, MovesElements}
+use Rattle.capnp_calls_splice.specs.Cells.{Frame, framed, StandsIn, HasPut, ChangesUpTo, IsStructs, MovesElements}
 use Rattle.capnp_calls_splice.specs.declared.area.Area.{Area}
 use Rattle.capnp_calls_splice.specs.declared.area.Placed.{Placed}
 use Rattle.capnp_calls_splice.specs.declared.area.Structs.{Structs}
@@ -78,7 +78,7 @@ module _ (put : Put) (way : List Hop) (area inner : Area) (list : Structs) (f : 
     (at : a ≡ area.at + area.data_words + i + 1) (size : m ≡ area.at + area.data_words + area.pointers - a)
     (less : j < list.count) (place : inner.at ≡ list.first + j * (list.data_words + list.pointers)) (words : inner.data_words ≡ list.data_words) (slots_are : inner.pointers ≡ list.pointers)
     (first : list.first ≡ area.at + area.data_words + i + 1 + slot_gap f c i + 1)
-    (rec : ChangesArea (PutsBehind put way) inner count xs mid q)
+    (rec : ChangesUpTo (PutsBehind put way) inner None count xs mid q)
     (shift : MovesElements list j count q.count mid after)
     (move : Moves count q.count (take m (drop a after)) ys) where
   abbrev now : ℕ
@@ -114,7 +114,7 @@ module _ (put : Put) (way : List Hop) (area inner : Area) (list : Structs) (f : 
         pointers = cell_fit.pointers ∙ sym slots_are;
         each = cell_fit.each;
       } in
-      let h = rec g own stands in
+      let h = rec g own tt stands in
       let new : Cell = h.cell in
       let to : ℕ = length (bodies new.kids) in
       let ds : Elements = with_cell j new es in
@@ -173,7 +173,7 @@ pub element_put : (put : Put) (way : List Hop) (area inner : Area) (list : Struc
     → ((gap : ℕ) (t : Tree) (x r : List ℕ) → Fits t → gap < 2 ^ 30 → p ≡ pointer gap t → filled count xs ≡ x ++ (body t ++ r) → length x ≡ area.at + area.data_words + i + 1 + gap
     → IsStructs list t × (list.first ≡ area.at + area.data_words + i + 1 + gap + 1))
     → (j < list.count) × (inner.at ≡ list.first + j * (list.data_words + list.pointers)) × (inner.data_words ≡ list.data_words) × (inner.pointers ≡ list.pointers)
-    → ChangesArea (PutsBehind put way) inner count xs mid q
+    → ChangesUpTo (PutsBehind put way) inner None count xs mid q
     → MovesElements list j count q.count mid after
     → Moves count q.count (take m (drop a after)) ys
     → HasPut put (hops.Element i j ∷ way) area f c area.data_words (filled q.count (take a after ++ (ys ++ drop m (drop a after))))

@@ -1,11 +1,11 @@
 -- Where structs and elements stand among canonical words. (Encoding, "Structs" and "Lists")
-use Rattle.std.specs.Prelude.{◌≡◌, ℕ, ◌+◌, ◌*◌, ◌%◌, ◌^◌, ◌<◌, ◌≤◌, Bool, ◌||◌, nat_eq, if◌then◌else◌, List, ◌++◌, length, ⊤}
+use Rattle.std.specs.Prelude.{◌≡◌, ℕ, ◌+◌, ◌*◌, ◌%◌, ◌^◌, ◌<◌, ◌≤◌, Bool, ◌||◌, nat_eq, if◌then◌else◌, Option, IfSome, List, ◌++◌, length, ⊤}
 use Rattle.capnp_model.specs.Sections.{words_of}
 use Rattle.capnp_model.specs.Trees.{Tree, Trees, Elements, structure, pointer_list, struct_list, element_count, tree_count}
 use Rattle.capnp_model.specs.Fits.{FitEach, FitElements}
 use Rattle.capnp_model.specs.Encoding.{links, bodies, cells, element_bodies}
 use Rattle.capnp_model.specs.Edits.{Cell}
-use Rattle.capnp_wire_canonical.specs.Writes.{filled}
+use Rattle.capnp_wire_canonical.specs.Writes.{words_view, filled}
 use Rattle.capnp_calls_splice.specs.Splices.{PutsBehind, StandsWithin}
 use Rattle.capnp_calls_splice.specs.declared.area.Area.{Area}
 use Rattle.capnp_calls_splice.specs.declared.area.Placed.{Placed}
@@ -56,6 +56,10 @@ HasPut put way area f old m words = HasChanged (PutsBehind put way) area f old m
 abbrev pub ChangesArea : (ℕ → ℕ → Cell → Cell → Type 0) → Area → ℕ → List (List ℕ) → List (List ℕ) → Placed → Type 0
 ChangesArea Changes area count from to p = (f : Frame) (c : Cell) → StandsIn area f c (filled count from) → HasChanged Changes area f c p.data_words (filled p.count to)
 
+-- It is, where what it leads to ends at a word, if that is told.
+abbrev pub ChangesUpTo : (ℕ → ℕ → Cell → Cell → Type 0) → Area → Option ℕ → ℕ → List (List ℕ) → List (List ℕ) → Placed → Type 0
+ChangesUpTo Changes area end count from to p = (f : Frame) (c : Cell) → IfSome end (λ e. e + length f.back ≡ count) → StandsIn area f c (filled count from) → HasChanged Changes area f c p.data_words (filled p.count to)
+
 -- The words that are used then are among those of a message, and the data are no more than a struct's.
 abbrev pub IsWithin : List (List ℕ) → Placed → Type 0
 IsWithin to p = StandsWithin to p.count × (p.data_words < 2 ^ 16)
@@ -103,6 +107,16 @@ shifted by w = if is_fixed w then w else (w + by) % 2 ^ 64
 -- What pointers in a row lead to lies in a message.
 abbrev pub FitsInOffsets : ℕ → ℕ → Trees → Type 0
 FitsInOffsets behind before ts = tree_count ts + behind + before + length (bodies ts) < 2 ^ 30
+
+-- These are the pointers to values in a row: before them lie m words of other targets, and n words of the object lie behind them.
+pub record AreLinks (n m : ℕ) (ts : Trees) (slice : List (List ℕ)) : Type 0 where
+  pub fit : FitEach ts
+  pub near : FitsInOffsets n m ts
+  pub spelled : words_view slice ≡ links n m ts
+
+-- An end, if it is told, is a word.
+abbrev pub IsEnd : Option ℕ → ℕ → Type 0
+IsEnd end n = IfSome end (λ e. e ≡ n)
 
 -- What the pointers of elements lead to lies in a message.
 abbrev pub AreNear : ℕ → ℕ → ℕ → Elements → Type 0
