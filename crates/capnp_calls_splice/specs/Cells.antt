@@ -1,5 +1,5 @@
 -- Where structs and elements stand among canonical words. (Encoding, "Structs" and "Lists")
-use Rattle.std.specs.Prelude.{◌≡◌, ℕ, ◌+◌, ◌*◌, ◌%◌, ◌^◌, ◌<◌, ◌≤◌, Bool, ◌||◌, nat_eq, if◌then◌else◌, Option, IfSome, List, ◌++◌, length, ⊤}
+use Rattle.std.specs.Prelude.{◌≡◌, ℕ, ◌+◌, ◌-◌, ◌*◌, ◌%◌, ◌^◌, ◌<◌, ◌≤◌, Bool, ◌||◌, nat_eq, if◌then◌else◌, Option, IfSome, List, ◌++◌, length, take, drop, ⊤}
 use Rattle.capnp_model.specs.Sections.{words_of}
 use Rattle.capnp_model.specs.Trees.{Tree, Trees, Elements, structure, pointer_list, struct_list, element_count, tree_count}
 use Rattle.capnp_model.specs.Fits.{FitEach, FitElements}
@@ -122,10 +122,29 @@ IsEnd end n = IfSome end (λ e. e ≡ n)
 abbrev pub AreNear : ℕ → ℕ → ℕ → Elements → Type 0
 AreNear before d k es = element_count es * (d + k) + before + length (element_bodies es) < 2 ^ 30
 
+-- These are the words of elements in a row, before which lie m words of other targets.
+pub record AreCells (m d k : ℕ) (es : Elements) (slice : List (List ℕ)) : Type 0 where
+  pub fit : FitElements d k es
+  pub near : AreNear m d k es
+  pub spelled : words_view slice ≡ cells m d k es
+
 -- The value is a list of n structs of these sizes.
 abbrev pub IsStructs : Structs → Tree → Type 0
 IsStructs l (struct_list words pointers es) = (l.count ≡ element_count es) × (l.data_words ≡ words) × (l.pointers ≡ pointers)
 IsStructs l _ = ⊥
+
+-- The word where the elements behind one begin.
+abbrev pub place_behind : Structs → ℕ → ℕ
+place_behind l index = l.first + (index + 1) * (l.data_words + l.pointers)
+
+-- Their words, among those of a message.
+abbrev pub words_of_later : Structs → ℕ → List (List ℕ) → List (List ℕ)
+words_of_later l index words = take (l.first + l.count * (l.data_words + l.pointers) - place_behind l index) (drop (place_behind l index) words)
+
+-- Where their targets begin, if it is told where they end.
+abbrev pub TellsBegin : Structs → ℕ → Option ℕ → List (List ℕ) → Option ℕ → Type 0
+TellsBegin l index end words begin = (m : ℕ) (es : Elements) → element_count es + (index + 1) ≡ l.count → AreCells m l.data_words l.pointers es (words_of_later l index words)
+    → IsEnd end (place_behind l index + length (words_of_later l index words) + m + length (element_bodies es)) → IsEnd begin (place_behind l index + length (words_of_later l index words) + m)
 
 -- What the pointers of the elements behind one lead to is moved, as a message of n words gets m.
 abbrev pub MovesElements : Structs → ℕ → ℕ → ℕ → List (List ℕ) → List (List ℕ) → Type 0

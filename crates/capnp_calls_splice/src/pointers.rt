@@ -97,7 +97,7 @@ fn is_fixed(word: u64) -> bool
 /// Where what the first of pointers in a row leads to begins that tells a distance; the row begins
 /// at a word. `None` where none does.
 #[inline]
-fn first_target(slice: &[Word], at: usize) -> Option<usize>
+pub(crate) fn first_target(slice: &[Word], at: usize) -> Option<usize>
     requires { at + length slice.now < 2 ^ 60 }
     ensures begins { (n m : ℕ) (ts : Trees) → AreLinks n m ts slice.now
         → MatchOption result (bodies ts ≡ [])

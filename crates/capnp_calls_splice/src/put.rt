@@ -14,7 +14,7 @@ ghost use Rattle.capnp_calls_splice.specs.Cells.{ChangesArea, ChangesUpTo, stays
 use crate::area::{Area, Placed, Unput};
 use crate::blob::Blob;
 use crate::data::{put_member, put_number};
-use crate::elements::{element_at, move_elements, structs_behind};
+use crate::elements::{element_at, end_of_element, move_elements, structs_behind};
 use crate::plain::PlainSet;
 use crate::pointers::{
     blob_run, bytes_pointer, end_before, is_element, move_pointers, plain_list_behind,
@@ -229,7 +229,9 @@ fn put_in_cell(
             let slot = slot_of(words, area, pointer)?;
             let list = structs_behind(words, count, slot.word, slot.at + 1)?;
             let element = element_at(list, index)?;
-            let placed = put_in_cell(words, count, element, None, rest, put)?;
+            let after = end_before(&words[slot.at + 1..slot.end], slot.at + 1, end);
+            let own = end_of_element(words, list, index, after);
+            let placed = put_in_cell(words, count, element, own, rest, put)?;
             if placed.data_words != list.data_words {
                 return Err(Unput::Spoiled);
             }
@@ -319,8 +321,6 @@ fn make_room(words: &mut Vec<Word>, count: usize) -> Result<(), Error>
 /// - a text or data takes the place of a list of others than bytes, bits or numbers;
 /// - it takes the place of null, and no other pointer of the struct or list leads to a list or to a
 ///   struct with words;
-/// - it takes the place of null in an element of a list of structs, or below one, and what lies
-///   there last begins in front of it;
 /// - a list has no element at the index, or its elements are neither pointers, for a text or data,
 ///   nor of the number's width;
 /// - the struct would have 2^16 data words or more, or the message 2^29 words or more.

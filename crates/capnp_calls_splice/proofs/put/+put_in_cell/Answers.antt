@@ -54,7 +54,7 @@ returns-else-placed-list-clause-changes t c = λ f cell ended st.
     c.requires.own c.requires.inside c.requires.few put.within.0.few put.within.0.inside (grind arith) c.move_elements.ensures.len (omega arith) (omega arith)
     (c.in_ok-slot-in-Element.ensures.word ∙ ap (λ (k : ℕ). from_le_bytes w64 (get_or c.args.words.now k [])) place.0)
     (λ gap u x r fits near e spelled at. let is = c.in_ok-list-in-Element.ensures.behind gap u x r fits near e spelled (at ∙ (omega arith)) in (is.0, is.1 ∙ (omega arith)))
-    c.in_ok-element-in-Element.ensures.place put.changes c.move_elements.ensures.moved c.move_pointers-in-Element.ensures.moved))
+    c.in_ok-element-in-Element.ensures.place c.args.end c.end_before-after.result c.end_of_element-own.result ended m refl c.end_before-after.ensures.tells c.end_of_element-own.ensures.tells put.changes c.move_elements.ensures.moved c.move_pointers-in-Element.ensures.moved))
 
 pub returns-in-Group-clause-changes : goal.returns-in-Group-clause-changes
 returns-in-Group-clause-changes t c =
