@@ -45,6 +45,11 @@ child-fits none i f = tt
 child-fits (u ▸ ts) zero f = f.0
 child-fits (u ▸ ts) (suc i) f = child-fits ts i f.1
 
+pub fronts-fit : (ts : Trees) (i : ℕ) → FitEach ts → FitEach (fronts i ts)
+fronts-fit none i f = tt
+fronts-fit (u ▸ ts) zero f = tt
+fronts-fit (u ▸ ts) (suc i) f = (f.0, fronts-fit ts i f.1)
+
 pub backs-fit : (ts : Trees) (i : ℕ) → FitEach ts → FitEach (backs i ts)
 backs-fit none i f = tt
 backs-fit (u ▸ ts) zero f = f.1

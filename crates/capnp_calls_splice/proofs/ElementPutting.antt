@@ -1,16 +1,18 @@
 -- What is put into an element of a list behind a pointer of a struct stands there.
-use Rattle.std.proofs.Common.{◌≡◌, ℕ, suc, ◌+◌, ◌-◌, ◌*◌, ◌^◌, ◌<◌, ◌≤◌, List, [], ◌∷◌, ◌++◌, length, take, drop, get_or, refl, ap, sym, subst, ◌∙◌, append_assoc, length-append, arith}
+use Rattle.std.proofs.Common.{◌≡◌, ℕ, suc, ◌+◌, ◌-◌, ◌*◌, ◌^◌, ◌<◌, ◌≤◌, Option, List, [], ◌∷◌, ◌++◌, length, take, drop, get_or, refl, ap, sym, subst, ◌∙◌, append_assoc, length-append, arith}
+use Rattle.std.specs.Prelude.{IfSome}
 use Rattle.std.specs.Int.{from_le_bytes, w64}
+use Rattle.std.proofs.lemmas.List.{length-map}
 use Rattle.capnp_model.specs.Sections.{words_of}
-use Rattle.capnp_model.specs.Trees.{Tree, null, capability, structure, plain_list, pointer_list, struct_list, Elements, tree_count, element_count, child}
+use Rattle.capnp_model.specs.Trees.{Tree, null, capability, structure, plain_list, pointer_list, struct_list, Trees, Elements, tree_count, element_count, child}
 use Rattle.capnp_model.specs.Fits.{Fits, FitElements}
 use Rattle.capnp_model.specs.Encoding.{pointer, struct_pointer, list_pointer, body, links, bodies, cells, element_bodies}
 use Rattle.capnp_model.specs.Edits.{Cell, put_child}
 use Rattle.capnp_model.proofs.lemmas.Numbers.{length-numbers_in}
 use Rattle.capnp_model.proofs.lemmas.RoundTrip.{links_length}
-use Rattle.capnp_wire_canonical.specs.Writes.{filled}
+use Rattle.capnp_wire_canonical.specs.Writes.{words_view, filled}
 use Rattle.capnp_calls_splice.specs.Splices.{PutsBehind, InList}
-use Rattle.capnp_calls_splice.specs.Cells.{Frame, framed, StandsIn, HasPut, ChangesArea, IsStructs, MovesElements}
+use Rattle.capnp_calls_splice.specs.Cells.{Frame, framed, StandsIn, HasPut, ChangesUpTo, AreLinks, IsEnd, AreNear, AreCells, IsStructs, place_behind, words_of_later, TellsBegin, MovesElements}
 use Rattle.capnp_calls_splice.specs.declared.area.Area.{Area}
 use Rattle.capnp_calls_splice.specs.declared.area.Placed.{Placed}
 use Rattle.capnp_calls_splice.specs.declared.area.Structs.{Structs}
@@ -19,8 +21,9 @@ use Rattle.capnp_calls_splice.specs.declared.splice.Hop.TheVariants as hops
 use Rattle.capnp_calls_splice.specs.declared.splice.Put.{Put}
 use Rattle.capnp_calls_splice.proofs.Children as slots
 use Rattle.capnp_calls_splice.proofs.ElementParts.{fronts, backs, cell_at, with_cell, cell-parts, in_elements, fronts_count, backs_count, with_cell-count, FitsCell, cell-fits, fronts-fit, backs-fit, with_cell-fits, cells_before, cells_before-length, cells_length, around}
-use Rattle.capnp_calls_splice.proofs.Segmenting.{filled_length}
-use Rattle.capnp_calls_splice.proofs.Placing.{slot_front, slot_gap, slot_later, slot_between, slot_back, slotted, own_slot, slot_place, slot_near, moved}
+use Rattle.capnp_calls_splice.proofs.Segmenting.{filled_length, part_is}
+use Rattle.capnp_calls_splice.proofs.ElementTargets.{end_is, end_back}
+use Rattle.capnp_calls_splice.proofs.Placing.{slot_front, slot_gap, slot_later, slot_between, slot_back, slotted, own_slot, slot_place, slot_near, own_end, moved}
 use Rattle.capnp_calls_splice.proofs.Putting.{Moves, pointer_there, regrouped as split}
 
 pub framed_length : (d : ℕ) (f : Frame) (c : Cell) → length (framed d f c) ≡ length f.front + (d + (tree_count c.kids + (length f.middle + (length (bodies c.kids) + length f.back))))
@@ -36,6 +39,29 @@ framed_length d f c =
 
 regrouped : (x w l ce ef r : List ℕ) → x ++ (w ++ (l ++ ((ce ++ ef) ++ r))) ≡ (x ++ (w ++ l)) ++ (ce ++ (ef ++ r))
 regrouped x w l ce ef r = simp append_assoc
+
+-- Where what an element leads to ends, behind which lie the targets of those behind it and more words.
+element_end : (w k j count : ℕ) (list : Structs) (own after : Option ℕ) (more m : ℕ) (es : Elements) (xs : List (List ℕ)) (x r : List ℕ) → count ≤ length xs → count < 2 ^ 29 → filled count xs ≡ x ++ (cells m w k es ++ r) → FitElements w k es
+    → list.data_words ≡ w → list.pointers ≡ k → element_count es + (j + 1) ≡ list.count → length x ≡ list.first + (j + 1) * (w + k) → length r ≡ m + (length (element_bodies es) + more)
+    → IfSome after (λ e. e + more ≡ count) → TellsBegin list j after xs own → IfSome own (λ e. e + (length (element_bodies es) + more) ≡ count)
+element_end w k j count list own after more m es xs x r room few parts fit words pointers many at rest ends tells =
+    let a : ℕ = place_behind list j in
+    let size : ℕ = list.first + list.count * (list.data_words + list.pointers) - place_behind list j in
+    let wide : list.data_words + list.pointers ≡ w + k = omega (arith, words, pointers) in
+    let begins : length x ≡ a = at ∙ ap (λ (z : ℕ). list.first + (j + 1) * z) (sym wide) in
+    let total : list.count * (list.data_words + list.pointers) ≡ element_count es * (w + k) + (j + 1) * (w + k) = ap (λ (z : ℕ). z * (list.data_words + list.pointers)) (sym many) ∙ ap (λ (z : ℕ). (element_count es + (j + 1)) * z) wide ∙ omega arith in
+    let cells_are = cells_length m w k es fit in
+    let long : length (cells m w k es) ≡ size = omega (arith, cells_are, total, begins, at) in
+    let spelled : words_view (words_of_later list j xs) ≡ cells m w k es = part_is xs count a size x (cells m w k es) r parts begins long in
+    let slice : length (words_of_later list j xs) ≡ element_count es * (w + k) = sym (length-map (words_of_later list j xs) (from_le_bytes w64)) ∙ ap length spelled ∙ cells_are in
+    let used = filled_length xs count room in
+    let all = ap length parts in
+    let first = length-append x (cells m w k es ++ r) in
+    let second = length-append (cells m w k es) r in
+    let near : AreNear m w k es = omega (arith, used, all, first, second, cells_are, rest, few) in
+    let are : AreCells m list.data_words list.pointers es (words_of_later list j xs) = subst (λ (z : ℕ). AreCells m z list.pointers es (words_of_later list j xs)) (sym words) (subst (λ (z : ℕ). AreCells m w z es (words_of_later list j xs)) (sym pointers) (record { fit = fit; near = near; spelled = spelled })) in
+    let known = tells m es many are (end_is after (place_behind list j + length (words_of_later list j xs) + m + length (element_bodies es)) more count (omega (arith, used, all, first, second, cells_are, rest, slice, begins)) ends) in
+    end_back own (place_behind list j + length (words_of_later list j xs) + m) (length (element_bodies es) + more) count (omega (arith, used, all, first, second, cells_are, rest, slice, begins)) known
 
 -- ---- the frame of an element
 
@@ -78,7 +104,8 @@ module _ (put : Put) (way : List Hop) (area inner : Area) (list : Structs) (f : 
     (at : a ≡ area.at + area.data_words + i + 1) (size : m ≡ area.at + area.data_words + area.pointers - a)
     (less : j < list.count) (place : inner.at ≡ list.first + j * (list.data_words + list.pointers)) (words : inner.data_words ≡ list.data_words) (slots_are : inner.pointers ≡ list.pointers)
     (first : list.first ≡ area.at + area.data_words + i + 1 + slot_gap f c i + 1)
-    (rec : ChangesArea (PutsBehind put way) inner count xs mid q)
+    (after_end own_end_at : Option ℕ) (ends : IfSome after_end (λ e. e + length (slot_back f c i) ≡ count)) (tells : TellsBegin list j after_end xs own_end_at)
+    (rec : ChangesUpTo (PutsBehind put way) inner own_end_at count xs mid q)
     (shift : MovesElements list j count q.count mid after)
     (move : Moves count q.count (take m (drop a after)) ys) where
   abbrev now : ℕ
@@ -114,7 +141,23 @@ module _ (put : Put) (way : List Hop) (area inner : Area) (list : Structs) (f : 
         pointers = cell_fit.pointers ∙ sym slots_are;
         each = cell_fit.each;
       } in
-      let h = rec g own stands in
+      let x0 : List ℕ = g.front ++ (words_of w own.section ++ links g.behind g.before own.kids) in
+      let r0 : List ℕ = element_bodies (fronts j es) ++ (bodies own.kids ++ g.back) in
+      let parts0 : filled count xs ≡ x0 ++ (cells (ef + z) w k (backs j es) ++ r0) =
+      spelled ∙ regrouped g.front (words_of w own.section) (links g.behind g.before own.kids) (cells (ef + z) w k (backs j es)) (element_bodies (fronts j es)) (bodies own.kids ++ g.back) in
+      let ended = element_end w k j count list own_end_at after_end (length (slot_back f c i)) (ef + z) (backs j es) xs x0 r0 room few parts0 (backs-fit w k es j fit) refl refl
+      (omega (arith, backs_count es j inside)) (
+      let b = length-append g.front (words_of w own.section ++ links g.behind g.before own.kids) in
+      let o = length-append (words_of w own.section) (links g.behind g.before own.kids) in
+      let q = length-numbers_in 64 w own.section in
+      let u = links_length own.kids g.behind g.before in
+      let kids_were = cell_fit.pointers in
+      omega arith) (
+      let b = length-append (element_bodies (fronts j es)) (bodies own.kids ++ g.back) in
+      let o = length-append (bodies own.kids) g.back in
+      let q = length-append (element_bodies (backs j es)) (slot_back f c i) in
+      omega arith) ends tells in
+      let h = rec g own (subst (λ (y : ℕ). IfSome own_end_at (λ e. e + y ≡ count)) (sym (length-append (element_bodies (backs j es)) (slot_back f c i))) ended) stands in
       let new : Cell = h.cell in
       let to : ℕ = length (bodies new.kids) in
       let ds : Elements = with_cell j new es in
@@ -173,11 +216,14 @@ pub element_put : (put : Put) (way : List Hop) (area inner : Area) (list : Struc
     → ((gap : ℕ) (t : Tree) (x r : List ℕ) → Fits t → gap < 2 ^ 30 → p ≡ pointer gap t → filled count xs ≡ x ++ (body t ++ r) → length x ≡ area.at + area.data_words + i + 1 + gap
     → IsStructs list t × (list.first ≡ area.at + area.data_words + i + 1 + gap + 1))
     → (j < list.count) × (inner.at ≡ list.first + j * (list.data_words + list.pointers)) × (inner.data_words ≡ list.data_words) × (inner.pointers ≡ list.pointers)
-    → ChangesArea (PutsBehind put way) inner count xs mid q
+    → (end after_end own : Option ℕ) → IfSome end (λ e. e + length f.back ≡ count)
+    → (z : ℕ) → z ≡ m → ((k1 m1 : ℕ) (ts : Trees) → AreLinks k1 m1 ts (take z (drop a xs)) → IsEnd end (a + (tree_count ts + k1 + m1) + length (bodies ts)) → IsEnd after_end (a + (tree_count ts + k1 + m1)))
+    → TellsBegin list j after_end xs own
+    → ChangesUpTo (PutsBehind put way) inner own count xs mid q
     → MovesElements list j count q.count mid after
     → Moves count q.count (take m (drop a after)) ys
     → HasPut put (hops.Element i j ∷ way) area f c area.data_words (filled q.count (take a after ++ (ys ++ drop m (drop a after))))
-element_put put way area inner list f c i j p count q xs mid after ys a m st l own room few short more keeps same at size is leads element rec shift move =
+element_put put way area inner list f c i j p count q xs mid after ys a m st l inside room few short more keeps same at size is leads element end after_end own ended z as_many begins tells rec shift move =
     let d : ℕ = area.data_words in
     let n : ℕ = length (body (child c.kids i)) in
     let head : ℕ = pointer (slot_gap f c i) (child c.kids i) in
@@ -195,4 +241,4 @@ element_put put way area inner list f c i j p count q xs mid after ys a m st l o
     let b = st.between in
     omega arith) in
     let found = leads (slot_gap f c i) (child c.kids i) (slot_front d f c i ++ head ∷ (slot_later f c i n ++ slot_between f c i)) (slot_back f c i) (slots.child-fits c.kids i st.each) near word spelled long in
-    in_list put way area inner list f c i j count q xs mid after ys a m st l room few short more (omega arith) keeps at size element.0 element.1 element.2 element.3 found.1 rec shift move (child c.kids i) refl found.0
+    in_list put way area inner list f c i j count q xs mid after ys a m st l room few short more (omega arith) keeps at size element.0 element.1 element.2 element.3 found.1 after_end own (own_end area f c i count xs a z end after_end st l room few at (as_many ∙ size) ended begins) tells rec shift move (child c.kids i) refl found.0

@@ -14,5 +14,6 @@ mod Putting
 mod ListPutting
 mod ElementParts
 mod ElementShifts
+mod ElementTargets
 mod ElementPutting
 mod Examples

@@ -1,5 +1,6 @@
 -- What is put at an index of a list behind a pointer of a struct stands there.
-use Rattle.std.proofs.Common.{◌≡◌, ℕ, suc, ◌+◌, ◌-◌, ◌*◌, ◌^◌, ◌<◌, ◌≤◌, List, [], ◌∷◌, ◌++◌, length, take, drop, get_or, refl, ap, sym, subst, ◌∙◌, length-append, arith}
+use Rattle.std.proofs.Common.{◌≡◌, ℕ, suc, ◌+◌, ◌-◌, ◌*◌, ◌^◌, ◌<◌, ◌≤◌, Option, List, [], ◌∷◌, ◌++◌, length, take, drop, get_or, refl, ap, sym, subst, ◌∙◌, length-append, arith}
+use Rattle.std.specs.Prelude.{IfSome}
 use Rattle.std.specs.Int.{from_le_bytes, w64}
 use Rattle.std.proofs.Math.Nat.{mul-le-mul_left}
 use Rattle.std.proofs.lemmas.List.{length-map}
@@ -16,7 +17,7 @@ use Rattle.capnp_wire_canonical.specs.Writes.{words_view, filled}
 use Rattle.capnp_calls_splice.specs.Blobs.{tree_of_blob}
 use Rattle.capnp_calls_splice.specs.DataWords.{put_set, AreData}
 use Rattle.capnp_calls_splice.specs.Splices.{IsPlainList, IsElement, PutsBlobAt, PutsIntoCell, set_element}
-use Rattle.capnp_calls_splice.specs.Cells.{Frame, framed, StandsIn, HasPut, ChangesArea, IsPointerList}
+use Rattle.capnp_calls_splice.specs.Cells.{Frame, framed, StandsIn, HasPut, ChangesUpTo, IsPointerList, AreLinks, IsEnd}
 use Rattle.capnp_calls_splice.specs.declared.area.Area.{Area}
 use Rattle.capnp_calls_splice.specs.declared.area.Placed.{Placed}
 use Rattle.capnp_calls_splice.specs.declared.area.Run.{Run}
@@ -25,7 +26,7 @@ use Rattle.capnp_calls_splice.specs.declared.plain.PlainSet.{PlainSet}
 use Rattle.capnp_calls_splice.specs.declared.splice.Put.TheVariants as puts
 use Rattle.capnp_calls_splice.proofs.Children.{fronts, backs, child-fits, with_child-fit}
 use Rattle.capnp_calls_splice.proofs.Segmenting.{filled_length, part_is, part_put}
-use Rattle.capnp_calls_splice.proofs.Placing.{slot_front, slot_gap, slot_later, slot_between, slot_back, slotted, own_slot, with_slot, slot_place, slot_near, moved, struct_frame, in_struct_frame}
+use Rattle.capnp_calls_splice.proofs.Placing.{slot_front, slot_gap, slot_later, slot_between, slot_back, slotted, own_slot, with_slot, slot_place, slot_near, own_end, moved, struct_frame, in_struct_frame}
 use Rattle.capnp_calls_splice.proofs.Putting.{Moves, pointer_there, regrouped}
 use Rattle.capnp_calls_splice.proofs.lemmas.DataWords.{long_as}
 
@@ -48,7 +49,7 @@ module _ (b : Blob) (area list : Area) (f : Frame) (c : Cell) (i k count : ℕ) 
     (st : StandsIn area f c (filled count xs)) (l : i < area.pointers) (room : count ≤ length xs) (few : count < 2 ^ 29) (short : q.count < 2 ^ 29) (more : q.count ≤ length mid)
     (at : a ≡ area.at + area.data_words + i + 1) (size : m ≡ area.at + area.data_words + area.pointers - a)
     (place : list.at ≡ area.at + area.data_words + i + 1 + slot_gap f c i) (bare : list.data_words ≡ 0)
-    (rec : ChangesArea (PutsIntoCell (puts.Blob k b)) list count xs mid q)
+    (ends_at : Option ℕ) (ends : IfSome ends_at (λ e. e + length (slot_back f c i) ≡ count)) (rec : ChangesUpTo (PutsIntoCell (puts.Blob k b)) list ends_at count xs mid q)
     (move : Moves count q.count (take m (drop a mid)) ys) where
   in_pointers : (ts : Trees) → child c.kids i ≡ pointer_list ts → list.pointers ≡ tree_count ts → HasPut (puts.BlobAt i k b) [] area f c area.data_words (filled q.count (take a mid ++ (ys ++ drop m (drop a mid))))
   in_pointers ts e pointers =
@@ -71,7 +72,7 @@ module _ (b : Blob) (area list : Area) (f : Frame) (c : Cell) (i k count : ℕ) 
         pointers = sym pointers;
         each = fits.1;
       } in
-      let h = rec g own stands in
+      let h = rec g own ends stands in
       let puts = h.changes in
       let t : Tree = pointer_list (with_child ts k (tree_of_blob b)) in
       let kids : h.cell.kids ≡ with_child ts k (tree_of_blob b) = ap (λ (z : Cell). z.kids) puts.2 in
@@ -102,13 +103,15 @@ pub blob_at_put : (b : Blob) (area list : Area) (f : Frame) (c : Cell) (i k s p 
     → s ≡ area.at + area.data_words + i → a ≡ area.at + area.data_words + i + 1 → m ≡ area.at + area.data_words + area.pointers - a
     → p ≡ from_le_bytes w64 (get_or xs s [])
     → ((gap : ℕ) (t : Tree) → Fits t → gap < 2 ^ 30 → p ≡ pointer gap t → IsPointerList list.pointers t × (list.at ≡ area.at + area.data_words + i + 1 + gap)) → list.data_words ≡ 0
-    → ChangesArea (PutsIntoCell (puts.Blob k b)) list count xs mid q → Moves count q.count (take m (drop a mid)) ys
+    → (end own : Option ℕ) → IfSome end (λ e. e + length f.back ≡ count)
+    → (z : ℕ) → z ≡ m → ((k1 j : ℕ) (ts : Trees) → AreLinks k1 j ts (take z (drop a xs)) → IsEnd end (a + (tree_count ts + k1 + j) + length (bodies ts)) → IsEnd own (a + (tree_count ts + k1 + j)))
+    → ChangesUpTo (PutsIntoCell (puts.Blob k b)) list own count xs mid q → Moves count q.count (take m (drop a mid)) ys
     → HasPut (puts.BlobAt i k b) [] area f c area.data_words (filled q.count (take a mid ++ (ys ++ drop m (drop a mid))))
-blob_at_put b area list f c i k s p count q xs mid ys a m st l own room few short more there at size is leads bare rec move =
+blob_at_put b area list f c i k s p count q xs mid ys a m st l within room few short more there at size is leads bare end own ended z same tells rec move =
     let word = pointer_there area f c i p count xs st l (omega arith) (is ∙ ap (λ (j : ℕ). from_le_bytes w64 (get_or xs j [])) there) in
     let near = slot_near area f c (filled count xs) i st l (let e = filled_length xs count room in omega arith) in
     let found = leads (slot_gap f c i) (child c.kids i) (child-fits c.kids i st.each) near word in
-    in_list b area list f c i k count q xs mid ys a m st l room few short more at size found.1 bare rec move (child c.kids i) refl found.0
+    in_list b area list f c i k count q xs mid ys a m st l room few short more at size found.1 bare own (own_end area f c i count xs a z end own st l room few at (same ∙ size) ended tells) rec move (child c.kids i) refl found.0
 
 -- ---- a number
 

@@ -1,5 +1,6 @@
 -- A struct's pointers, and what is put behind one of them.
-use Rattle.std.proofs.Common.{◌≡◌, ℕ, suc, ◌+◌, ◌-◌, ◌^◌, ◌<◌, ◌≤◌, List, [], ◌∷◌, ◌++◌, length, take, drop, refl, ap, sym, subst, ◌∙◌, append_assoc, length-append, arith}
+use Rattle.std.proofs.Common.{◌≡◌, ℕ, suc, ◌+◌, ◌-◌, ◌^◌, ◌<◌, ◌≤◌, Option, Some, None, List, [], ◌∷◌, ◌++◌, length, take, drop, refl, ap, sym, subst, ◌∙◌, append_assoc, length-append, arith}
+use Rattle.std.specs.Prelude.{IfSome}
 use Rattle.capnp_model.specs.Sections.{words_of}
 use Rattle.capnp_model.specs.Trees.{Tree, structure, Trees, tree_count, child}
 use Rattle.capnp_model.specs.Fits.{Fits, FitEach}
@@ -9,9 +10,9 @@ use Rattle.capnp_model.proofs.lemmas.Numbers.{length-numbers_in}
 use Rattle.capnp_wire_canonical.specs.Writes.{words_view, filled}
 use Rattle.capnp_model.proofs.lemmas.RoundTrip.{links_length}
 use Rattle.capnp_model.proofs.lemmas.Counts.{count-with_child}
-use Rattle.capnp_calls_splice.specs.Cells.{Frame, framed, StandsIn, FitsInOffsets}
+use Rattle.capnp_calls_splice.specs.Cells.{Frame, framed, StandsIn, FitsInOffsets, AreLinks, IsEnd}
 use Rattle.capnp_calls_splice.specs.declared.area.Area.{Area}
-use Rattle.capnp_calls_splice.proofs.Children.{fronts, backs, with_child-parts, child-parts, fronts_count, backs_count, child-fits, backs-fit, with_child-fit, around}
+use Rattle.capnp_calls_splice.proofs.Children.{fronts, backs, with_child-parts, child-parts, fronts_count, backs_count, child-fits, fronts-fit, backs-fit, with_child-fit, around}
 use Rattle.capnp_calls_splice.proofs.Segmenting.{filled_length, part_is, part_put}
 
 -- ---- the words around a pointer and its target
@@ -80,11 +81,10 @@ slot_near area f c ws i st l few =
     let e = st.between in
     omega arith
 
--- The pointers behind one, and that what they lead to lies in a message.
+-- The pointers behind one.
 pub later_links : (area : Area) (f : Frame) (c : Cell) (i count : ℕ) (xs : List (List ℕ)) (a m : ℕ) → StandsIn area f c (filled count xs) → i < area.pointers → count ≤ length xs → count < 2 ^ 29
     → a ≡ area.at + area.data_words + i + 1 → m ≡ area.at + area.data_words + area.pointers - a
-    → FitsInOffsets f.behind (f.before + length (bodies (fronts i c.kids)) + length (body (child c.kids i))) (backs i c.kids)
-    × (words_view (take m (drop a xs)) ≡ links f.behind (f.before + length (bodies (fronts i c.kids)) + length (body (child c.kids i))) (backs i c.kids))
+    → AreLinks f.behind (f.before + length (bodies (fronts i c.kids)) + length (body (child c.kids i))) (backs i c.kids) (take m (drop a xs))
 later_links area f c i count xs a m st l room few at size =
     let d : ℕ = area.data_words in
     let inside : i < tree_count c.kids = (let e = st.pointers in omega arith) in
@@ -102,7 +102,66 @@ later_links area f c i count xs a m st l room few at size =
     let was = ap length (st.spelled ∙ own_slot d f c i inside) in
     let used = filled_length xs count room in
     let between = st.between in
-    (omega arith, part_is xs count a m x (slot_later f c i n) r e begins later)
+    record { fit = backs-fit c.kids i st.each; near = omega arith; spelled = part_is xs count a m x (slot_later f c i n) r e begins later }
+
+-- Those in front of one.
+front_split : (x w l r : List ℕ) → (x ++ (w ++ l)) ++ r ≡ (x ++ w) ++ (l ++ r)
+front_split x w l r = simp append_assoc
+
+pub front_links : (area : Area) (f : Frame) (c : Cell) (i count : ℕ) (xs : List (List ℕ)) (a m : ℕ) → StandsIn area f c (filled count xs) → i < area.pointers → count ≤ length xs → count < 2 ^ 29
+    → a ≡ area.at + area.data_words → m ≡ i → AreLinks (suc (tree_count (backs i c.kids)) + f.behind) f.before (fronts i c.kids) (take m (drop a xs))
+front_links area f c i count xs a m st l room few at size =
+    let d : ℕ = area.data_words in
+    let inside : i < tree_count c.kids = (let e = st.pointers in omega arith) in
+    let n : ℕ = length (body (child c.kids i)) in
+    let p : ℕ = pointer (slot_gap f c i) (child c.kids i) in
+    let own : List ℕ = links (suc (tree_count (backs i c.kids)) + f.behind) f.before (fronts i c.kids) in
+    let r : List ℕ = p ∷ (slot_later f c i n ++ (slot_between f c i ++ (body (child c.kids i) ++ slot_back f c i))) in
+    let e : filled count xs ≡ (f.front ++ words_of d c.section) ++ (own ++ r) = st.spelled ∙ own_slot d f c i inside ∙ front_split f.front (words_of d c.section) own r in
+    let begins : length (f.front ++ words_of d c.section) ≡ a = length-append f.front (words_of d c.section) ∙ (let place = st.place in let long = length-numbers_in 64 d c.section in omega arith) in
+    let fronts_are = fronts_count c.kids i inside in
+    let long : length own ≡ m = links_length (fronts i c.kids) (suc (tree_count (backs i c.kids)) + f.behind) f.before ∙ omega arith in
+    let backs_are = backs_count c.kids i inside in
+    let place = slot_place area f c (filled count xs) i st l in
+    let whole = slotted_length d f c i p n (body (child c.kids i)) in
+    let was = ap length (st.spelled ∙ own_slot d f c i inside) in
+    let used = filled_length xs count room in
+    let between = st.between in
+    record { fit = fronts-fit c.kids i st.each; near = omega arith; spelled = part_is xs count a m (f.front ++ words_of d c.section) own r e begins long }
+
+-- Where what the pointers behind one lead to ends.
+pub end_there : (area : Area) (f : Frame) (c : Cell) (i count : ℕ) (ws : List ℕ) (a : ℕ) (end : Option ℕ) → StandsIn area f c ws → i < area.pointers → length ws ≡ count → a ≡ area.at + area.data_words + i + 1
+    → IfSome end (λ e. e + length f.back ≡ count)
+    → IsEnd end (a + (tree_count (backs i c.kids) + f.behind + (f.before + length (bodies (fronts i c.kids)) + length (body (child c.kids i)))) + length (bodies (backs i c.kids)))
+end_there area f c i count ws a None st l long at h = tt
+end_there area f c i count ws a (Some e) st l long at h =
+    let d : ℕ = area.data_words in
+    let inside : i < tree_count c.kids = (let g = st.pointers in omega arith) in
+    let n : ℕ = length (body (child c.kids i)) in
+    let place = slot_place area f c ws i st l in
+    let whole = slotted_length d f c i (pointer (slot_gap f c i) (child c.kids i)) n (body (child c.kids i)) in
+    let was = ap length (st.spelled ∙ own_slot d f c i inside) in
+    let between = st.between in
+    omega arith
+
+-- So what one itself leads to ends where it is told.
+pub own_end : (area : Area) (f : Frame) (c : Cell) (i count : ℕ) (xs : List (List ℕ)) (a m : ℕ) (end own : Option ℕ) → StandsIn area f c (filled count xs) → i < area.pointers → count ≤ length xs → count < 2 ^ 29
+    → a ≡ area.at + area.data_words + i + 1 → m ≡ area.at + area.data_words + area.pointers - a → IfSome end (λ e. e + length f.back ≡ count)
+    → ((k j : ℕ) (ts : Trees) → AreLinks k j ts (take m (drop a xs)) → IsEnd end (a + (tree_count ts + k + j) + length (bodies ts)) → IsEnd own (a + (tree_count ts + k + j)))
+    → IfSome own (λ e. e + length (slot_back f c i) ≡ count)
+own_end area f c i count xs a m end None st l room few at size h tells = tt
+own_end area f c i count xs a m end (Some e) st l room few at size h tells =
+    let d : ℕ = area.data_words in
+    let inside : i < tree_count c.kids = (let g = st.pointers in omega arith) in
+    let n : ℕ = length (body (child c.kids i)) in
+    let used = filled_length xs count room in
+    let told = tells f.behind (f.before + length (bodies (fronts i c.kids)) + n) (backs i c.kids) (later_links area f c i count xs a m st l room few at size) (end_there area f c i count (filled count xs) a end st l used at h) in
+    let place = slot_place area f c (filled count xs) i st l in
+    let whole = slotted_length d f c i (pointer (slot_gap f c i) (child c.kids i)) n (body (child c.kids i)) in
+    let was = ap length (st.spelled ∙ own_slot d f c i inside) in
+    let back = length-append (bodies (backs i c.kids)) f.back in
+    let between = st.between in
+    omega arith
 
 -- ---- the pointers behind are moved
 

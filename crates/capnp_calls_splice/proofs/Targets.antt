@@ -1,14 +1,14 @@
 -- Which of pointers in a row is the first that tells a distance, and where what it leads to begins.
-use Rattle.std.proofs.Common.{◌≡◌, ℕ, zero, suc, ◌+◌, ◌/◌, ◌%◌, ◌^◌, ◌<◌, ◌≤◌, max, true, false, nat_eq, Result, Ok, Err, List, [], ◌∷◌, length, drop, get_or, refl, ap, sym, ◌∙◌, length-append, arith}
+use Rattle.std.proofs.Common.{◌≡◌, ℕ, zero, suc, ◌+◌, ◌/◌, ◌%◌, ◌^◌, ◌<◌, ◌≤◌, max, true, false, nat_eq, Result, Ok, Err, List, [], ◌∷◌, ◌++◌, length, drop, get_or, refl, ap, sym, ◌∙◌, length-append, arith}
 use Rattle.std.specs.Prelude.{IfOk}
 use Rattle.std.specs.Int.{from_le_bytes, w64}
-use Rattle.std.proofs.lemmas.List.{length-map, get_or-map, drop_more}
+use Rattle.std.proofs.lemmas.List.{length-map, get_or-map, drop_more, drop_all}
 use Rattle.capnp_model.specs.Trees.{Tree, null, capability, structure, plain_list, pointer_list, struct_list, Trees, none, ◌▸◌, tree_count, child, depth, depths}
 use Rattle.capnp_model.specs.Fits.{Fits, FitEach}
 use Rattle.capnp_model.specs.Encoding.{pointer, body, links, bodies}
 use Rattle.capnp_wire_canonical.specs.Writes.{words_view}
 use Rattle.capnp_calls_splice.specs.Splices.{IsPlainList, TakesBlob, IsBlobSlot}
-use Rattle.capnp_calls_splice.specs.Cells.{FitsInOffsets, is_fixed}
+use Rattle.capnp_calls_splice.specs.Cells.{FitsInOffsets, AreLinks, is_fixed}
 use Rattle.capnp_calls_splice.specs.declared.area.Run.{Run}
 use Rattle.capnp_calls_splice.specs.declared.area.Unput.{Unput}
 use Rattle.capnp_calls_splice.proofs.Children.{fronts, backs}
@@ -60,23 +60,33 @@ leads (pointer_list ts) gap f near e = let few = f.0 in record { deep = omega ar
 leads (struct_list d k es) gap f near e = let few = f.3 in record { deep = omega arith; distance = omega arith }
 
 -- Null alone has a pointer of zeros.
-pub null_takes : (t : Tree) (gap : ℕ) (ts : Trees) → Fits t → pointer gap t ≡ 0 → 0 < depths ts → TakesBlob (depths ts) t × (length (body t) ≡ 0)
-null_takes null gap ts f e some = (some, refl)
-null_takes (capability i) gap ts f e some = absurd (omega arith)
-null_takes (structure zero section none) gap ts f e some = absurd (omega arith)
-null_takes (structure zero section (t ▸ us)) gap ts f e some = absurd (omega arith)
-null_takes (structure (suc d) section us) gap ts f e some = absurd (omega arith)
-null_takes (plain_list size n section) gap ts f e some = absurd (omega arith)
-null_takes (pointer_list us) gap ts f e some = absurd (omega arith)
-null_takes (struct_list d k es) gap ts f e some = absurd (omega arith)
+pub null_takes : (t : Tree) (gap levels : ℕ) → Fits t → pointer gap t ≡ 0 → 0 < levels → TakesBlob levels t
+null_takes null gap levels f e some = some
+null_takes (capability i) gap levels f e some = absurd (omega arith)
+null_takes (structure zero section none) gap levels f e some = absurd (omega arith)
+null_takes (structure zero section (t ▸ us)) gap levels f e some = absurd (omega arith)
+null_takes (structure (suc d) section us) gap levels f e some = absurd (omega arith)
+null_takes (plain_list size n section) gap levels f e some = absurd (omega arith)
+null_takes (pointer_list us) gap levels f e some = absurd (omega arith)
+null_takes (struct_list d k es) gap levels f e some = absurd (omega arith)
 
-plain_takes : (t : Tree) (ts : Trees) → IsPlainList t → TakesBlob (depths ts) t
-plain_takes null ts h = absurd h
-plain_takes (capability i) ts h = absurd h
-plain_takes (structure w section us) ts h = absurd h
-plain_takes (plain_list size n section) ts h = tt
-plain_takes (pointer_list us) ts h = absurd h
-plain_takes (struct_list d k es) ts h = absurd h
+pub null_bare : (t : Tree) (gap : ℕ) → Fits t → pointer gap t ≡ 0 → length (body t) ≡ 0
+null_bare null gap f e = refl
+null_bare (capability i) gap f e = absurd (omega arith)
+null_bare (structure zero section none) gap f e = absurd (omega arith)
+null_bare (structure zero section (t ▸ us)) gap f e = absurd (omega arith)
+null_bare (structure (suc d) section us) gap f e = absurd (omega arith)
+null_bare (plain_list size n section) gap f e = absurd (omega arith)
+null_bare (pointer_list us) gap f e = absurd (omega arith)
+null_bare (struct_list d k es) gap f e = absurd (omega arith)
+
+plain_takes : (t : Tree) (levels : ℕ) → IsPlainList t → TakesBlob levels t
+plain_takes null levels h = absurd h
+plain_takes (capability i) levels h = absurd h
+plain_takes (structure w section us) levels h = absurd h
+plain_takes (plain_list size n section) levels h = tt
+plain_takes (pointer_list us) levels h = absurd h
+plain_takes (struct_list d k es) levels h = absurd h
 
 more_take : (t : Tree) (n m : ℕ) → n ≤ m → TakesBlob n t → TakesBlob m t
 more_take null n m l h = omega (arith, l, h)
@@ -94,69 +104,79 @@ beside (t ▸ ts) (suc i) = let e = beside ts i in omega arith
 pub slot_takes : (ts : Trees) (i : ℕ) → i < tree_count ts → TakesBlob (max (depths (fronts i ts)) (depths (backs i ts))) (child ts i) → IsBlobSlot i ts
 slot_takes ts i l h = record { inside = l; takes = more_take (child ts i) (max (depths (fronts i ts)) (depths (backs i ts))) (depths ts) (beside ts i) h }
 
-pub later_take : (ts : Trees) (i : ℕ) → TakesBlob (depths (backs i ts)) (child ts i) → TakesBlob (max (depths (fronts i ts)) (depths (backs i ts))) (child ts i)
-later_take ts i h = more_take (child ts i) (depths (backs i ts)) (max (depths (fronts i ts)) (depths (backs i ts))) (omega arith) h
-
 -- ---- pointers in a row
 
 -- So many of them are passed over, and these are left.
-pub record IsRest (i : ℕ) (ws : List ℕ) (behind before : ℕ) (ts : Trees) : Type 0 where
+pub record IsRest (i : ℕ) (ws : List ℕ) (n m : ℕ) (ts : Trees) : Type 0 where
   pub left : Trees
-  pub spelled : ws ≡ links behind before left
+  pub spelled : ws ≡ links n m left
   pub count : i + tree_count left ≡ tree_count ts
   pub fit : FitEach left
-  pub near : FitsInOffsets behind before left
+  pub near : FitsInOffsets n m left
   pub deep : 0 < depths left → 0 < depths ts
+  pub targets : bodies left ≡ bodies ts
 
-pub all_left : (ws : List ℕ) (behind before : ℕ) (ts : Trees) → ws ≡ links behind before ts → FitEach ts → FitsInOffsets behind before ts → IsRest 0 ws behind before ts
-all_left ws behind before ts e f near = record { left = ts; spelled = e; count = omega arith; fit = f; near = near; deep = λ h. h }
+pub all_left : (n m : ℕ) (ts : Trees) (xs : List (List ℕ)) → AreLinks n m ts xs → IsRest 0 (words_view xs) n m ts
+all_left n m ts xs h = record { left = ts; spelled = h.spelled; count = omega arith; fit = h.fit; near = h.near; deep = λ some. some; targets = refl }
 
 -- One more is passed over.
-passes : (us : Trees) (i w behind before : ℕ) (ws : List ℕ) (ts : Trees) → (w ∷ ws) ≡ links behind before us → i + tree_count us ≡ tree_count ts → FitEach us → FitsInOffsets behind before us → (0 < depths us → 0 < depths ts) → is_fixed w ≡ true
-    → IsRest (i + 1) ws behind before ts
-passes none i w behind before ws ts e count f near deep fixed = absurd (cc e)
-passes (t ▸ us) i w behind before ws ts e count f near deep fixed =
+passes : (us : Trees) (i w n m : ℕ) (ws : List ℕ) (ts : Trees) → (w ∷ ws) ≡ links n m us → i + tree_count us ≡ tree_count ts → FitEach us → FitsInOffsets n m us → (0 < depths us → 0 < depths ts) → bodies us ≡ bodies ts → is_fixed w ≡ true
+    → IsRest (i + 1) ws n m ts
+passes none i w n m ws ts e count f near deep targets fixed = absurd (cc e)
+passes (t ▸ us) i w n m ws ts e count f near deep targets fixed =
     let long = length-append (body t) (bodies us) in
-    let gap : ℕ = tree_count us + behind + before in
+    let gap : ℕ = tree_count us + n + m in
     let head : w ≡ pointer gap t = cc e in
-    let tail : ws ≡ links behind (before + length (body t)) us = cc e in
+    let tail : ws ≡ links n (m + length (body t)) us = cc e in
     let bare : body t ≡ [] = fixed_bare t gap f.0 (omega arith) (ap is_fixed (sym head) ∙ fixed) in
-    let none_more : before + length (body t) ≡ before = ap (λ (b : List ℕ). before + length b) bare ∙ (omega arith) in
+    let none_more : m + length (body t) ≡ m = ap (λ (b : List ℕ). m + length b) bare ∙ (omega arith) in
     record {
       left = us;
-      spelled = tail ∙ ap (λ (n : ℕ). links behind n us) none_more;
+      spelled = tail ∙ ap (λ (k : ℕ). links n k us) none_more;
       count = omega arith;
       fit = f.1;
       near = omega arith;
       deep = λ h. deep (omega (arith, h));
+      targets = sym (ap (λ (b : List ℕ). b ++ bodies us) bare) ∙ targets;
     }
 
-pub next_left : (i w behind before : ℕ) (ws rest : List ℕ) (ts : Trees) → IsRest i ws behind before ts → ws ≡ w ∷ rest → is_fixed w ≡ true → IsRest (i + 1) rest behind before ts
-next_left i w behind before ws rest ts r e fixed = passes r.left i w behind before rest ts (sym e ∙ r.spelled) r.count r.fit r.near r.deep fixed
+pub next_left : (i w n m : ℕ) (ws rest : List ℕ) (ts : Trees) → IsRest i ws n m ts → ws ≡ w ∷ rest → is_fixed w ≡ true → IsRest (i + 1) rest n m ts
+next_left i w n m ws rest ts r e fixed = passes r.left i w n m rest ts (sym e ∙ r.spelled) r.count r.fit r.near r.deep r.targets fixed
 
 -- The first of those that are left leads to something.
-stops : (us : Trees) (i w far at behind before : ℕ) (ws : List ℕ) (ts : Trees) → (w ∷ ws) ≡ links behind before us → i + tree_count us ≡ tree_count ts → FitEach us → FitsInOffsets behind before us → (0 < depths us → 0 < depths ts) → is_fixed w ≡ false
-    → far ≡ w / 4 % 2 ^ 30 → (0 < depths ts) × (at + i + 1 + far ≡ at + (tree_count ts + behind + before))
-stops none i w far at behind before ws ts e count f near deep some is = absurd (cc e)
-stops (t ▸ us) i w far at behind before ws ts e count f near deep some is =
-    let gap : ℕ = tree_count us + behind + before in
+stops : (us : Trees) (i w far at n m : ℕ) (ws : List ℕ) (ts : Trees) → (w ∷ ws) ≡ links n m us → i + tree_count us ≡ tree_count ts → FitEach us → FitsInOffsets n m us → (0 < depths us → 0 < depths ts) → is_fixed w ≡ false
+    → far ≡ w / 4 % 2 ^ 30 → (0 < depths ts) × (at + i + 1 + far ≡ at + (tree_count ts + n + m))
+stops none i w far at n m ws ts e count f near deep some is = absurd (cc e)
+stops (t ▸ us) i w far at n m ws ts e count f near deep some is =
+    let gap : ℕ = tree_count us + n + m in
     let head : w ≡ pointer gap t = cc e in
     let it = leads t gap f.0 (omega arith) (ap is_fixed (sym head) ∙ some) in
     let first = it.deep in
-    let same : far ≡ gap = is ∙ ap (λ (n : ℕ). n / 4 % 2 ^ 30) head ∙ it.distance in
+    let same : far ≡ gap = is ∙ ap (λ (k : ℕ). k / 4 % 2 ^ 30) head ∙ it.distance in
     (deep (omega (arith, first)), omega (arith, same, count))
 
-pub stops_there : (i w far at behind before : ℕ) (ws rest : List ℕ) (ts : Trees) → IsRest i ws behind before ts → ws ≡ w ∷ rest → is_fixed w ≡ false → far ≡ w / 4 % 2 ^ 30
-    → (0 < depths ts) × (at + i + 1 + far ≡ at + (tree_count ts + behind + before))
-stops_there i w far at behind before ws rest ts r e some is = stops r.left i w far at behind before rest ts (sym e ∙ r.spelled) r.count r.fit r.near r.deep some is
+pub stops_there : (i w far at n m : ℕ) (ws rest : List ℕ) (ts : Trees) → IsRest i ws n m ts → ws ≡ w ∷ rest → is_fixed w ≡ false → far ≡ w / 4 % 2 ^ 30
+    → (0 < depths ts) × (at + i + 1 + far ≡ at + (tree_count ts + n + m))
+stops_there i w far at n m ws rest ts r e some is = stops r.left i w far at n m rest ts (sym e ∙ r.spelled) r.count r.fit r.near r.deep some is
+
+-- None is left, and none leads to words.
+no_more : (us : Trees) (n m : ℕ) → [] ≡ links n m us → bodies us ≡ []
+no_more none n m e = refl
+no_more (t ▸ us) n m e = absurd (cc e)
+
+pub none_left : (i n m : ℕ) (xs : List (List ℕ)) (ts : Trees) → IsRest i (drop i (words_view xs)) n m ts → length xs ≤ i → bodies ts ≡ []
+none_left i n m xs ts r all =
+    let size = length-map xs (from_le_bytes w64) in
+    let nothing : drop i (words_view xs) ≡ [] = drop_all i (words_view xs) (omega arith) in
+    sym r.targets ∙ no_more r.left n m (sym nothing ∙ r.spelled)
 
 -- The pointer at a place among words.
 pub word_here : (xs : List (List ℕ)) (i w : ℕ) → i < length xs → w ≡ from_le_bytes w64 (get_or xs i []) → drop i (words_view xs) ≡ w ∷ drop (i + 1) (words_view xs)
 word_here xs i w inside is =
     let less : i < length (words_view xs) = omega (arith, length-map xs (from_le_bytes w64)) in
-    drop_more (words_view xs) i 0 less ∙ ap (λ (n : ℕ). n ∷ drop (i + 1) (words_view xs)) (get_or-map (from_le_bytes w64) xs i [] 0 inside ∙ sym is)
+    drop_more (words_view xs) i 0 less ∙ ap (λ (k : ℕ). k ∷ drop (i + 1) (words_view xs)) (get_or-map (from_le_bytes w64) xs i [] 0 inside ∙ sym is)
 
 -- A plain list is one that a text or data takes the place of.
-pub listed : (t : Tree) (ts : Trees) (len start : ℕ) (found : Result Run Unput) → IfOk found (λ r. IsPlainList t × (r.start ≡ start) × (r.len ≡ len)) → IfOk found (λ r. TakesBlob (depths ts) t × (r.len ≡ len) × (r.start ≡ start))
-listed t ts len start (Ok r) h = (plain_takes t ts h.0, h.2, h.1)
-listed t ts len start (Err why) h = tt
+pub listed : (t : Tree) (levels len start : ℕ) (found : Result Run Unput) → IfOk found (λ r. IsPlainList t × (r.start ≡ start) × (r.len ≡ len)) → IfOk found (λ r. TakesBlob levels t × (r.len ≡ len) × (r.start ≡ start))
+listed t levels len start (Ok r) h = (plain_takes t levels h.0, h.2, h.1)
+listed t levels len start (Err why) h = tt

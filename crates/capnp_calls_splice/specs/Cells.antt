@@ -1,11 +1,11 @@
 -- Where structs and elements stand among canonical words. (Encoding, "Structs" and "Lists")
-use Rattle.std.specs.Prelude.{◌≡◌, ℕ, ◌+◌, ◌*◌, ◌%◌, ◌^◌, ◌<◌, ◌≤◌, Bool, ◌||◌, nat_eq, if◌then◌else◌, List, ◌++◌, length, ⊤}
+use Rattle.std.specs.Prelude.{◌≡◌, ℕ, ◌+◌, ◌-◌, ◌*◌, ◌%◌, ◌^◌, ◌<◌, ◌≤◌, Bool, ◌||◌, nat_eq, if◌then◌else◌, Option, IfSome, List, ◌++◌, length, take, drop, ⊤}
 use Rattle.capnp_model.specs.Sections.{words_of}
 use Rattle.capnp_model.specs.Trees.{Tree, Trees, Elements, structure, pointer_list, struct_list, element_count, tree_count}
 use Rattle.capnp_model.specs.Fits.{FitEach, FitElements}
 use Rattle.capnp_model.specs.Encoding.{links, bodies, cells, element_bodies}
 use Rattle.capnp_model.specs.Edits.{Cell}
-use Rattle.capnp_wire_canonical.specs.Writes.{filled}
+use Rattle.capnp_wire_canonical.specs.Writes.{words_view, filled}
 use Rattle.capnp_calls_splice.specs.Splices.{PutsBehind, StandsWithin}
 use Rattle.capnp_calls_splice.specs.declared.area.Area.{Area}
 use Rattle.capnp_calls_splice.specs.declared.area.Placed.{Placed}
@@ -56,6 +56,10 @@ HasPut put way area f old m words = HasChanged (PutsBehind put way) area f old m
 abbrev pub ChangesArea : (ℕ → ℕ → Cell → Cell → Type 0) → Area → ℕ → List (List ℕ) → List (List ℕ) → Placed → Type 0
 ChangesArea Changes area count from to p = (f : Frame) (c : Cell) → StandsIn area f c (filled count from) → HasChanged Changes area f c p.data_words (filled p.count to)
 
+-- It is, where what it leads to ends at a word, if that is told.
+abbrev pub ChangesUpTo : (ℕ → ℕ → Cell → Cell → Type 0) → Area → Option ℕ → ℕ → List (List ℕ) → List (List ℕ) → Placed → Type 0
+ChangesUpTo Changes area end count from to p = (f : Frame) (c : Cell) → IfSome end (λ e. e + length f.back ≡ count) → StandsIn area f c (filled count from) → HasChanged Changes area f c p.data_words (filled p.count to)
+
 -- The words that are used then are among those of a message, and the data are no more than a struct's.
 abbrev pub IsWithin : List (List ℕ) → Placed → Type 0
 IsWithin to p = StandsWithin to p.count × (p.data_words < 2 ^ 16)
@@ -104,14 +108,43 @@ shifted by w = if is_fixed w then w else (w + by) % 2 ^ 64
 abbrev pub FitsInOffsets : ℕ → ℕ → Trees → Type 0
 FitsInOffsets behind before ts = tree_count ts + behind + before + length (bodies ts) < 2 ^ 30
 
+-- These are the pointers to values in a row: before them lie m words of other targets, and n words of the object lie behind them.
+pub record AreLinks (n m : ℕ) (ts : Trees) (slice : List (List ℕ)) : Type 0 where
+  pub fit : FitEach ts
+  pub near : FitsInOffsets n m ts
+  pub spelled : words_view slice ≡ links n m ts
+
+-- An end, if it is told, is a word.
+abbrev pub IsEnd : Option ℕ → ℕ → Type 0
+IsEnd end n = IfSome end (λ e. e ≡ n)
+
 -- What the pointers of elements lead to lies in a message.
 abbrev pub AreNear : ℕ → ℕ → ℕ → Elements → Type 0
 AreNear before d k es = element_count es * (d + k) + before + length (element_bodies es) < 2 ^ 30
+
+-- These are the words of elements in a row, before which lie m words of other targets.
+pub record AreCells (m d k : ℕ) (es : Elements) (slice : List (List ℕ)) : Type 0 where
+  pub fit : FitElements d k es
+  pub near : AreNear m d k es
+  pub spelled : words_view slice ≡ cells m d k es
 
 -- The value is a list of n structs of these sizes.
 abbrev pub IsStructs : Structs → Tree → Type 0
 IsStructs l (struct_list words pointers es) = (l.count ≡ element_count es) × (l.data_words ≡ words) × (l.pointers ≡ pointers)
 IsStructs l _ = ⊥
+
+-- The word where the elements behind one begin.
+abbrev pub place_behind : Structs → ℕ → ℕ
+place_behind l index = l.first + (index + 1) * (l.data_words + l.pointers)
+
+-- Their words, among those of a message.
+abbrev pub words_of_later : Structs → ℕ → List (List ℕ) → List (List ℕ)
+words_of_later l index words = take (l.first + l.count * (l.data_words + l.pointers) - place_behind l index) (drop (place_behind l index) words)
+
+-- Where their targets begin, if it is told where they end.
+abbrev pub TellsBegin : Structs → ℕ → Option ℕ → List (List ℕ) → Option ℕ → Type 0
+TellsBegin l index end words begin = (m : ℕ) (es : Elements) → element_count es + (index + 1) ≡ l.count → AreCells m l.data_words l.pointers es (words_of_later l index words)
+    → IsEnd end (place_behind l index + length (words_of_later l index words) + m + length (element_bodies es)) → IsEnd begin (place_behind l index + length (words_of_later l index words) + m)
 
 -- What the pointers of the elements behind one lead to is moved, as a message of n words gets m.
 abbrev pub MovesElements : Structs → ℕ → ℕ → ℕ → List (List ℕ) → List (List ℕ) → Type 0

@@ -2,13 +2,13 @@
 ghost use Rattle.std.specs.Prelude.{◌≡◌, ℕ, ◌+◌, ◌*◌, ◌/◌, ◌%◌, ◌^◌, ◌<◌, ◌≤◌, List, ◌++◌, length, IfOk, IfErr};
 ghost use Rattle.capnp_model.specs.Trees.{Tree, Elements, element_count};
 ghost use Rattle.capnp_model.specs.Fits.{Fits, FitElements};
-ghost use Rattle.capnp_model.specs.Encoding.{pointer, body, cells};
+ghost use Rattle.capnp_model.specs.Encoding.{pointer, body, cells, element_bodies};
 ghost use Rattle.capnp_wire_canonical.specs.Writes.{words_view, filled};
 ghost use Rattle.capnp_calls_splice.specs.declared.area.Unput.{Unput};
-ghost use Rattle.capnp_calls_splice.specs.Cells.{IsStructs, AreNear, MovesElements};
+ghost use Rattle.capnp_calls_splice.specs.Cells.{IsStructs, AreNear, AreCells, IsEnd, TellsBegin, MovesElements};
 
 use crate::area::{Area, Structs, Unput};
-use crate::pointers::{gap_of, shift_all};
+use crate::pointers::{first_target, gap_of, shift_all};
 use capnp_units::sizes::Word;
 
 /// The elements of the list of structs that a pointer leads to, whose words end there; `Place`
@@ -64,6 +64,60 @@ pub(crate) fn element_at(list: Structs, index: u32) -> Result<Area, Unput>
         data_words: list.data_words,
         pointers: list.pointers,
     })
+}
+
+/// Where what the pointers of n elements in a row lead to begins, which begin at a word, or ends if
+/// that is nowhere. `None` where the end isn't told, or the elements have no pointers.
+fn end_before_cells(
+    slice: &[Word],
+    list: Structs,
+    count: usize,
+    at: usize,
+    end: Option<usize>,
+) -> Option<usize>
+    requires len { length slice.now ≡ count * (list.data_words + list.pointers) }
+    requires few { at + length slice.now < 2 ^ 60 }
+    requires width { list.data_words + list.pointers < 2 ^ 17 }
+    ensures tells { (m : ℕ) (es : Elements) → element_count es ≡ count
+        → AreCells m list.data_words list.pointers es slice.now
+        → IsEnd end (at + length slice.now + m + length (element_bodies es))
+        → IsEnd result (at + length slice.now + m) }
+{
+    let e = end?;
+    if list.pointers == 0 {
+        return None;
+    }
+    let width = list.data_words + list.pointers;
+    for i in 0..count {
+        let first = i * width + list.data_words;
+        let found = first_target(&slice[first..first + list.pointers], at + first);
+        if found.is_some() {
+            return found;
+        }
+    }
+    Some(e)
+}
+
+/// Where what an element of a list leads to ends: where what the pointers of the elements behind it
+/// lead to begins, or else where all that the list leads to ends. `None` where that isn't told.
+pub(crate) fn end_of_element(
+    words: &[Word],
+    list: Structs,
+    index: u32,
+    end: Option<usize>,
+) -> Option<usize>
+    requires index { index < list.count }
+    requires inside { list.first + list.count * (list.data_words + list.pointers)
+        ≤ length words.now }
+    requires few { list.first + list.count * (list.data_words + list.pointers) < 2 ^ 29 }
+    requires width { list.data_words + list.pointers < 2 ^ 17 }
+    ensures tells { TellsBegin list index end words.now result }
+{
+    let width = list.data_words + list.pointers;
+    let behind = index as usize + 1;
+    let first = list.first + behind * width;
+    let later = &words[first..list.first + list.count * width];
+    end_before_cells(later, list, list.count - behind, first, end)
 }
 
 /// Moves what the pointers of n elements in a row lead to, as `move_pointers` does.

@@ -1,12 +1,12 @@
 //! Pointers among canonical words.
-ghost use Rattle.std.specs.Prelude.{◌≡◌, ℕ, ◌+◌, ◌*◌, ◌/◌, ◌%◌, ◌^◌, ◌<◌, ◌≤◌, length, map, true, IfOk, IfErr, IfSome};
+ghost use Rattle.std.specs.Prelude.{◌≡◌, ℕ, ◌+◌, ◌*◌, ◌/◌, ◌%◌, ◌^◌, ◌<◌, ◌≤◌, [], length, map, true, max, IfOk, IfErr, IfSome, MatchOption};
 ghost use Rattle.capnp_model.specs.Trees.{Tree, Trees, tree_count, size_bits, depths};
 ghost use Rattle.capnp_model.specs.Fits.{Fits, FitEach};
-ghost use Rattle.capnp_model.specs.Encoding.{pointer, list_pointer, body, links};
+ghost use Rattle.capnp_model.specs.Encoding.{pointer, list_pointer, body, links, bodies};
 ghost use Rattle.capnp_wire_canonical.specs.Writes.{words_view};
 ghost use Rattle.capnp_calls_splice.specs.declared.area.Unput.{Unput};
 ghost use Rattle.capnp_calls_splice.specs.Splices.{IsPlainList, TakesBlob, IsElement};
-ghost use Rattle.capnp_calls_splice.specs.Cells.{IsStructWith, IsSizedStruct, IsPointerList, FitsInOffsets, is_fixed, shifted};
+ghost use Rattle.capnp_calls_splice.specs.Cells.{IsStructWith, IsSizedStruct, IsPointerList, FitsInOffsets, AreLinks, IsEnd, is_fixed, shifted};
 
 use crate::area::{Area, Run, Unput};
 use crate::plain::PlainSet;
@@ -97,12 +97,11 @@ fn is_fixed(word: u64) -> bool
 /// Where what the first of pointers in a row leads to begins that tells a distance; the row begins
 /// at a word. `None` where none does.
 #[inline]
-fn first_target(slice: &[Word], at: usize) -> Option<usize>
+pub(crate) fn first_target(slice: &[Word], at: usize) -> Option<usize>
     requires { at + length slice.now < 2 ^ 60 }
-    ensures begins { (behind before : ℕ) (ts : Trees) → FitEach ts → FitsInOffsets behind before ts
-        → words_view slice.now ≡ links behind before ts
-        → IfSome result (λ n. (0 < depths ts) × (n ≡ at + (tree_count ts + behind + before))) }
-    ensures behind { IfSome result (λ n. at < n) }
+    ensures begins { (n m : ℕ) (ts : Trees) → AreLinks n m ts slice.now
+        → MatchOption result (bodies ts ≡ [])
+        (λ start. (0 < depths ts) × (start ≡ at + (tree_count ts + n + m))) }
 {
     for i in 0..slice.len() {
         let word = u64::from_le_bytes(slice[i]);
@@ -113,27 +112,73 @@ fn first_target(slice: &[Word], at: usize) -> Option<usize>
     None
 }
 
-/// The words in whose place those of a text or data come, where a pointer is followed by others of
-/// its struct. They are those of the plain list that it leads to. Where it is null there are none:
-/// they would begin where what the first of the others leads to begins that tells a distance.
-/// `Place` where it leads to something else or past n words, or where no other tells a distance.
+/// Where what the pointers behind one lead to begins, or ends if that is nowhere; they begin at a
+/// word. `None` where the end isn't told.
 #[inline]
-pub(crate) fn blob_run(word: u64, others: &[Word], at: usize, count: usize) -> Result<Run, Unput>
-    requires { (at + length others.now ≤ count) × (count < 2 ^ 29) }
-    ensures behind { (behind before : ℕ) (t : Tree) (ts : Trees) → Fits t → FitEach ts
-        → FitsInOffsets behind (before + length (body t)) ts
-        → word ≡ pointer (tree_count ts + behind + before) t
-        → words_view others.now ≡ links behind (before + length (body t)) ts
-        → IfOk result (λ r. TakesBlob (depths ts) t × (r.len ≡ length (body t))
-        × (r.start ≡ at + (tree_count ts + behind + before))) }
+pub(crate) fn end_before(others: &[Word], at: usize, end: Option<usize>) -> Option<usize>
+    requires { at + length others.now < 2 ^ 60 }
+    ensures tells { (n m : ℕ) (ts : Trees) → AreLinks n m ts others.now
+        → IsEnd end (at + (tree_count ts + n + m) + length (bodies ts))
+        → IsEnd result (at + (tree_count ts + n + m)) }
+{
+    let e = end?;
+    match first_target(others, at) {
+        Some(start) => Some(start),
+        None => Some(e),
+    }
+}
+
+/// Where a value in place of null begins, as `end_before` says. `None` where no other pointer of
+/// its row tells a distance: neither of those in front of it nor of those behind it.
+#[inline]
+fn start_between(front: &[Word], others: &[Word], at: usize, end: Option<usize>) -> Option<usize>
+    requires { at + length others.now + length front.now < 2 ^ 60 }
+    ensures start { (n m k l : ℕ) (ts us : Trees) → AreLinks n m ts others.now
+        → AreLinks k l us front.now
+        → IsEnd end (at + (tree_count ts + n + m) + length (bodies ts))
+        → IfSome result (λ start. (0 < max (depths us) (depths ts))
+        × (start ≡ at + (tree_count ts + n + m))) }
+{
+    match first_target(others, at) {
+        Some(start) => Some(start),
+        None => {
+            let e = end?;
+            first_target(front, 0)?;
+            Some(e)
+        }
+    }
+}
+
+/// The words in whose place those of a text or data come, behind a pointer. They are those of the
+/// plain list that it leads to. Where it is null there are none, where they would begin. `Place`
+/// where
+/// - it leads to something else, or past n words;
+/// - it is null, and no other pointer of its row tells a distance, or what those behind it lead to
+///   begins nowhere and isn't told to end.
+#[inline]
+pub(crate) fn blob_run(
+    word: u64,
+    front: &[Word],
+    others: &[Word],
+    at: usize,
+    count: usize,
+    end: Option<usize>,
+) -> Result<Run, Unput>
+    requires { (at + length others.now ≤ count) × (length front.now ≤ count) × (count < 2 ^ 29) }
+    ensures behind { (n m k l : ℕ) (t : Tree) (ts us : Trees) → Fits t
+        → AreLinks n (m + length (body t)) ts others.now → AreLinks k l us front.now
+        → word ≡ pointer (tree_count ts + n + m) t
+        → IsEnd end (at + (tree_count ts + n + (m + length (body t))) + length (bodies ts))
+        → IfOk result (λ r. TakesBlob (max (depths us) (depths ts)) t
+        × (r.len ≡ length (body t)) × (r.start ≡ at + (tree_count ts + n + m))) }
     ensures within { IfOk result (λ r. (at ≤ r.start) × (r.start + r.len ≤ count)) }
     ensures kind { IfErr result (λ why. why ≡ Unput.Place) }
 {
     if word != 0 {
         return plain_list_behind(word, at, count);
     }
-    match first_target(others, at) {
-        Some(start) if start <= count => Ok(Run { start, len: 0 }),
+    match start_between(front, others, at, end) {
+        Some(start) if start >= at && start <= count => Ok(Run { start, len: 0 }),
         _ => Err(Unput::Place),
     }
 }

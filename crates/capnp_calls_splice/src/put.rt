@@ -1,5 +1,5 @@
 //! Splices written where a message's canonical words stand.
-ghost use Rattle.std.specs.Prelude.{◌≡◌, ℕ, suc, ◌+◌, ◌^◌, ◌<◌, ◌≤◌, List, [], ◌∷◌, length, get_or, IfOk, IfErr, MatchOption};
+ghost use Rattle.std.specs.Prelude.{◌≡◌, ℕ, suc, ◌+◌, ◌^◌, ◌<◌, ◌≤◌, List, [], ◌∷◌, length, get_or, IfOk, IfErr, IfSome, MatchOption};
 ghost use Rattle.capnp_units.specs.declared.kinds.ErrorKind.{ErrorKind};
 ghost use Rattle.capnp_model.specs.Trees.{Tree};
 ghost use Rattle.capnp_model.specs.Fits.{Fits};
@@ -9,16 +9,16 @@ ghost use Rattle.std.specs.Int.{from_le_bytes, w64};
 ghost use Rattle.capnp_calls_splice.specs.declared.area.Unput.{Unput};
 ghost use Rattle.capnp_calls_splice.specs.declared.splice.Put.TheVariants as puts;
 ghost use Rattle.capnp_calls_splice.specs.Splices.{PutsIntoCell, PutsBehind, HasSpliced, StandsWithin, TellsSplice, number_room, put_room};
-ghost use Rattle.capnp_calls_splice.specs.Cells.{ChangesArea, stays, IsAreaInside, IsWithin, LeavesWords};
+ghost use Rattle.capnp_calls_splice.specs.Cells.{ChangesArea, ChangesUpTo, stays, IsAreaInside, IsWithin, LeavesWords};
 
 use crate::area::{Area, Placed, Unput};
 use crate::blob::Blob;
 use crate::data::{put_member, put_number};
-use crate::elements::{element_at, move_elements, structs_behind};
+use crate::elements::{element_at, end_of_element, move_elements, structs_behind};
 use crate::plain::PlainSet;
 use crate::pointers::{
-    blob_run, bytes_pointer, is_element, move_pointers, plain_list_behind, pointers_behind,
-    sized_pointer, struct_behind,
+    blob_run, bytes_pointer, end_before, is_element, move_pointers, plain_list_behind,
+    pointers_behind, sized_pointer, struct_behind,
 };
 use crate::splice::{Hop, Put, Splice, Spliced};
 use crate::tails::replace;
@@ -70,19 +70,28 @@ fn put_blob(
     words: &mut [Word],
     count: usize,
     area: Area,
+    end: Option<usize>,
     pointer: u32,
     blob: &Blob,
 ) -> Result<Placed, Unput>
     requires { IsAreaInside area count words.old }
-    ensures changes { IfOk result (ChangesArea (PutsIntoCell (puts.Blob pointer blob.now))
-        area count words.old words.new) }
+    ensures changes { IfOk result (ChangesUpTo (PutsIntoCell (puts.Blob pointer blob.now))
+        area end count words.old words.new) }
     ensures within { IfOk result (IsWithin words.new) }
     ensures kept { IfErr result (λ why. LeavesWords why words.old words.new) }
     ensures len { length words.new ≡ length words.old }
 {
     let slot = slot_of(words, area, pointer)?;
     let behind = slot.at + 1;
-    let run = blob_run(slot.word, &words[behind..slot.end], behind, count)?;
+    let front = &words[area.at + area.data_words..slot.at];
+    let run = blob_run(
+        slot.word,
+        front,
+        &words[behind..slot.end],
+        behind,
+        count,
+        end,
+    )?;
     let now = replace(words, count, run, &blob.words)?;
     words[slot.at] = bytes_pointer(run.start - behind, blob.len).to_le_bytes();
     move_pointers(&mut words[slot.at + 1..slot.end], count, now);
@@ -95,20 +104,22 @@ fn put_blob_at(
     words: &mut [Word],
     count: usize,
     area: Area,
+    end: Option<usize>,
     pointer: u32,
     index: u32,
     blob: &Blob,
 ) -> Result<Placed, Unput>
     requires { IsAreaInside area count words.old }
-    ensures changes { IfOk result (ChangesArea (PutsIntoCell (puts.BlobAt pointer index blob.now))
-        area count words.old words.new) }
+    ensures changes { IfOk result (ChangesUpTo (PutsIntoCell (puts.BlobAt pointer index blob.now))
+        area end count words.old words.new) }
     ensures within { IfOk result (IsWithin words.new) }
     ensures kept { IfErr result (λ why. LeavesWords why words.old words.new) }
     ensures len { length words.new ≡ length words.old }
 {
     let slot = slot_of(words, area, pointer)?;
     let list = pointers_behind(slot.word, slot.at + 1, count)?;
-    let placed = put_blob(words, count, list, index, blob)?;
+    let own = end_before(&words[slot.at + 1..slot.end], slot.at + 1, end);
+    let placed = put_blob(words, count, list, own, index, blob)?;
     move_pointers(&mut words[slot.at + 1..slot.end], count, placed.count);
     Ok(stays(area, placed.count))
 }
@@ -140,23 +151,29 @@ fn put_number_at(
 }
 
 /// Puts a number, a member, a text or data into a struct, or into a list behind a pointer of it.
-fn put_here(words: &mut [Word], count: usize, area: Area, put: &Put) -> Result<Placed, Unput>
+fn put_here(
+    words: &mut [Word],
+    count: usize,
+    area: Area,
+    end: Option<usize>,
+    put: &Put,
+) -> Result<Placed, Unput>
     requires { IsAreaInside area count words.old }
     ensures changes { IfOk result
-        (ChangesArea (PutsIntoCell put.now) area count words.old words.new) }
+        (ChangesUpTo (PutsIntoCell put.now) area end count words.old words.new) }
     ensures within { IfOk result (IsWithin words.new) }
     ensures kept { IfErr result (λ why. LeavesWords why words.old words.new) }
     ensures len { length words.new ≡ length words.old }
 {
     match put {
         Put::Number(set) => put_number(words, count, area, *set),
-        Put::Blob { pointer, blob } => put_blob(words, count, area, *pointer, blob),
+        Put::Blob { pointer, blob } => put_blob(words, count, area, end, *pointer, blob),
         Put::Member { mark, number } => put_member(words, count, area, *mark, *number),
         Put::BlobAt {
             pointer,
             index,
             blob,
-        } => put_blob_at(words, count, area, *pointer, *index, blob),
+        } => put_blob_at(words, count, area, end, *pointer, *index, blob),
         Put::NumberAt {
             pointer,
             index,
@@ -176,40 +193,45 @@ fn first_hop(hops: &[Hop]) -> Option<(Hop, &[Hop])>
     }
 }
 
-/// Puts a number, a member, a text or data into the struct that hops lead to from this one.
+/// Puts a number, a member, a text or data into the struct that hops lead to from this one. What
+/// this one leads to ends at a word, if that is told.
 fn put_in_cell(
     words: &mut [Word],
     count: usize,
     area: Area,
+    end: Option<usize>,
     hops: &[Hop],
     put: &Put,
 ) -> Result<Placed, Unput>
     requires { IsAreaInside area count words.old }
     ensures changes { IfOk result
-        (ChangesArea (PutsBehind put.now hops.now) area count words.old words.new) }
+        (ChangesUpTo (PutsBehind put.now hops.now) area end count words.old words.new) }
     ensures within { IfOk result (IsWithin words.new) }
     ensures kept { IfErr result (λ why. LeavesWords why words.old words.new) }
     ensures len { length words.new ≡ length words.old }
 {
     let Some((hop, rest)) = first_hop(hops) else {
-        return put_here(words, count, area, put);
+        return put_here(words, count, area, end, put);
     };
     match hop {
         Hop::Pointer(pointer) => {
             let slot = slot_of(words, area, pointer)?;
             let child = struct_behind(slot.word, slot.at + 1, count)?;
-            let placed = put_in_cell(words, count, child, rest, put)?;
+            let own = end_before(&words[slot.at + 1..slot.end], slot.at + 1, end);
+            let placed = put_in_cell(words, count, child, own, rest, put)?;
             let word = sized_pointer(slot.word, placed.data_words, child.pointers);
             words[slot.at] = word.to_le_bytes();
             move_pointers(&mut words[slot.at + 1..slot.end], count, placed.count);
             Ok(stays(area, placed.count))
         }
-        Hop::Group => put_in_cell(words, count, area, rest, put),
+        Hop::Group => put_in_cell(words, count, area, end, rest, put),
         Hop::Element { pointer, index } => {
             let slot = slot_of(words, area, pointer)?;
             let list = structs_behind(words, count, slot.word, slot.at + 1)?;
             let element = element_at(list, index)?;
-            let placed = put_in_cell(words, count, element, rest, put)?;
+            let after = end_before(&words[slot.at + 1..slot.end], slot.at + 1, end);
+            let own = end_of_element(words, list, index, after);
+            let placed = put_in_cell(words, count, element, own, rest, put)?;
             if placed.data_words != list.data_words {
                 return Err(Unput::Spoiled);
             }
@@ -217,6 +239,17 @@ fn put_in_cell(
             move_pointers(&mut words[slot.at + 1..slot.end], count, placed.count);
             Ok(stays(area, placed.count))
         }
+    }
+}
+
+/// Where the words of a message end, for a put that may take the place of null; `None` for others.
+#[inline]
+fn end_for(put: &Put, count: usize) -> Option<usize>
+    ensures { IfSome result (λ e. e ≡ count) }
+{
+    match put {
+        Put::Blob { .. } | Put::BlobAt { .. } => Some(count),
+        Put::Number(_) | Put::Member { .. } | Put::NumberAt { .. } => None,
     }
 }
 
@@ -235,7 +268,8 @@ fn put_at_root(words: &mut [Word], count: usize, splice: &Splice) -> Result<usiz
     }
     let word = u64::from_le_bytes(words[0]);
     let root = struct_behind(word, 1, count)?;
-    let placed = put_in_cell(words, count, root, &splice.hops, &splice.put)?;
+    let end = end_for(&splice.put, count);
+    let placed = put_in_cell(words, count, root, end, &splice.hops, &splice.put)?;
     words[0] = sized_pointer(word, placed.data_words, root.pointers).to_le_bytes();
     Ok(placed.count)
 }
@@ -285,7 +319,8 @@ fn make_room(words: &mut Vec<Word>, count: usize) -> Result<(), Error>
 /// where
 /// - the hops lead elsewhere than to a struct that has a word or a pointer;
 /// - a text or data takes the place of a list of others than bytes, bits or numbers;
-/// - it takes the place of null, and no later pointer of the struct or list leads to words;
+/// - it takes the place of null, and no other pointer of the struct or list leads to a list or to a
+///   struct with words;
 /// - a list has no element at the index, or its elements are neither pointers, for a text or data,
 ///   nor of the number's width;
 /// - the struct would have 2^16 data words or more, or the message 2^29 words or more.

@@ -11,7 +11,7 @@ use Rattle.capnp_calls_splice.proofs.Putting.{blob_put}
 use Rattle.capnp_calls_splice.proofs.put.put_blob.Goals as goal
 
 pub returns-clause-changes : goal.returns-clause-changes
-returns-clause-changes c = λ f cell st.
+returns-clause-changes c = λ f cell ended st.
     let area = c.args.area in
     let b = c.args.blob.now in
     let i : ℕ = c.args.pointer in
@@ -25,7 +25,8 @@ returns-clause-changes c = λ f cell st.
     let within = c.in_ok-now.ensures.within in
     let after = set c.replace.new.words slot.at c.to_le_bytes.result in
     subst (λ (q : Placed). HasChanged (PutsIntoCell (puts.Blob i b)) area f cell q.data_words (filled q.count (take a after ++ (c.move_pointers.new.slice ++ drop m (drop a after))))) (sym c.stays.ensures)
-    (blob_put b area f cell i slot.at slot.word v c.args.count now c.to_le_bytes.result c.in_ok-run.run' c.args.words.now c.replace.new.words c.move_pointers.new.slice a m m st (omega arith) c.requires.own c.requires.inside c.requires.few (omega arith) (omega arith) place.0 (omega arith) (omega arith) refl
-    c.in_ok-slot.ensures.word c.in_ok-run.ensures.behind
+    (blob_put b area f cell i slot.at slot.word v c.args.count now c.to_le_bytes.result c.in_ok-run.run' c.args.words.now c.replace.new.words c.move_pointers.new.slice a m (area.at + area.data_words) (slot.at - (area.at + area.data_words)) c.args.end
+    st (omega arith) c.requires.own c.requires.inside c.requires.few (omega arith) (omega arith) place.0 (omega arith) (omega arith) refl (omega arith)
+    c.in_ok-slot.ensures.word ended c.in_ok-run.ensures.behind
     (λ x l r e at long. c.in_ok-now.ensures.words x l r e at long ∙ ap (λ (ws : List (List ℕ)). x ++ (words_view ws ++ r)) c.deref.ensures.value)
     c.bytes_pointer.ensures spells c.move_pointers.ensures.moved)
