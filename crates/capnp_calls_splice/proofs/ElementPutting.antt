@@ -111,8 +111,13 @@ module _ (put : Put) (way : List Hop) (area inner : Area) (list : Structs) (f : 
   abbrev now : ℕ
   now = q.count
 
-  in_structs : (es : Elements) → child c.kids i ≡ struct_list list.data_words list.pointers es → list.count ≡ element_count es → HasPut put (hops.Element i j ∷ way) area f c area.data_words (filled q.count (take a after ++ (ys ++ drop m (drop a after))))
-  in_structs es e many =
+  -- The frame of the element.
+  abbrev own_frame : Elements → Frame
+  own_frame es = element_frame area.data_words f c i (pointer (slot_gap f c i) (struct_list list.data_words list.pointers es)) (length (body (child c.kids i))) (length (bodies (cell_at j es).kids)) list.data_words list.pointers j es
+
+  put_there : (es : Elements) → child c.kids i ≡ struct_list list.data_words list.pointers es → list.count ≡ element_count es → filled count xs ≡ framed list.data_words (own_frame es) (cell_at j es)
+      → HasPut put way inner (own_frame es) (cell_at j es) q.data_words (filled q.count mid) → HasPut put (hops.Element i j ∷ way) area f c area.data_words (filled q.count (take a after ++ (ys ++ drop m (drop a after))))
+  put_there es e many spelled h =
       let d : ℕ = area.data_words in
       let w : ℕ = list.data_words in
       let k : ℕ = list.pointers in
@@ -121,43 +126,12 @@ module _ (put : Put) (way : List Hop) (area inner : Area) (list : Structs) (f : 
       let own : Cell = cell_at j es in
       let z : ℕ = length (bodies own.kids) in
       let ef : ℕ = length (element_bodies (fronts j es)) in
-      let g : Frame = element_frame d f c i p n z w k j es in
-      let within : i < tree_count c.kids = (let h = st.pointers in omega arith) in
+      let g : Frame = own_frame es in
       let inside : j < element_count es = omega arith in
       let fits : Fits (struct_list w k es) = subst Fits e (slots.child-fits c.kids i st.each) in
       let fit = fits.4 in
       let cell_fit = cell-fits w k es j inside fit in
       let begins = front_length area f c (filled count xs) i p n w k j es st l inside fit in
-      let spelled : filled count xs ≡ framed w g own =
-      st.spelled ∙ own_slot d f c i within ∙ ap (λ (u : Tree). slotted d f c i (pointer (slot_gap f c i) u) n (body u)) e
-      ∙ ap (λ (ds : Elements). slotted d f c i p n (body (struct_list w k ds))) (cell-parts es j inside) ∙ with_element d f c i p n w k j es own inside in
-      let middle : length g.middle ≡ g.behind + g.before = length-append (cells (ef + z) w k (backs j es)) (element_bodies (fronts j es)) ∙ ap (λ (y : ℕ). y + ef) (cells_length (ef + z) w k (backs j es) (backs-fit w k es j fit)) in
-      let stands : StandsIn inner g own (filled count xs) =
-      record {
-        place = omega arith;
-        between = middle;
-        spelled = spelled ∙ ap (λ (y : ℕ). framed y g own) (sym words);
-        section = subst (λ (y : ℕ). own.section < 2 ^ (64 * y)) (sym words) cell_fit.section;
-        pointers = cell_fit.pointers ∙ sym slots_are;
-        each = cell_fit.each;
-      } in
-      let x0 : List ℕ = g.front ++ (words_of w own.section ++ links g.behind g.before own.kids) in
-      let r0 : List ℕ = element_bodies (fronts j es) ++ (bodies own.kids ++ g.back) in
-      let parts0 : filled count xs ≡ x0 ++ (cells (ef + z) w k (backs j es) ++ r0) =
-      spelled ∙ regrouped g.front (words_of w own.section) (links g.behind g.before own.kids) (cells (ef + z) w k (backs j es)) (element_bodies (fronts j es)) (bodies own.kids ++ g.back) in
-      let ended = element_end w k j count list own_end_at after_end (length (slot_back f c i)) (ef + z) (backs j es) xs x0 r0 room few parts0 (backs-fit w k es j fit) refl refl
-      (omega (arith, backs_count es j inside)) (
-      let b = length-append g.front (words_of w own.section ++ links g.behind g.before own.kids) in
-      let o = length-append (words_of w own.section) (links g.behind g.before own.kids) in
-      let q = length-numbers_in 64 w own.section in
-      let u = links_length own.kids g.behind g.before in
-      let kids_were = cell_fit.pointers in
-      omega arith) (
-      let b = length-append (element_bodies (fronts j es)) (bodies own.kids ++ g.back) in
-      let o = length-append (bodies own.kids) g.back in
-      let q = length-append (element_bodies (backs j es)) (slot_back f c i) in
-      omega arith) ends tells in
-      let h = rec g own (subst (λ (y : ℕ). IfSome own_end_at (λ e. e + y ≡ count)) (sym (length-append (element_bodies (backs j es)) (slot_back f c i))) ended) stands in
       let new : Cell = h.cell in
       let to : ℕ = length (bodies new.kids) in
       let ds : Elements = with_cell j new es in
@@ -200,6 +174,54 @@ module _ (put : Put) (way : List Hop) (area inner : Area) (list : Structs) (f : 
         changes = (refl, t, subst (λ (u : Tree). InList (PutsBehind put way) j u t) (sym e) (ds, in_elements (PutsBehind put way w w) es j new inside puts, refl), refl);
         stands = moved area f c i t (filled count xs) count now after ys a m st l (filled_length xs count room) few short stays fits_then is at size move;
       }
+
+  in_structs : (es : Elements) → child c.kids i ≡ struct_list list.data_words list.pointers es → list.count ≡ element_count es → HasPut put (hops.Element i j ∷ way) area f c area.data_words (filled q.count (take a after ++ (ys ++ drop m (drop a after))))
+  in_structs es e many =
+      let d : ℕ = area.data_words in
+      let w : ℕ = list.data_words in
+      let k : ℕ = list.pointers in
+      let n : ℕ = length (body (child c.kids i)) in
+      let p : ℕ = pointer (slot_gap f c i) (struct_list w k es) in
+      let own : Cell = cell_at j es in
+      let z : ℕ = length (bodies own.kids) in
+      let ef : ℕ = length (element_bodies (fronts j es)) in
+      let g : Frame = own_frame es in
+      let within : i < tree_count c.kids = (let h = st.pointers in omega arith) in
+      let inside : j < element_count es = omega arith in
+      let fits : Fits (struct_list w k es) = subst Fits e (slots.child-fits c.kids i st.each) in
+      let fit = fits.4 in
+      let cell_fit = cell-fits w k es j inside fit in
+      let begins = front_length area f c (filled count xs) i p n w k j es st l inside fit in
+      let spelled : filled count xs ≡ framed w g own =
+      st.spelled ∙ own_slot d f c i within ∙ ap (λ (u : Tree). slotted d f c i (pointer (slot_gap f c i) u) n (body u)) e
+      ∙ ap (λ (ds : Elements). slotted d f c i p n (body (struct_list w k ds))) (cell-parts es j inside) ∙ with_element d f c i p n w k j es own inside in
+      let middle : length g.middle ≡ g.behind + g.before = length-append (cells (ef + z) w k (backs j es)) (element_bodies (fronts j es)) ∙ ap (λ (y : ℕ). y + ef) (cells_length (ef + z) w k (backs j es) (backs-fit w k es j fit)) in
+      let stands : StandsIn inner g own (filled count xs) =
+      record {
+        place = omega arith;
+        between = middle;
+        spelled = spelled ∙ ap (λ (y : ℕ). framed y g own) (sym words);
+        section = subst (λ (y : ℕ). own.section < 2 ^ (64 * y)) (sym words) cell_fit.section;
+        pointers = cell_fit.pointers ∙ sym slots_are;
+        each = cell_fit.each;
+      } in
+      let x0 : List ℕ = g.front ++ (words_of w own.section ++ links g.behind g.before own.kids) in
+      let r0 : List ℕ = element_bodies (fronts j es) ++ (bodies own.kids ++ g.back) in
+      let parts0 : filled count xs ≡ x0 ++ (cells (ef + z) w k (backs j es) ++ r0) =
+      spelled ∙ regrouped g.front (words_of w own.section) (links g.behind g.before own.kids) (cells (ef + z) w k (backs j es)) (element_bodies (fronts j es)) (bodies own.kids ++ g.back) in
+      let ended = element_end w k j count list own_end_at after_end (length (slot_back f c i)) (ef + z) (backs j es) xs x0 r0 room few parts0 (backs-fit w k es j fit) refl refl
+      (omega (arith, backs_count es j inside)) (
+      let b = length-append g.front (words_of w own.section ++ links g.behind g.before own.kids) in
+      let o = length-append (words_of w own.section) (links g.behind g.before own.kids) in
+      let q = length-numbers_in 64 w own.section in
+      let u = links_length own.kids g.behind g.before in
+      let kids_were = cell_fit.pointers in
+      omega arith) (
+      let b = length-append (element_bodies (fronts j es)) (bodies own.kids ++ g.back) in
+      let o = length-append (bodies own.kids) g.back in
+      let q = length-append (element_bodies (backs j es)) (slot_back f c i) in
+      omega arith) ends tells in
+      put_there es e many spelled (rec g own (subst (λ (y : ℕ). IfSome own_end_at (λ e. e + y ≡ count)) (sym (length-append (element_bodies (backs j es)) (slot_back f c i))) ended) stands)
 
   in_list : (t : Tree) → child c.kids i ≡ t → IsStructs list t → HasPut put (hops.Element i j ∷ way) area f c area.data_words (filled q.count (take a after ++ (ys ++ drop m (drop a after))))
   in_list null e h = absurd h

@@ -1,6 +1,6 @@
 -- Values after splices, and their canonical words, as the encoding document gives them.
 use Rattle.std.proofs.Common.{◌≡◌, ℕ, [], ◌∷◌, codes, refl, lit<, lit≤}
-use Rattle.capnp_model.specs.Trees.{Tree, null, structure, struct_list, none, ◌▸◌, no_elements, element, with_child}
+use Rattle.capnp_model.specs.Trees.{Tree, null, structure, pointer_list, struct_list, none, ◌▸◌, no_elements, element, with_child}
 use Rattle.capnp_model.specs.Calls.{text_tree}
 use Rattle.capnp_model.specs.Encoding.{canonical_words}
 use Rattle.capnp_model.specs.Edits.{Cell}
@@ -87,7 +87,16 @@ text_for_null : canonical_words (structure 0 0 (with_child (null ▸ structure 1
 unfolding canonical_words
 text_for_null = refl
 
--- and then two
+-- in place of null behind the last text of a list
+takes_last : IsBlobSlot 1 (text_tree (codes "hi") ▸ null ▸ none)
+takes_last = record { inside = lit< tt; takes = lit< tt }
+
+text_at_the_end : canonical_words (structure 0 0 (pointer_list (with_child (text_tree (codes "hi") ▸ null ▸ none) 1 (text_tree (codes "ho"))) ▸ none))
+    ≡ 0x1_0000_0000_0000 ∷ 0x16_0000_0001 ∷ 0x1a_0000_0005 ∷ 0x1a_0000_0005 ∷ 0x6968 ∷ 0x6f68 ∷ []
+unfolding canonical_words
+text_at_the_end = refl
+
+-- a text of two words before a struct, which lies two off
 long_text : canonical_words (structure 0 0 (with_child (text_tree (codes "hi") ▸ structure 1 9 none ▸ none) 0 (text_tree (codes "Hello, World!"))))
     ≡ 0x2_0000_0000_0000 ∷ 0x72_0000_0005 ∷ 0x1_0000_0008 ∷ 0x57202c6f6c6c6548 ∷ 0x21646c726f ∷ 9 ∷ []
 unfolding canonical_words

@@ -318,9 +318,10 @@ fn make_room(words: &mut Vec<Word>, count: usize) -> Result<(), Error>
 /// it: a struct, the root among them, has as many data words then as it needs. It has no place
 /// where
 /// - the hops lead elsewhere than to a struct that has a word or a pointer;
-/// - a text or data takes the place of a list of others than bytes, bits or numbers;
-/// - it takes the place of null, and no other pointer of the struct or list leads to a list or to a
-///   struct with words;
+/// - the struct lacks the pointer of a text or data, or that leads elsewhere than to a list of
+///   bytes, bits or numbers, and isn't null;
+/// - it is null, and no other pointer of the struct or list leads to a list or to a struct with
+///   words;
 /// - a list has no element at the index, or its elements are neither pointers, for a text or data,
 ///   nor of the number's width;
 /// - the struct would have 2^16 data words or more, or the message 2^29 words or more.
