@@ -232,6 +232,17 @@ def faults_of_counts(crates):
                 yield f"crates/{crate}/stdout tells {count} cases of {name}, which has {lines}"
 
 
+def faults_of_answers(crates):
+    """Folders of proofs whose function the crate doesn't have. Those of a cycle, which begin with +, are named otherwise."""
+    for crate in crates:
+        text = "\n".join(text_of(it) for it in files_below(f"crates/{crate}/src") if it.endswith(".rt"))
+        names = set(re.findall(r"\bfn (\w+)", text))
+        for path in files_below(f"crates/{crate}/proofs"):
+            name = os.path.basename(os.path.dirname(path))
+            if path.endswith("/Answers.antt") and not name.startswith("+") and name not in names:
+                yield f"{path}: {crate} has no function {name}"
+
+
 def faults_of_lengths(crates):
     """Files of code that are too long."""
     for crate in crates:
@@ -260,7 +271,7 @@ def faults_of_layout(crate, room):
 def main():
     crates = listed_crates()
     found = [*faults_of_crates(crates), *faults_of_uses(), *faults_of_edits(crates), *faults_of_links(), *faults_of_samples()]
-    found += [*faults_of_named_tests(), *faults_of_lengths(crates), *faults_of_counts(crates)]
+    found += [*faults_of_named_tests(), *faults_of_lengths(crates), *faults_of_counts(crates), *faults_of_answers(crates)]
     found += [*faults_of_storeys(), *faults_of_roads(crates), *faults_of_words(crates), *faults_of_parameters(crates)]
     with tempfile.TemporaryDirectory() as room:
         shutil.copy("crates.txt", room)
