@@ -239,7 +239,7 @@ def faults_of_answers(crates):
         names = set(re.findall(r"\bfn (\w+)", text))
         for path in files_below(f"crates/{crate}/proofs"):
             name = os.path.basename(os.path.dirname(path))
-            if path.endswith("/Answers.antt") and not name.startswith("+") and name not in names:
+            if os.path.basename(path) in ("Answers.antt", "Invariants.antt") and not name.startswith("+") and name not in names:
                 yield f"{path}: {crate} has no function {name}"
 
 
