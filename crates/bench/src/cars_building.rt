@@ -1,6 +1,7 @@
-//! Cars that are built.
+//! Cars that are built. The numbers of each struct are set in a section of their own, by functions
+//! that are inlined as generated code is, and written at once.
 //!
-//! A caller without proofs tests that the words of a struct are there before it sets its fields, as
+//! A caller without proofs tests that the words of a struct are there before it writes them, as
 //! here.
 ghost use Rattle.std.specs.Prelude.{◌≡◌, ◌+◌, ◌*◌, ◌<◌, ◌≤◌, ◌^◌};
 ghost use Rattle.capnp_copy_arenas.specs.States.{HasWords};
