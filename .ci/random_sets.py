@@ -15,7 +15,7 @@ import subprocess
 import sys
 import tempfile
 
-SEED, FILES, MESSAGES = 46, 500, 40
+SEED, FILES, MESSAGES = 1, 500, 40
 SCHEMA = [
     {"id": 1, "name": "Root", "data": 1, "pointers": 5, "fields": [
         {"name": "a", "type": "UInt64", "offset": 0},
@@ -48,6 +48,11 @@ class Structs:
         self.structs = structs
 
 
+def widened(value, words, values):
+    """A struct with so many words and pointers, zeros and nulls at their ends."""
+    return Struct(value.words + [0] * (words - len(value.words)), value.values + [None] * (values - len(value.values)))
+
+
 def trimmed(value):
     """The value without zero words and nulls at the ends of its structs; those of a list are as wide as its widest."""
     if isinstance(value, Struct):
@@ -62,8 +67,7 @@ def trimmed(value):
     if isinstance(value, Structs):
         structs = [trimmed(it) for it in value.structs]
         words, values = (max(len(getattr(it, part)) for it in structs) for part in ("words", "values"))
-        pad = lambda row, width, none: row + [none] * (width - len(row))  # noqa: E731
-        return Structs([Struct(pad(it.words, words, 0), pad(it.values, values, None)) for it in structs])
+        return Structs([widened(it, words, values) for it in structs])
     return value
 
 
