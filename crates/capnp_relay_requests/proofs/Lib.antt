@@ -1,3 +1,4 @@
+mod BoundRecords
 mod Colons
 mod Declared
 mod FloatFields

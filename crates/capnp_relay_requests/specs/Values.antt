@@ -1,5 +1,5 @@
 -- Values of defaults and annotations. (schema.capnp, Value)
-use Rattle.std.specs.Prelude.{ℕ, ◌==◌, if◌then◌else◌, Option, Some, None, replicate, [], Result, Ok, Err}
+use Rattle.std.specs.Prelude.{ℕ, ◌==◌, Bool, false, ◌&&◌, ◌||◌, if◌then◌else◌, Option, Some, None, replicate, [], Result, Ok, Err}
 use Rattle.std.specs.Option.{ok_or}
 use Rattle.capnp_model.specs.Schemas.{bool, int, uint, «enum», BaseType, TypeRecord, Value, no_value, bits, text_bytes, blob_bytes, list_segment, struct_segment, untyped_value, interface_value}
 use Rattle.capnp_wire.specs.Reads.{is_null_pointer}
@@ -32,6 +32,14 @@ member_of_base BaseType.AnyPointer = 18
 -- The member of the union for a type. (Value.list @14)
 abbrev pub member_of_type : TypeRecord → ℕ
 member_of_type t = if t.list_count == 0 then member_of_base t.base else 14
+
+-- A type is that of any capability, whose value is told as an untyped pointer.
+abbrev pub is_untyped_capability : TypeRecord → Bool
+is_untyped_capability t = elim t.base [ BaseType.Capability ↦ t.list_count == 0 | _ ↦ false ]
+
+-- A member of the union is for a type. (Value.anyPointer @18)
+abbrev pub is_member_of : ℕ → TypeRecord → Bool
+is_member_of m t = ((m == 18) && is_untyped_capability t) || (m == member_of_type t)
 
 -- A plain value: a bool is bit 16, a number lies behind the tag at the first offset of its width. A float is told as the number of its bits.
 abbrev pub plain_value : BaseType → StructView → Option Value
@@ -76,7 +84,7 @@ list_value fault v = value_unless_null v (ok_or (segment_behind (pointer_field v
 -- The value of a type, whose tag, bits 0 to 15, has to be the type's.
 abbrev pub request_value : RequestFault → TypeRecord → StructView → Result (Option Value) RequestFault
 request_value fault t v =
-    if number 16 0 v == member_of_type t then (if t.list_count == 0 then base_value fault t.base v else list_value fault v) else Err fault
+    if is_member_of (number 16 0 v) t then (if t.list_count == 0 then base_value fault t.base v else list_value fault v) else Err fault
 
 -- What a null pointer is of a base: no bytes, or the word of a null pointer.
 abbrev pub null_base_value : BaseType → Value

@@ -4,7 +4,7 @@ ghost use Rattle.std.specs.Prelude.{◌≡◌, option_map, Ok, IfOk, IfErr};
 ghost use Rattle.capnp_records.specs.NodeViews.{base_of, type_record_of, value_of};
 ghost use Rattle.capnp_wire.specs.Views.{seen_struct};
 ghost use Rattle.capnp_relay_requests.specs.Steps.{IsRequestRefusal};
-ghost use Rattle.capnp_relay_requests.specs.Values.{member_of_base, member_of_type, plain_value, pointed_value, base_value, list_value, request_value};
+ghost use Rattle.capnp_relay_requests.specs.Values.{is_untyped_capability, is_member_of, member_of_base, member_of_type, plain_value, pointed_value, base_value, list_value, request_value};
 
 use crate::fault::RequestFault;
 use crate::reading::{data_behind, text_behind};
@@ -49,6 +49,23 @@ fn member_of(ty: TypeRecord) -> u16
     } else {
         member_of_base(ty.base)
     }
+}
+
+/// Whether a type is that of any capability, whose value is told as an untyped pointer.
+fn is_untyped_capability(ty: TypeRecord) -> bool
+    ensures { result ≡ is_untyped_capability (type_record_of ty) }
+{
+    match ty.base {
+        BaseType::Capability => ty.list_count == 0,
+        _ => false,
+    }
+}
+
+/// Whether a member of the union of values is for a type.
+fn is_member_of(member: u16, ty: TypeRecord) -> bool
+    ensures { result ≡ is_member_of member (type_record_of ty) }
+{
+    (member == 18 && is_untyped_capability(ty)) || member == member_of(ty)
 }
 
 /// The value of a plain base, with the bits of a float as a whole number; none of another.
@@ -159,7 +176,7 @@ pub(crate) fn value_in<A: ReaderArena>(
     ensures refused { IfErr result (IsRequestRefusal (request_value fault (type_record_of ty)
         (seen_struct A.segments value.now))) }
 {
-    if value.get_data_field::<u16>(0) != member_of(ty) {
+    if !is_member_of(value.get_data_field::<u16>(0), ty) {
         return Err(fault);
     }
     if ty.list_count > 0 {

@@ -3,6 +3,7 @@
 ghost use Rattle.std.specs.Prelude.{◌≡◌};
 ghost use Rattle.capnp_relay_requests.specs.declared.fault.RequestFault.TheVariants.{Unread};
 
+use capnp_relay_bindings::bound::BindFault;
 use std::alloc::{AllocError, AllocFailed};
 
 /// What of a node or of one of its members can't be read.
@@ -48,14 +49,17 @@ pub enum Spot {
 pub enum RequestFault {
     /// The bytes aren't one frame whose value has at most 64 levels, costs at most 2^23 words and
     /// has no capability.
-    #[error("no message")]
+    #[error("not one whole message (is it a file of messages?)")]
     Message,
     /// The root is no struct, or its nodes are no list of structs.
-    #[error("no request")]
+    #[error("its nodes can't be read")]
     Request,
     /// Part of a node or of a member can't be read.
     #[error("{spot}: {part}")]
     Unread { spot: Spot, part: Part },
+    /// Its generic types are bound in too many ways.
+    #[error("its generic types are bound in too many ways")]
+    Bindings,
     #[error("out of memory")]
     Memory,
 }
@@ -65,6 +69,19 @@ pub(crate) fn unread(spot: Spot, part: Part) -> RequestFault
     ensures { result ≡ Unread spot part }
 {
     RequestFault::Unread { spot, part }
+}
+
+impl From<BindFault> for RequestFault {
+    ghost use Rattle.capnp_relay_requests.specs.Faults.{IsBindingRefusal};
+
+    ghost from_gives = { λ _ fault. IsBindingRefusal fault };
+
+    fn from(fault: BindFault) -> RequestFault {
+        match fault {
+            BindFault::Memory => RequestFault::Memory,
+            BindFault::TooMany | BindFault::Clash => RequestFault::Bindings,
+        }
+    }
 }
 
 impl From<AllocError> for RequestFault {

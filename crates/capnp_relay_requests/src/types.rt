@@ -54,7 +54,7 @@ fn other_base<A: ReaderArena>(member: u16, ty: &StructReader<'_, A>) -> Option<B
 }
 
 /// A type that is no list.
-fn base_in<A: ReaderArena>(member: u16, ty: &StructReader<'_, A>) -> Option<BaseType>
+pub(crate) fn base_in<A: ReaderArena>(member: u16, ty: &StructReader<'_, A>) -> Option<BaseType>
     ensures { option_map base_of result ≡ base_in member (seen_struct A.segments ty.now) }
 {
     match member {

@@ -207,7 +207,7 @@ fn is_refused_by_floats(alloc: Global, request: &[u8], floats: usize) -> bool {
 
 /// Compares the records of a request with those of a file.
 pub fn compare(alloc: Global, request: &[u8], file: &[u8]) -> Result<Compared, CaseFault> {
-    let Requested { nodes, floats } = request_file(alloc, request, Floats::AsBits)?;
+    let Requested { nodes, floats, .. } = request_file(alloc, request, Floats::AsBits)?;
     let file = schema_file(alloc, file)?;
     let same = nodes.iter().filter(|node| is_among(node, &file)).count();
     let (told, untold) = floats_in(&file, &floats);

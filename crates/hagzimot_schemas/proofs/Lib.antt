@@ -1,2 +1,2 @@
 mod Escapes
-mod Names
+mod Colons

@@ -1,3 +1,4 @@
+pub mod Roots
 pub mod SchemaForms
 pub mod JsonText
 pub mod Nodes

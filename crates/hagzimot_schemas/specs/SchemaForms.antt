@@ -1,10 +1,9 @@
 -- The two forms of schema files.
-use Rattle.std.specs.Prelude.{ℕ, ◌==◌, Bool, false, if◌then◌else◌, Option, Some, List, [], ◌∷◌, map}
+use Rattle.std.specs.Prelude.{◌≡◌, ℕ, ◌==◌, Bool, true, false, Option, Some, List, [], ◌∷◌, map}
 use Rattle.std.specs.Option.{option_or}
-use Rattle.std.specs.Result.{result_ok}
 use Rattle.capnp_model.specs.Schemas.{Enumerant, Field, StructNode, NodeKind, struct_node, enum_node, Node}
 use Rattle.capnp_relay_files.specs.SchemaFiles.{schema_nodes_in}
-use Rattle.capnp_relay_requests.specs.Requests.{records_told, floats_told}
+use Rattle.capnp_relay_requests.specs.Requests.{AreRecordsOf, AreFloatsOf}
 use Rattle.capnp_relay_requests.specs.declared.request.Floats.{Floats}
 use Rattle.hagzimot_forms.specs.Ids.{ids_as_numbers}
 use Rattle.hagzimot_schemas.specs.declared.schema_text.IdForm.{IdForm}
@@ -19,13 +18,22 @@ is_request _ = false
 abbrev pub json_nodes : List ℕ → Option (List Node)
 json_nodes bytes = option_or (schema_nodes_in bytes) (schema_nodes_in (ids_as_numbers bytes))
 
--- The nodes that a schema file of either form tells.
-abbrev pub nodes_told : Floats → List ℕ → Option (List Node)
-nodes_told floats bytes = if is_request bytes then result_ok (records_told floats bytes) else json_nodes bytes
+-- Nodes are those of a file that is a request, with its generic types bound, or of another, which is JSON.
+abbrev pub AreNodesOf : Bool → Floats → List ℕ → List Node → Type 0
+AreNodesOf true floats bytes nodes = AreRecordsOf floats bytes nodes
+AreNodesOf false floats bytes nodes = json_nodes bytes ≡ Some nodes
 
--- The fields that are floats there, by their nodes' ids and their indices; JSON tells none.
-abbrev pub floats_of_file : List ℕ → Option (List (ℕ × ℕ))
-floats_of_file bytes = if is_request bytes then result_ok (floats_told bytes) else Some []
+-- Nodes are those that a schema file of either form tells.
+abbrev pub AreNodesTold : Floats → List ℕ → List Node → Type 0
+AreNodesTold floats bytes nodes = AreNodesOf (is_request bytes) floats bytes nodes
+
+-- The same of fields that are floats, by their nodes' ids and their indices; JSON tells none.
+abbrev pub AreFloatsIn : Bool → List ℕ → List (ℕ × ℕ) → Type 0
+AreFloatsIn true bytes fields = AreFloatsOf bytes fields
+AreFloatsIn false bytes fields = fields ≡ []
+
+abbrev pub AreFloatsTold : List ℕ → List (ℕ × ℕ) → Type 0
+AreFloatsTold bytes fields = AreFloatsIn (is_request bytes) bytes fields
 
 -- What a reader that takes ids as numbers reads, by how they are written.
 abbrev pub readable : IdForm → List ℕ → List ℕ

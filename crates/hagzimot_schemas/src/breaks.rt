@@ -9,6 +9,7 @@ ghost use Rattle.capnp_calls_versions.specs.Breaks.{IsBreakFrom};
 ghost use Rattle.capnp_calls_versions.specs.AllBreaks.{AreAllBreaks};
 ghost use Rattle.capnp_calls_versions.specs.Renamed.{renamings_of};
 
+use crate::interfaces::InterfaceBreak;
 use crate::nodes::{fields_of, node_of_id};
 use capnp_calls_versions::all_breaks::all_breaks;
 use capnp_calls_versions::breaks::{Break, FieldRule, Rule};
@@ -246,6 +247,24 @@ impl Display for Broken<'_> {
             Rule::Field { older, newer, rule } => self.put_field(f, older, newer, rule),
         }
     }
+}
+
+/// What is said of a field whose interface is another in the newer version.
+pub fn interface_sentence(
+    alloc: Global,
+    older: Version<'_>,
+    newer: Version<'_>,
+    broken: InterfaceBreak,
+) -> std::result::Result<String, AllocError> {
+    let nodes = Broken {
+        older: node_of_id(older.nodes, broken.older),
+        newer: node_of_id(newer.nodes, broken.newer),
+        age: newer.age,
+        rule: Rule::Roots,
+    };
+    let fields = nodes.fields(broken.older_field, broken.newer_field);
+    let (names, age) = (nodes.nodes(), newer.age);
+    format!(in alloc; "{names}: field {fields} has another interface in the {age} schema")
 }
 
 /// What is said of a break of the newer version's compatibility with the older, as

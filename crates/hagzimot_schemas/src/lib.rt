@@ -2,8 +2,12 @@
 #![tactic(auto)]
 
 pub mod breaks;
+pub mod forms;
+pub mod interfaces;
 pub mod json_text;
+pub mod names;
 pub mod nodes;
+pub mod roots;
 pub mod rules;
 mod same_nodes;
 pub mod schema_text;

@@ -1,27 +1,28 @@
 //! Schemas that files hold, and the struct that messages have at their root.
-ghost use Rattle.std.specs.Prelude.{◌≡◌, true, map, Some, IfOk, IfErr, IfSome};
+ghost use Rattle.std.specs.Prelude.{◌≡◌, [], map, option_copied, string_bytes, Some, IfOk, IfErr};
+ghost use Rattle.hagzimot_schemas.specs.Roots.{names_of, IsRootOf};
 ghost use Rattle.capnp_records.specs.NodeViews.{node_of};
 ghost use Rattle.capnp_records.specs.Sets.{nodes_of, IsStructOf};
 ghost use Rattle.capnp_relay_files.specs.Faults.{IsFileRefusal};
 ghost use Rattle.capnp_relay_requests.specs.Floats.{float_told};
-ghost use Rattle.hagzimot_schemas.specs.SchemaForms.{is_request, json_nodes, nodes_told, floats_of_file};
+ghost use Rattle.hagzimot_schemas.specs.SchemaForms.{json_nodes, AreNodesTold, AreFloatsTold};
 
-use crate::nodes::node_of_id;
+use crate::forms::{SchemaForm, is_request, json_trouble, schema_form};
+use crate::names::names_of;
+use crate::roots::{RootTrouble, root_named, single_root, unscoped};
 use crate::rules::rule_text;
 use capnp_records::fault::SchemaFault;
 use capnp_records::laws::struct_is_named;
-use capnp_records::node::{NodeBody, NodeRecord};
+use capnp_records::node::NodeRecord;
 use capnp_records::raw::RawBrandedStructSchema;
 use capnp_records::set::SchemaSet;
 use capnp_relay_files::fault::FileFault;
 use capnp_relay_files::schema_file::schema_file;
-use capnp_relay_requests::fault::{Part, RequestFault, Spot};
-use capnp_relay_requests::request::{FloatField, Floats, Requested, request_file};
+use capnp_relay_requests::fault::RequestFault;
+use capnp_relay_requests::request::{FloatField, Floats, InterfaceField, Requested, request_file};
 use capnp_values_queries::laws::struct_is_node;
 use capnp_values_queries::structs::StructSchema;
 use hagzimot_forms::id_numbers::ids_as_numbers;
-use hagzimot_forms::schema_form::schema_form_fault;
-use serde_json::Value as Json;
 use std::alloc::{AllocError, Global};
 use std::fmt;
 use std::fmt::{Display, Formatter, Write};
@@ -29,27 +30,31 @@ use std::fmt::{Display, Formatter, Write};
 /// Why a file holds no schema that can be used.
 #[derive(Debug, Drop)]
 pub enum SchemaTrouble {
-    /// It is no JSON; why, with line and column.
+    /// It is empty.
+    Empty,
+    /// It is compressed by gzip.
+    Gzip,
+    /// It is the source of a schema.
+    Source,
+    /// It is neither a request of the compiler nor JSON.
+    Other,
+    /// It looks like JSON, and isn't; why, with line and column.
     Json(serde_json::Error),
     /// It is JSON, but no array of nodes; what is wrong, with line and column, where a closer look
     /// finds it.
     Form(Option<serde_json::Error>),
     /// It is a request of the compiler that can't be read.
     Request(RequestFault),
-    /// It is a request of the compiler with a float: the node that has it, and the field or
-    /// enumerant, if it isn't the node itself.
-    Float {
-        node: String,
-        member: Option<String>,
-    },
+    /// It has no nodes.
+    NoNodes,
     /// The nodes break a rule; the name of the first node that does, and its place, counted from 0.
     Rule {
         rule: u32,
         node: usize,
         name: String,
     },
-    /// No struct that is no group has this name or id.
-    NoRoot(String),
+    /// It has no root, or several.
+    Root(RootTrouble),
     /// A growth was refused.
     Memory,
 }
@@ -60,102 +65,54 @@ impl From<AllocError> for SchemaTrouble {
     }
 }
 
+/// What a file that holds no schema is taken for.
+fn form_text(trouble: &SchemaTrouble) -> &'static str {
+    match trouble {
+        SchemaTrouble::Empty => "the file is empty (did the compiler fail?)",
+        SchemaTrouble::Gzip => "this is gzip data; decompress it first",
+        SchemaTrouble::Source => "this is schema source; compile it first: capnp compile -o-",
+        SchemaTrouble::Other => "neither what capnp compile -o- writes nor a JSON schema file",
+        SchemaTrouble::NoNodes =>
+            "a message, but not a schema: it has no structs and no enums (is it a file of messages?)",
+        _ => "there is no memory for it",
+    }
+}
+
 impl Display for SchemaTrouble {
     fn fmt<W: Write>(&self, f: &mut Formatter<W>) -> fmt::Result {
         match self {
-            SchemaTrouble::Json(error) => write!(f, "no JSON: {error}"),
-            SchemaTrouble::Form(Some(error)) => write!(f, "no schema file: {error}"),
+            SchemaTrouble::Json(error) => write!(f, "not JSON: {error}"),
+            SchemaTrouble::Form(Some(error)) => write!(f, "not a schema file: {error}"),
             SchemaTrouble::Form(None) => write!(
                 f,
-                "JSON, but no array of nodes: compare it with docs/FILES.md"
+                "JSON, but not an array of nodes: compare it with docs/FILES.md"
             ),
-            SchemaTrouble::Request(fault) => write!(f, "no request of the compiler: {fault}"),
-            SchemaTrouble::Float { node, member } => {
-                write!(f, "{node} has a float")?;
-                if let Some(member) = member {
-                    write!(f, " at \"{member}\"")?;
-                }
-                f.write_str("; --floats-as-bits takes it as the whole number of its bits")
-            }
+            SchemaTrouble::Request(fault) => write!(f, "not a request of the compiler: {fault}"),
             SchemaTrouble::Rule { rule, node, name } => {
                 let says = rule_text(*rule);
                 write!(f, "node {node} (\"{name}\") breaks rule {rule}: {says}")
             }
-            SchemaTrouble::NoRoot(name) => write!(f, "it has no struct \"{name}\""),
-            SchemaTrouble::Memory => write!(f, "there is no memory for it"),
+            SchemaTrouble::Root(trouble) => write!(f, "{trouble}"),
+            other => f.write_str(form_text(other)),
         }
     }
 }
 
-/// Why bytes are no JSON of a schema's form.
-fn json_trouble(alloc: Global, bytes: &[u8]) -> SchemaTrouble {
-    match Json::from_slice(alloc, bytes) {
-        Ok(_) => SchemaTrouble::Form(schema_form_fault(alloc, bytes)),
-        Err(error) => SchemaTrouble::Json(error),
+/// Why a file of a form that isn't a request's holds no schema.
+fn trouble_of(alloc: Global, form: SchemaForm, bytes: &[u8]) -> SchemaTrouble {
+    match form {
+        SchemaForm::Empty => SchemaTrouble::Empty,
+        SchemaForm::Gzip => SchemaTrouble::Gzip,
+        SchemaForm::Source => SchemaTrouble::Source,
+        SchemaForm::Other => SchemaTrouble::Other,
+        SchemaForm::Json | SchemaForm::Request => json_trouble(alloc, bytes),
     }
-}
-
-/// Whether a file is a request of the compiler and no JSON.
-fn is_request(bytes: &[u8]) -> bool
-    ensures { result ≡ is_request bytes.now }
-{
-    match bytes {
-        [_, _, _, last, ..] => *last == 0,
-        _ => false,
-    }
-}
-
-/// The name of the member of an index.
-fn member_name(alloc: Global, node: &NodeRecord, index: u32) -> Result<Option<String>, AllocError> {
-    let index = index as usize;
-    let name = match &node.body {
-        NodeBody::Struct(body) => match body.fields.get(index) {
-            Some(field) => field.name.as_str(),
-            None => return Ok(None),
-        },
-        NodeBody::Enum(enumerants) => match enumerants.get(index) {
-            Some(enumerant) => enumerant.name.as_str(),
-            None => return Ok(None),
-        },
-    };
-    Ok(Some(String::from_str(alloc, name)?))
-}
-
-/// What is said of the float at a place of a request, whose names are read with floats as bits.
-fn float_trouble(
-    alloc: Global,
-    bytes: &[u8],
-    spot: Spot,
-    fault: RequestFault,
-) -> Result<SchemaTrouble, AllocError> {
-    let Ok(requested) = request_file(alloc, bytes, Floats::AsBits) else {
-        return Ok(SchemaTrouble::Request(fault));
-    };
-    let id = match spot {
-        Spot::Node { node } | Spot::Member { node, .. } => node,
-    };
-    let Some(node) = node_of_id(&requested.nodes, id) else {
-        return Ok(SchemaTrouble::Request(fault));
-    };
-    let member = match spot {
-        Spot::Node { .. } => None,
-        Spot::Member { index, .. } => member_name(alloc, node, index)?,
-    };
-    let node = String::from_str(alloc, node.display_name.as_str())?;
-    Ok(SchemaTrouble::Float { node, member })
 }
 
 /// Why a request isn't read.
-fn request_trouble(alloc: Global, bytes: &[u8], fault: RequestFault) -> SchemaTrouble {
+fn request_trouble(fault: RequestFault) -> SchemaTrouble {
     match fault {
         RequestFault::Memory => SchemaTrouble::Memory,
-        RequestFault::Unread {
-            spot,
-            part: Part::Float,
-        } => match float_trouble(alloc, bytes, spot, fault) {
-            Ok(trouble) => trouble,
-            Err(_) => SchemaTrouble::Memory,
-        },
         fault => SchemaTrouble::Request(fault),
     }
 }
@@ -176,29 +133,67 @@ fn json_file(alloc: Global, bytes: &[u8]) -> Result<Vec<NodeRecord>, FileFault>
     }
 }
 
+/// The structs at the top of a JSON schema file: those whose names have no point.
+fn tops_of(alloc: Global, nodes: &[NodeRecord]) -> Result<Vec<u64>, AllocError> {
+    let names = names_of(alloc, nodes, &[])?;
+    unscoped(alloc, &names)
+}
+
+/// What a JSON schema file tells.
+fn json_told(alloc: Global, bytes: &[u8], form: SchemaForm) -> Result<Requested, SchemaTrouble>
+    ensures nodes { IfOk result
+        (λ told. json_nodes bytes.now ≡ Some (map node_of told.nodes.items)) }
+    ensures floats { IfOk result (λ told. told.floats.items ≡ []) }
+{
+    let nodes = match json_file(alloc, bytes) {
+        Ok(nodes) => nodes,
+        Err(FileFault::Memory) => return Err(SchemaTrouble::Memory),
+        Err(FileFault::Form) => return Err(trouble_of(alloc, form, bytes)),
+    };
+    let top_structs = tops_of(alloc, &nodes)?;
+    Ok(Requested {
+        nodes,
+        floats: Vec::new(alloc),
+        interfaces: Vec::new(alloc),
+        files: Vec::new(alloc),
+        top_structs,
+    })
+}
+
+/// What a file tells, which may have no nodes.
+fn read_any(alloc: Global, bytes: &[u8], floats: Floats) -> Result<Requested, SchemaTrouble>
+    ensures nodes { IfOk result
+        (λ told. AreNodesTold floats bytes.now (map node_of told.nodes.items)) }
+    ensures floats { IfOk result
+        (λ told. AreFloatsTold bytes.now (map float_told told.floats.items)) }
+{
+    let form = schema_form(bytes);
+    if !is_request(bytes) {
+        return json_told(alloc, bytes, form);
+    }
+    if form != SchemaForm::Request {
+        return Err(trouble_of(alloc, form, bytes));
+    }
+    match request_file(alloc, bytes, floats) {
+        Ok(requested) => Ok(requested),
+        Err(fault) => Err(request_trouble(fault)),
+    }
+}
+
 /// The nodes that a file tells. It is a request of the compiler, which `capnp compile -o-` writes,
 /// or a JSON schema file, whose ids are numbers or texts of their digits. The fields that are
-/// floats are those of a request.
+/// floats or capabilities of an interface are those of a request.
 pub fn read_told(alloc: Global, bytes: &[u8], floats: Floats) -> Result<Requested, SchemaTrouble>
     ensures nodes { IfOk result
-        (λ told. nodes_told floats bytes.now ≡ Some (map node_of told.nodes.items)) }
+        (λ told. AreNodesTold floats bytes.now (map node_of told.nodes.items)) }
     ensures floats { IfOk result
-        (λ told. floats_of_file bytes.now ≡ Some (map float_told told.floats.items)) }
+        (λ told. AreFloatsTold bytes.now (map float_told told.floats.items)) }
 {
-    if is_request(bytes) {
-        return match request_file(alloc, bytes, floats) {
-            Ok(requested) => Ok(requested),
-            Err(fault) => Err(request_trouble(alloc, bytes, fault)),
-        };
+    let told = read_any(alloc, bytes, floats)?;
+    if told.nodes.is_empty() {
+        return Err(SchemaTrouble::NoNodes);
     }
-    match json_file(alloc, bytes) {
-        Ok(nodes) => Ok(Requested {
-            nodes,
-            floats: Vec::new(alloc),
-        }),
-        Err(FileFault::Memory) => Err(SchemaTrouble::Memory),
-        Err(FileFault::Form) => Err(json_trouble(alloc, bytes)),
-    }
+    Ok(told)
 }
 
 /// The nodes that a file tells, as `read_told` reads them.
@@ -207,7 +202,7 @@ pub fn read_nodes(
     bytes: &[u8],
     floats: Floats,
 ) -> Result<Vec<NodeRecord>, SchemaTrouble>
-    ensures { IfOk result (λ nodes. nodes_told floats bytes.now ≡ Some (map node_of nodes.items)) }
+    ensures { IfOk result (λ nodes. AreNodesTold floats bytes.now (map node_of nodes.items)) }
 {
     Ok(read_told(alloc, bytes, floats)?.nodes)
 }
@@ -220,25 +215,40 @@ fn name_at(alloc: Global, nodes: &[NodeRecord], place: usize) -> Result<String, 
     }
 }
 
-/// The nodes that a file tells, which keep all rules, and the fields that are floats there.
+/// What a file tells, whose nodes keep all rules.
 #[derive(Drop)]
 pub struct CheckedSchema {
     pub set: SchemaSet,
+    /// The fields that are floats in a request.
     pub floats: Vec<FloatField>,
+    /// Those that are capabilities of an interface.
+    pub interfaces: Vec<InterfaceField>,
+    /// The names of the nodes' files, if they are told.
+    pub files: Vec<String>,
+    /// The structs at the top of the file.
+    pub top_structs: Vec<u64>,
 }
 
-/// The set of the nodes that a file tells, which keep all rules, and the fields that are floats.
+/// The set of the nodes that a file tells, which keep all rules, and what else it tells.
 pub fn read_set(alloc: Global, bytes: &[u8], floats: Floats) -> Result<CheckedSchema, SchemaTrouble>
-    ensures nodes { IfOk result (λ s. nodes_told floats bytes.now ≡ Some (nodes_of s.set)) }
+    ensures nodes { IfOk result (λ s. AreNodesTold floats bytes.now (nodes_of s.set)) }
     ensures floats { IfOk result
-        (λ s. floats_of_file bytes.now ≡ Some (map float_told s.floats.items)) }
+        (λ s. AreFloatsTold bytes.now (map float_told s.floats.items)) }
 {
-    let told = read_told(alloc, bytes, floats)?;
-    let floats_told = told.floats;
-    match SchemaSet::new(told.nodes) {
+    let Requested {
+        nodes,
+        floats: float_fields,
+        interfaces,
+        files,
+        top_structs,
+    } = read_told(alloc, bytes, floats)?;
+    match SchemaSet::new(nodes) {
         Ok(set) => Ok(CheckedSchema {
             set,
-            floats: floats_told,
+            floats: float_fields,
+            interfaces,
+            files,
+            top_structs,
         }),
         Err(SchemaFault::Memory) => Err(SchemaTrouble::Memory),
         Err(SchemaFault::Rule { rule, node }) => {
@@ -249,44 +259,18 @@ pub fn read_set(alloc: Global, bytes: &[u8], floats: Floats) -> Result<CheckedSc
     }
 }
 
-/// Whether a node has a name: its own, the part of it behind the last colon, or the part behind the
-/// last point, as `Order` is of `shop.capnp:Order`.
-fn is_named(node: &NodeRecord, name: &str) -> bool {
-    let whole = node.display_name.as_str();
-    if whole == name {
-        return true;
+/// The id of the root: that of the struct which a word names, or without a word the one struct at
+/// the top.
+fn root_of(alloc: Global, schema: &CheckedSchema, word: Option<&str>) -> Result<u64, RootTrouble>
+    ensures { IfOk result (IsRootOf (option_copied word.entry)
+        (names_of (nodes_of schema.now.set) (map string_bytes schema.now.files.items))
+        schema.now.top_structs.items) }
+{
+    let names = names_of(alloc, schema.set.nodes(), &schema.files)?;
+    match word {
+        Some(word) => root_named(alloc, &names, word),
+        None => single_root(alloc, &names, &schema.top_structs),
     }
-    let short = match whole.rsplit_once(':') {
-        Some((_, short)) => short,
-        None => whole,
-    };
-    if short == name {
-        return true;
-    }
-    match short.rsplit_once('.') {
-        Some((_, last)) => last == name,
-        None => false,
-    }
-}
-
-/// The id that decimal digits spell, without a sign.
-fn id_of_digits(word: &str) -> Option<u64> {
-    if word.starts_with('+') {
-        return None;
-    }
-    word.parse::<u64>().ok()
-}
-
-/// The id of the first struct that is no group and has a name.
-fn id_of_name(nodes: &[NodeRecord], name: &str) -> Option<u64> {
-    for node in nodes {
-        if let NodeBody::Struct(body) = &node.body {
-            if !body.is_group && is_named(node, name) {
-                return Some(node.id);
-            }
-        }
-    }
-    None
 }
 
 /// A schema, and the struct that messages have at their root.
@@ -295,42 +279,62 @@ pub struct RootedSchema {
     set: SchemaSet,
     root: RawBrandedStructSchema,
     floats: Vec<FloatField>,
+    interfaces: Vec<InterfaceField>,
+    /// The names of the nodes' files, if they are told.
+    files: Vec<String>,
+    /// The structs at the top of the file.
+    top_structs: Vec<u64>,
     pub ghost known: { IsStructOf (nodes_of set) root },
 }
 
 impl RootedSchema {
-    ghost use Rattle.std.specs.Prelude.{◌≡◌, ℕ, Some, IfOk};
+    ghost use Rattle.std.specs.Prelude.{◌≡◌, ◌==◌, ℕ, not, length, IfOk, map, option_copied, string_bytes};
+    ghost use Rattle.hagzimot_schemas.specs.Roots.{names_of, IsRootOf};
     ghost use Rattle.capnp_records.specs.Sets.{nodes_of, IsStructOf};
     ghost use Rattle.capnp_values_queries.specs.Structs.{nodes_around, id_of};
     ghost use Rattle.capnp_calls.specs.Roots.{IsRoot};
     ghost use Rattle.capnp_relay_requests.specs.Floats.{float_told};
-    ghost use Rattle.hagzimot_schemas.specs.SchemaForms.{nodes_told, floats_of_file};
+    ghost use Rattle.hagzimot_schemas.specs.SchemaForms.{AreNodesTold, AreFloatsTold};
 
-    /// The schema that a file tells, with the struct of this name, or of this id in decimal digits,
-    /// as root.
+    /// The schema that a file tells, with the struct that a word names as root, as `root_named`
+    /// has it; without a word, with the one struct at the top of the file.
     pub fn new(
         alloc: Global,
         bytes: &[u8],
         floats: Floats,
-        root: &str,
+        root: Option<&str>,
     ) -> Result<RootedSchema, SchemaTrouble>
-        ensures nodes { IfOk result (λ s. nodes_told floats bytes.now ≡ Some (nodes_of s.set)) }
+        ensures nodes { IfOk result (λ s. AreNodesTold floats bytes.now (nodes_of s.set)) }
         ensures floats { IfOk result
-            (λ s. floats_of_file bytes.now ≡ Some (map float_told s.floats.items)) }
+            (λ s. AreFloatsTold bytes.now (map float_told s.floats.items)) }
+        ensures root { IfOk result (λ s. IsRootOf (option_copied root.entry)
+            (names_of (nodes_of s.set) (map string_bytes s.files.items))
+            s.top_structs.items s.root.id) }
     {
-        let CheckedSchema { set, floats } = read_set(alloc, bytes, floats)?;
+        let schema = read_set(alloc, bytes, floats)?;
         struct_is_named();
-        let id = match id_of_name(set.nodes(), root) {
-            Some(id) => Some(id),
-            None => id_of_digits(root),
+        let id = match root_of(alloc, &schema, root) {
+            Ok(id) => id,
+            Err(trouble) => return Err(SchemaTrouble::Root(trouble)),
         };
-        let found = match id {
-            Some(id) => set.struct_by_id(id),
-            None => None,
-        };
-        match found {
-            Some(root) => Ok(RootedSchema { set, root, floats }),
-            None => Err(SchemaTrouble::NoRoot(String::from_str(alloc, root)?)),
+        let CheckedSchema {
+            set,
+            floats,
+            interfaces,
+            files,
+            top_structs,
+        } = schema;
+        match set.struct_by_id(id) {
+            Some(root) => Ok(RootedSchema {
+                set,
+                root,
+                floats,
+                interfaces,
+                files,
+                top_structs,
+            }),
+            // A root that is named is a struct of the set.
+            None => Err(SchemaTrouble::Memory),
         }
     }
 
@@ -366,6 +370,22 @@ impl RootedSchema {
         ensures { result.now ≡ self.now.floats.items }
     {
         &self.floats
+    }
+
+    /// Whether the schema tells which fields are capabilities of which interface: a request of the
+    /// compiler does, a JSON file doesn't.
+    pub fn tells_interfaces(&self) -> bool
+        ensures { result ≡ not (length self.now.files.items == 0) }
+    {
+        !self.files.is_empty()
+    }
+
+    /// The fields that are capabilities of an interface in the compiler's request; none of a JSON
+    /// file.
+    pub fn interfaces(&self) -> &[InterfaceField]
+        ensures { result.now ≡ self.now.interfaces.items }
+    {
+        &self.interfaces
     }
 
     /// The set of the nodes.

@@ -1,6 +1,6 @@
 use Rattle.std.proofs.Common.{rules, ap, sym, ◌∙◌, arith}
 use Rattle.hagzimot_schemas.specs.Nodes.{behind_colons}
-use Rattle.hagzimot_schemas.proofs.Names.{colon_cut, no_colon_stands}
+use Rattle.hagzimot_schemas.proofs.Colons.{colon_cut, no_colon_stands}
 use Rattle.hagzimot_schemas.proofs.nodes.short_name.Goals as goal
 
 pub loop-behind-preserved : goal.loop-behind-preserved

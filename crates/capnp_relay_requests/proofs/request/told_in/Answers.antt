@@ -5,7 +5,7 @@ use Rattle.capnp_relay_requests.specs.declared.annotations.Context.{Context}
 use Rattle.capnp_relay_requests.specs.declared.fault.RequestFault.{RequestFault}
 use Rattle.capnp_relay_requests.specs.Steps.{IsRequestRefusal}
 use Rattle.capnp_relay_requests.proofs.Declared.{records_are}
-use Rattle.capnp_relay_requests.proofs.request.schema_of.Goals as goal
+use Rattle.capnp_relay_requests.proofs.request.told_in.Goals as goal
 
 pub returns-in_err-nodes-clause-refused : goal.returns-in_err-nodes-clause-refused
 returns-in_err-nodes-clause-refused g c =

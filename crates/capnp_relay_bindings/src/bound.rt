@@ -1,0 +1,137 @@
+//! Generic nodes whose parameters are bound.
+
+use crate::identity::{id_of_key, key_of};
+use crate::names::bound_name;
+use crate::scopes::Scopes;
+use crate::types::Binding;
+use std::alloc::{AllocError, AllocFailed, Global};
+use std::collections::HashMap;
+
+/// How many nodes may be bound.
+pub const MOST_BOUND: usize = 16_384;
+
+/// A generic node whose parameters are bound.
+#[derive(Drop)]
+pub struct BoundNode {
+    pub id: u64,
+    /// The id of the generic node.
+    pub generic: u64,
+    /// Its name, with what its parameters are bound to.
+    pub name: String,
+    pub bindings: Vec<Binding>,
+    key: Vec<u8>,
+}
+
+/// Why nodes can't be bound.
+#[derive(Clone, Copy)]
+pub enum BindFault {
+    /// More than `MOST_BOUND` nodes.
+    TooMany,
+    /// Two nodes, or other bindings of one, have the same id.
+    Clash,
+    /// A growth was refused.
+    Memory,
+}
+
+impl From<AllocError> for BindFault {
+    ghost use Rattle.std.specs.Prelude.{◌≡◌};
+    ghost use Rattle.capnp_relay_bindings.specs.declared.bound.BindFault.{BindFault};
+
+    ghost from_gives = { λ _ fault. fault ≡ BindFault.Memory };
+
+    fn from(_e: AllocError) -> BindFault {
+        BindFault::Memory
+    }
+}
+
+impl<T: Drop> From<AllocFailed<T>> for BindFault {
+    fn from(_e: AllocFailed<T>) -> BindFault {
+        BindFault::Memory
+    }
+}
+
+/// The bound nodes that are reached, in the order in which they were found.
+#[derive(Drop)]
+pub struct BoundNodes {
+    nodes: Vec<BoundNode>,
+    places: HashMap<u64, usize>,
+}
+
+impl BoundNodes {
+    ghost use Rattle.std.specs.Prelude.{◌≡◌, IfOk};
+    ghost use Rattle.capnp_relay_bindings.specs.Identity.{bound_id};
+
+    /// No nodes.
+    pub fn new(alloc: Global) -> BoundNodes {
+        BoundNodes {
+            nodes: Vec::new(alloc),
+            places: HashMap::new(alloc),
+        }
+    }
+
+    /// The nodes.
+    pub fn nodes(&self) -> &[BoundNode] {
+        self.nodes.as_slice()
+    }
+
+    /// The node of an id.
+    pub fn get(&self, id: u64) -> Option<&BoundNode> {
+        let place = *self.places.get(&id)?;
+        self.nodes.get(place)
+    }
+
+    /// Puts a node of an id behind the others.
+    fn push(
+        &mut self,
+        alloc: Global,
+        scopes: &Scopes,
+        id: u64,
+        generic: u64,
+        bindings: Vec<Binding>,
+        key: Vec<u8>,
+    ) -> Result<(), BindFault> {
+        let place = self.nodes.len();
+        if place >= MOST_BOUND {
+            return Err(BindFault::TooMany);
+        }
+        let name = bound_name(alloc, scopes, self, generic, &bindings)?;
+        self.places.insert(id, place)?;
+        self.nodes.push(BoundNode {
+            id,
+            generic,
+            name,
+            bindings,
+            key,
+        })?;
+        Ok(())
+    }
+
+    /// The id of a node with these bindings: its own where nothing is bound. A node that wasn't
+    /// there is put behind the others.
+    pub fn bind(
+        &mut self,
+        alloc: Global,
+        scopes: &Scopes,
+        generic: u64,
+        bindings: Vec<Binding>,
+    ) -> Result<u64, BindFault>
+        ensures { IfOk result (λ id. id ≡ bound_id generic bindings.items) }
+    {
+        if bindings.is_empty() {
+            return Ok(generic);
+        }
+        let key = key_of(alloc, generic, &bindings)?;
+        let id = id_of_key(&key);
+        if let Some(known) = self.get(id) {
+            if known.key.as_slice() == key.as_slice() {
+                return Ok(id);
+            }
+            return Err(BindFault::Clash);
+        }
+        if scopes.get(id).is_some() {
+            return Err(BindFault::Clash);
+        }
+        self.push(alloc, scopes, id, generic, bindings, key)?;
+        Ok(id)
+    }
+}

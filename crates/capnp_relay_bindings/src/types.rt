@@ -1,0 +1,135 @@
+//! Types whose parameters are bound.
+
+ghost use Rattle.std.specs.Prelude.{◌≡◌};
+ghost use Rattle.capnp_relay_bindings.specs.Types.{is_pointer_base, bound_to};
+
+use capnp_records::node::{BaseType, TypeRecord};
+
+/// How many types may be nested in an argument; a deeper one is the untyped pointer.
+pub const MOST_NESTED: u32 = 16;
+
+/// A type without parameters.
+#[derive(Clone, Copy)]
+pub struct BoundType {
+    pub ty: TypeRecord,
+    /// The interface whose capability it is, by its id; 0 of any capability, and of another type.
+    pub interface: u64,
+    /// How many types are nested in it, itself among them.
+    pub depth: u32,
+}
+
+/// Whether the values of a base lie behind pointers.
+fn is_pointer_base(base: BaseType) -> bool
+    ensures { result ≡ is_pointer_base base }
+{
+    matches!(
+        base,
+        BaseType::Text
+            | BaseType::Data
+            | BaseType::Struct(_)
+            | BaseType::AnyPointer
+            | BaseType::Capability
+    )
+}
+
+impl BoundType {
+    ghost use Rattle.std.specs.Prelude.{◌≡◌, ◌==◌, ◌&&◌};
+    ghost use Rattle.capnp_records.specs.declared.node.BaseType.TheVariants.{AnyPointer, Capability};
+    ghost use Rattle.capnp_relay_bindings.specs.Types.{plain_type, argument_of};
+
+    /// A type that isn't nested.
+    pub fn of(base: BaseType) -> BoundType
+        ensures { result ≡ plain_type base }
+    {
+        BoundType {
+            ty: TypeRecord {
+                list_count: 0,
+                base,
+            },
+            interface: 0,
+            depth: 1,
+        }
+    }
+
+    /// The untyped pointer.
+    pub fn untyped() -> BoundType
+        ensures { result ≡ plain_type AnyPointer }
+    {
+        BoundType::of(BaseType::AnyPointer)
+    }
+
+    /// A capability of an interface.
+    pub fn capability(interface: u64) -> BoundType
+        ensures { result ≡ record (plain_type Capability) { interface = interface } }
+    {
+        BoundType {
+            interface,
+            ..BoundType::of(BaseType::Capability)
+        }
+    }
+
+    /// A list of the type.
+    pub fn in_list(self) -> BoundType {
+        BoundType {
+            ty: TypeRecord {
+                list_count: self.ty.list_count.saturating_add(1),
+                base: self.ty.base,
+            },
+            interface: self.interface,
+            depth: self.depth.saturating_add(1),
+        }
+    }
+
+    /// Whether it is the untyped pointer.
+    pub fn is_untyped(self) -> bool {
+        self.ty.list_count == 0 && self.ty.base == BaseType::AnyPointer
+    }
+
+    /// The type as an argument: the untyped pointer where too many types are nested in it, or where
+    /// its values don't lie behind pointers.
+    pub fn as_argument(self) -> BoundType
+        ensures { result ≡ argument_of self }
+    {
+        let is_pointer = self.ty.list_count > 0 || is_pointer_base(self.ty.base);
+        if self.depth <= MOST_NESTED && is_pointer {
+            self
+        } else {
+            BoundType::untyped()
+        }
+    }
+}
+
+/// What a parameter of a scope is bound to. A parameter that isn't bound has no binding.
+#[derive(Clone, Copy)]
+pub struct Binding {
+    /// The id of the node that has the parameter.
+    pub scope: u64,
+    /// The index of the parameter.
+    pub index: u32,
+    pub to: BoundType,
+}
+
+/// The type that a parameter is bound to; one that isn't bound is the untyped pointer.
+pub fn bound_to(bindings: &[Binding], scope: u64, index: u32) -> BoundType
+    ensures { result ≡ bound_to bindings.now scope index }
+{
+    let mut left = bindings;
+    while let [binding, others @ ..] = left {
+        if binding.scope == scope && binding.index == index {
+            return binding.to;
+        }
+        left = others;
+    }
+    BoundType::untyped()
+}
+
+/// How many types are nested in a type of these bindings.
+pub fn depth_of(bindings: &[Binding]) -> u32 {
+    let mut most = 0;
+    for binding in bindings {
+        if binding.to.depth > most {
+            most = binding.to.depth;
+        }
+    }
+    most.saturating_add(1)
+}
