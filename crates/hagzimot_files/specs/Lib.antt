@@ -1,0 +1,6 @@
+pub mod Calls
+pub mod Drafts
+pub mod Faults
+pub mod Names
+pub mod Note
+pub mod Places
