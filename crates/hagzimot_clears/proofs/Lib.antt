@@ -1,0 +1,2 @@
+mod SameCalls
+mod Cleared

@@ -1,0 +1,7 @@
+//! Calls that clear a member of a union only where it is active.
+#![tactic(auto)]
+
+pub mod active;
+pub mod clears;
+mod copies;
+pub mod planned;

@@ -1,0 +1,8 @@
+//! What becomes of messages and their calls, and the lines of the log that say so.
+#![tactic(auto)]
+
+pub mod log_lines;
+pub mod outcomes;
+pub mod refused_calls;
+pub mod skips;
+pub mod watched;

@@ -1,0 +1,169 @@
+//! Answers of which it is noted what became of each message and its calls.
+
+use crate::outcomes::{
+    CallOutcome, Cause, Outcome, RefusedCall, first_refusal, outcomes_of, refused_calls,
+};
+use crate::skips::Skips;
+use capnp_calls::reply::Reply;
+use capnp_relay_loop::answer::{MessageAnswer, Reason, Want};
+use capnp_relay_loop::answers::Answers;
+use capnp_stream::buffers::NoAllocSliceSegments;
+use capnp_units::sizes::Word;
+use std::alloc::{AllocError, Global};
+use std::cell::Cell;
+
+/// The replies of an answer that were made one by one; none where each call is done, or the message
+/// has no answer.
+#[inline(always)]
+fn replies_of(answer: &MessageAnswer) -> &[Reply] {
+    match answer {
+        MessageAnswer::Written { count: _, replies } => replies.as_slice(),
+        MessageAnswer::Several {
+            segments: _,
+            replies,
+        } => replies.as_slice(),
+        MessageAnswer::Done { .. } | MessageAnswer::Refused(_) => &[],
+    }
+}
+
+/// Answers as they are; how many calls are refused is counted.
+// Measured: where each call is done nothing is counted, so a small message costs nothing more.
+#[derive(Drop)]
+pub struct Counted<'a, 'n, A> {
+    pub answers: &'a A,
+    /// How many calls were refused so far.
+    pub refused: &'n Cell<u64>,
+}
+
+impl<A: Answers> Answers for Counted<'_, '_, A> {
+    ghost is_answer = { λ c. A.is_answer c.answers.now };
+
+    ghost is_too_large = { λ c. A.is_too_large c.answers.now };
+
+    #[inline(always)]
+    fn answer(
+        &self,
+        alloc: Global,
+        message: &NoAllocSliceSegments<'_>,
+        region: &mut [u8],
+        words: &mut Vec<Word>,
+    ) -> Result<MessageAnswer, Want> {
+        let answer = self.answers.answer(alloc, message, region, words);
+        if let Ok(answer) = &answer {
+            let replies = replies_of(answer);
+            if !replies.is_empty() {
+                let refused = refused_calls(replies) as u64;
+                self.refused.set(self.refused.get().saturating_add(refused));
+            }
+        }
+        answer
+    }
+}
+
+/// Answers of which it is noted what became of the message. If they are strict a message with a
+/// call that is refused is refused too.
+#[derive(Drop)]
+pub struct Watched<'a, 'n, 'p, 'i, A> {
+    pub answers: &'a A,
+    /// What became of the message that was answered last.
+    pub noted: &'n Cell<Option<Outcome>>,
+    pub is_strict: bool,
+    /// Which calls the answers leave out, if they leave some out.
+    pub skips: Option<Skips<'p, 'i>>,
+}
+
+/// Returns what became of a message with this answer, whose calls all ran.
+fn outcome_of(alloc: Global, answer: &MessageAnswer) -> Result<Outcome, AllocError> {
+    match answer {
+        MessageAnswer::Done { count: _, calls } => Ok(Outcome::Done(*calls)),
+        MessageAnswer::Refused(reason) => Ok(Outcome::Refused(Cause::Message(*reason))),
+        written => Ok(Outcome::Written(outcomes_of(alloc, replies_of(written))?)),
+    }
+}
+
+/// Returns what became of a message, with the calls that did not run among the others.
+fn with_skips(
+    alloc: Global,
+    outcome: Outcome,
+    skips: Skips<'_, '_>,
+) -> Result<Outcome, AllocError> {
+    if skips.are_none() {
+        return Ok(outcome);
+    }
+    match outcome {
+        Outcome::Written(calls) => Ok(Outcome::Written(skips.among(alloc, calls)?)),
+        Outcome::Done(count) => {
+            let mut calls = Vec::new(alloc);
+            for _call in 0..count {
+                calls.push(CallOutcome::Done)?;
+            }
+            Ok(Outcome::Written(skips.among(alloc, calls)?))
+        }
+        other => Ok(other),
+    }
+}
+
+impl<A> Watched<'_, '_, '_, '_, A> {
+    ghost use Rattle.std.specs.Prelude.{◌≡◌, IfErr};
+    ghost use Rattle.capnp_relay_loop.specs.declared.answer.Want.{Want};
+
+    /// Notes what became of a message with this answer.
+    fn note(&self, alloc: Global, answer: &MessageAnswer) -> Result<(), Want>
+        ensures { IfErr result (λ want. want ≡ Want.Memory) }
+    {
+        let outcome = match (outcome_of(alloc, answer), self.skips) {
+            (Ok(outcome), Some(skips)) => with_skips(alloc, outcome, skips),
+            (outcome, _) => outcome,
+        };
+        match outcome {
+            Ok(outcome) => {
+                self.noted.set(Some(outcome));
+                Ok(())
+            }
+            Err(_) => Err(Want::Memory),
+        }
+    }
+
+    /// Notes that a message is refused for the call at a place, counted from 0, with this reply.
+    fn note_refused(&self, reply: Option<&Reply>, place: usize) {
+        let Some(Reply::Refused(kind)) = reply else {
+            return;
+        };
+        let call = RefusedCall {
+            number: place.saturating_add(1),
+            kind: *kind,
+        };
+        let call = match self.skips {
+            Some(skips) => skips.numbered(call),
+            None => call,
+        };
+        self.noted.set(Some(Outcome::Refused(Cause::Call(call))));
+    }
+}
+
+impl<A: Answers> Answers for Watched<'_, '_, '_, '_, A> {
+    ghost use Rattle.hagzimot_outcomes.specs.Watching.{IsWatched};
+
+    ghost is_answer = { λ w. IsWatched w.is_strict (A.is_answer w.answers.now) };
+
+    ghost is_too_large = { λ w. A.is_too_large w.answers.now };
+
+    fn answer(
+        &self,
+        alloc: Global,
+        message: &NoAllocSliceSegments<'_>,
+        region: &mut [u8],
+        words: &mut Vec<Word>,
+    ) -> Result<MessageAnswer, Want> {
+        let answer = self.answers.answer(alloc, message, region, words)?;
+        if self.is_strict {
+            let replies = replies_of(&answer);
+            if let Some(place) = first_refusal(replies) {
+                self.note_refused(replies.get(place), place);
+                return Ok(MessageAnswer::Refused(Reason::Value));
+            }
+        }
+        self.note(alloc, &answer)?;
+        Ok(answer)
+    }
+}
