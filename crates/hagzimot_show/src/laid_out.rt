@@ -4,7 +4,7 @@ ghost use Rattle.capnp_units.specs.Segments.{words_in};
 ghost use Rattle.hagzimot_commands.specs.Answers.{canonical_limits};
 ghost use Rattle.hagzimot_show.specs.Shown.{HasValueWithin, IsRecordFault, IsLayoutFault};
 
-use crate::layout::{Layout, Style};
+use crate::layout::{Layout, Spelling, Style};
 use crate::walk::{MOST_LEVELS, put_value};
 use capnp_message::options::ReaderOptions;
 use capnp_relay_requests::request::FloatField;
@@ -20,6 +20,7 @@ use capnp_values_queries::structs::StructSchema;
 use capnp_wire::pointer::PointerReader;
 use capnp_wire_objects::arena::{ReaderArena, ReaderArenaImpl};
 use hagzimot_commands::canonical::{Canonical, write_value};
+use hagzimot_faults::locate::WalkLimits;
 use std::alloc::Global;
 
 /// How messages are shown.
@@ -30,6 +31,8 @@ pub struct Manner<'a> {
     /// How far messages are followed.
     pub limits: Canonical,
     pub layout: Layout,
+    /// How single values are spelled in text; JSON has its own spelling.
+    pub spelling: Spelling,
     /// The fields that are floats: the whole numbers there are the bits of floats.
     pub floats: &'a [FloatField],
 }
@@ -40,6 +43,19 @@ impl Manner<'_> {
         ReaderOptions {
             traversal_limit_in_words: Some(self.limits.words as usize),
             nesting_limit: self.nesting_limit(),
+        }
+    }
+
+    /// Returns whether messages are shown as `print` writes their records.
+    pub(crate) fn is_printed(&self) -> bool {
+        self.layout == Layout::Line && self.spelling == Spelling::Hagzimot && self.floats.is_empty()
+    }
+
+    /// Returns the limits as a walk takes them.
+    pub(crate) fn walk_limits(&self) -> WalkLimits {
+        WalkLimits {
+            words: self.limits.words,
+            nesting: self.limits.nesting,
         }
     }
 
@@ -78,10 +94,12 @@ fn text_of<'a, A: ReaderArena>(
     let style = Style {
         alloc,
         layout: manner.layout,
+        spelling: manner.spelling,
         floats: manner.floats,
     };
     let mut text = String::new(alloc);
-    match put_value(&mut text, style, value, false, MOST_LEVELS) {
+    let mut nulls = Vec::new(alloc);
+    match put_value(&mut text, &mut nulls, style, value, false, MOST_LEVELS) {
         Ok(()) => Ok(text),
         Err(e) => Err(fault_of(e)),
     }

@@ -6,7 +6,7 @@ use capnp_values_queries::fields::Field;
 use std::alloc::Global;
 use std::fmt::{Display, Write};
 
-/// How values are written.
+/// How values are laid out.
 #[derive(Clone, Copy, Debug, PartialEq, Eq)]
 pub enum Layout {
     /// As text, on one line.
@@ -17,17 +17,44 @@ pub enum Layout {
     Json,
 }
 
+/// How single values are spelled in text.
+#[derive(Clone, Copy, Debug, PartialEq, Eq)]
+pub enum Spelling {
+    /// As the relay's log spells them.
+    Hagzimot,
+    /// As the C++ tool `capnp` spells them, which reads them back.
+    Capnp,
+}
+
+/// A field, by the id of its struct's node and its index.
+#[derive(Clone, Copy, Debug, PartialEq, Eq)]
+pub(crate) struct FieldKey {
+    node: u64,
+    index: u16,
+}
+
+impl FieldKey {
+    /// Returns the key of a field.
+    pub(crate) fn of(field: Field<'_>) -> FieldKey {
+        FieldKey {
+            node: field.parent().get_proto().id,
+            index: field.get_index(),
+        }
+    }
+}
+
 /// Writes something behind the rest.
 pub(crate) fn put<T: Display + Drop>(out: &mut String, part: T) -> Result<(), Error> {
     write!(out, "{part}")?;
     Ok(())
 }
 
-/// A layout, and the fields that are floats.
+/// A layout, the spelling of single values, and the fields that are floats.
 #[derive(Clone, Copy)]
 pub(crate) struct Style<'a> {
     pub(crate) alloc: Global,
     pub(crate) layout: Layout,
+    pub(crate) spelling: Spelling,
     pub(crate) floats: &'a [FloatField],
 }
 

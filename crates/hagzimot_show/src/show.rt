@@ -1,15 +1,15 @@
 //! Messages of a stream as text.
-ghost use Rattle.std.specs.Prelude.{◌≡◌, ℕ, ◌<◌, ◌≤◌, true, Ok, IfOk, IfErr};
-ghost use Rattle.std.specs.Io.KnownBytes.{Keeps};
+ghost use Rattle.std.specs.Prelude.{◌≡◌, ℕ, ◌<◌, ◌≤◌, true, false, [], ◌∷◌, ◌++◌, Ok, IfOk, IfErr, OnOk, string_bytes};
+ghost use Rattle.std.specs.Io.KnownBytes.{Keeps, Appends};
 ghost use Rattle.capnp_model.specs.Messages.{frame};
 ghost use Rattle.capnp_units.specs.Segments.{words_in};
 ghost use Rattle.capnp_stream.specs.Writing.{AreWritable};
 ghost use Rattle.capnp_relay_show.specs.Answers.{shown_by};
 ghost use Rattle.hagzimot_show.specs.Shown.{IsNotShown};
-ghost use Rattle.hagzimot_show.specs.Sinks.{GrowsAtEnd};
+ghost use Rattle.hagzimot_show.specs.Sinks.{EndsInLineFeed, GrowsAtEnd, GrowsByLines};
 
+use crate::explain::{MessageOrigin, explained, message_line};
 use crate::laid_out::{Manner, laid_out};
-use crate::layout::Layout;
 use capnp_message::options::ReaderOptions;
 use capnp_relay_loop::ends::Fault;
 use capnp_relay_loop::pauses::Pause;
@@ -22,8 +22,7 @@ use capnp_units::errors::Error;
 use capnp_units::kinds::ErrorKind;
 use capnp_units::segments::ReaderSegments;
 use capnp_values_queries::structs::StructSchema;
-use std::alloc::Global;
-use std::fmt::Write as _;
+use std::alloc::{AllocError, Global};
 
 /// Which messages of a stream are shown, counted from 1.
 #[derive(Clone, Copy, Debug, PartialEq, Eq)]
@@ -73,24 +72,35 @@ pub fn text_of_segments<S: ReaderSegments>(
     }
 }
 
-/// What the log says of a message that can't be shown.
-fn line_of(alloc: Global, number: u64, fault: ShowFault) -> Result<String, Fault> {
-    match format!(in alloc; "message {number} not shown: {fault}\n") {
-        Ok(line) => Ok(line),
-        Err(_) => Err(Fault::Memory),
-    }
+/// Where the messages of a stream come from.
+pub trait Origin {
+    /// Returns the name of the file.
+    fn file(&self) -> &str;
+
+    /// Returns how many bytes of the file are before the message that was read last.
+    fn byte(&self) -> u64;
 }
 
 /// Writes bytes to a sink.
 #[tactic(auto, using(crate::proofs::Sinks::sinks))]
 fn put<W: Write>(sink: &mut W, bytes: &[u8], fault: Fault) -> Result<(), Fault>
-    ensures { GrowsAtEnd (W.contents sink.old) (W.contents sink.new) }
+    ensures grows { GrowsAtEnd (W.contents sink.old) (W.contents sink.new) }
+    ensures given { OnOk result (Appends (W.contents sink.old) (W.contents sink.new) bytes.now) }
 {
     match sink.write_all(bytes) {
         Ok(()) => Ok(()),
         Err(e) if e.kind == ErrorKind::OutOfMemory => Err(Fault::Memory),
         Err(_) => Err(fault),
     }
+}
+
+/// Returns a line of the log with its line feed.
+fn ended(line: String) -> Result<Vec<u8>, AllocError>
+    ensures { IfOk result (λ bytes. bytes.items ≡ string_bytes line ++ 10 ∷ []) }
+{
+    let mut bytes = line.into_bytes();
+    bytes.push(b'\n')?;
+    Ok(bytes)
 }
 
 /// What a refused read is told as.
@@ -104,29 +114,53 @@ fn read_fault(e: Error) -> Fault {
 
 /// A reader of messages that are shown, and what it counted.
 #[derive(Drop)]
-struct Shower<'a> {
+struct Shower<'a, O> {
     alloc: Global,
     manner: Manner<'a>,
     chosen: Chosen,
     counts: ShownCounts,
+    origin: &'a O,
 }
 
-impl Shower<'_> {
+impl<O: Origin> Shower<'_, O> {
     /// What a message is shown as.
     fn text_of<S: ReaderSegments>(&self, segments: &S) -> Result<Vec<u8>, ShowFault>
         requires { AreWritable (S.segments segments.now) }
     {
         let manner = self.manner;
-        if manner.layout == Layout::Line && manner.floats.is_empty() {
+        if manner.is_printed() {
             return text_of_segments(self.alloc, segments, manner.root, manner.options());
         }
         let text = laid_out(self.alloc, segments, manner)?;
         Ok(text.into_bytes())
     }
 
+    /// Returns the line of the log about a message that can't be shown, with its line feed.
+    fn line_of<S: ReaderSegments>(
+        &self,
+        segments: &S,
+        number: u64,
+        fault: ShowFault,
+    ) -> Result<Vec<u8>, AllocError>
+        ensures { IfOk result (λ line. EndsInLineFeed line.items) }
+    {
+        let manner = self.manner;
+        let origin = MessageOrigin {
+            file: self.origin.file(),
+            number,
+            byte: self.origin.byte(),
+        };
+        let limits = manner.walk_limits();
+        let why = match explained(self.alloc, segments, Some(manner.root), limits)? {
+            Some(why) => why,
+            None => format!(in self.alloc; "{fault}")?,
+        };
+        ended(message_line(self.alloc, origin, "not shown", why.as_str())?)
+    }
+
     /// Writes the text of a message of this number, and a line feed; or a line to the log, where it
     /// can't be shown.
-    #[tactic(auto, using(crate::proofs::Sinks::sinks))]
+    #[tactic(auto, using(crate::proofs::Sinks::sinks, crate::proofs::Sinks::lines))]
     fn put_text<S: ReaderSegments, W: Write, L: Write>(
         &mut self,
         segments: &S,
@@ -138,6 +172,10 @@ impl Shower<'_> {
         ensures out { GrowsAtEnd (W.contents out.old) (W.contents out.new) }
         ensures log { GrowsAtEnd (L.contents log.old) (L.contents log.new) }
         ensures chosen { self.new.chosen ≡ self.old.chosen }
+        ensures shown { OnOk result (GrowsByLines self.old.counts.shown self.new.counts.shown
+            (W.contents out.old) (W.contents out.new)) }
+        ensures logged { OnOk result (GrowsByLines self.old.counts.not_shown
+            self.new.counts.not_shown (L.contents log.old) (L.contents log.new)) }
     {
         match self.text_of(segments) {
             Ok(text) => {
@@ -148,8 +186,10 @@ impl Shower<'_> {
             }
             Err(ShowFault::Memory) => Err(Fault::Memory),
             Err(fault) => {
-                let line = line_of(self.alloc, number, fault)?;
-                put(log, line.as_bytes(), Fault::Log)?;
+                let Ok(line) = self.line_of(segments, number, fault) else {
+                    return Err(Fault::Memory);
+                };
+                put(log, &line, Fault::Log)?;
                 self.counts.not_shown = self.counts.not_shown.saturating_add(1);
                 Ok(())
             }
@@ -158,7 +198,7 @@ impl Shower<'_> {
 
     /// Reads the message of a number, and writes its text where it is chosen; false where no byte
     /// is left.
-    #[tactic(auto, using(crate::proofs::Sinks::sinks))]
+    #[tactic(auto, using(crate::proofs::Sinks::sinks, crate::proofs::Sinks::lines))]
     fn show_next<I: MessageForm, R: BufRead, W: Write, L: Write>(
         &mut self,
         buffer: &mut MessageBuffer,
@@ -176,6 +216,12 @@ impl Shower<'_> {
             → Keeps (L.contents log.old) (L.contents log.new) }
         ensures none_fails { self.old.chosen.is_count ≡ true
             → self.new.counts.not_shown ≡ self.old.counts.not_shown }
+        ensures shown { self.old.chosen.is_count ≡ false
+            → OnOk result (GrowsByLines self.old.counts.shown self.new.counts.shown
+            (W.contents out.old) (W.contents out.new)) }
+        ensures logged { self.old.chosen.is_count ≡ false
+            → OnOk result (GrowsByLines self.old.counts.not_shown self.new.counts.not_shown
+            (L.contents log.old) (L.contents log.new)) }
     {
         let limit = Some(self.manner.limits.words as usize);
         let segments = match buffer.try_read_message::<I, R>(source, limit) {
@@ -212,25 +258,31 @@ fn pause<R: BufRead, W: Write, L: Write, P: Pause<R, W, L>>(
 }
 
 /// Writes the texts of the chosen messages of the source, with a line feed behind each, or counts
-/// these messages alone. A message that can't be shown is a line of the log, `message N not shown:
-/// WHY`. None behind the last that is chosen is read. Before each read there is a pause.
+/// these messages alone. A message that can't be shown is a line of the log, `FILE: message N (byte
+/// B) not shown: PATH: WHY`. None behind the last that is chosen is read. Before each read there is
+/// a pause.
 ///
 /// `Framing`: what is left of the source begins with no message. `Source`, `Out`, `Log`: the device
 /// failed, or a sink has no room. `Memory`: a growth was refused.
 #[tactic(auto, using(crate::proofs::Sinks::sinks))]
-pub fn show_all<I: MessageForm, R: BufRead, W: Write, L: Write, P: Pause<R, W, L>>(
+pub fn show_all<I: MessageForm, R: BufRead, W: Write, L: Write, P: Pause<R, W, L>, O: Origin>(
     alloc: Global,
     source: &mut R,
     out: &mut W,
     log: &mut L,
     manner: Manner<'_>,
     chosen: Chosen,
+    origin: &O,
 ) -> Result<ShownCounts, StreamFault>
     ensures out { GrowsAtEnd (W.contents out.old) (W.contents out.new) }
     ensures log { GrowsAtEnd (L.contents log.old) (L.contents log.new) }
     ensures count_out { chosen.is_count ≡ true → Keeps (W.contents out.old) (W.contents out.new) }
     ensures count_log { chosen.is_count ≡ true → Keeps (L.contents log.old) (L.contents log.new) }
     ensures counts { chosen.is_count ≡ true → IfOk result (λ n. n.not_shown ≡ 0) }
+    ensures shown { chosen.is_count ≡ false → IfOk result (λ n. GrowsByLines 0 n.shown
+        (W.contents out.old) (W.contents out.new)) }
+    ensures logged { chosen.is_count ≡ false → IfOk result (λ n. GrowsByLines 0 n.not_shown
+        (L.contents log.old) (L.contents log.new)) }
     ensures number { IfErr result (λ e. (0 < e.number) × (e.number ≤ chosen.last)) }
 {
     let mut buffer = MessageBuffer::new(alloc);
@@ -243,6 +295,7 @@ pub fn show_all<I: MessageForm, R: BufRead, W: Write, L: Write, P: Pause<R, W, L
         manner,
         chosen,
         counts,
+        origin,
     };
     for number in 1..=chosen.last {
         if let Err(fault) = pause::<R, W, L, P>(source, out, log) {

@@ -1,6 +1,8 @@
 //! Values that hold no others.
 
-use crate::layout::{Layout, Style, put};
+use crate::capnp_floats::{put_float32, put_float64};
+use crate::escapes::Escaped;
+use crate::layout::{Layout, Spelling, Style, put};
 use capnp_text::text;
 use capnp_units::errors::Error;
 use capnp_units::kinds::ErrorKind;
@@ -70,13 +72,53 @@ fn put_printed<A: ReaderArena>(
     }
 }
 
-/// Writes a float of these bits; of a value that has none, nothing, and false.
+/// Writes the name of an enumerant, or the number in parentheses if the enum has no such
+/// enumerant, as the C++ tool does.
+fn put_capnp_enum(out: &mut String, value: Enum<'_>) -> Result<(), Error> {
+    match value.get_enumerant() {
+        Ok(Some(enumerant)) => put(out, enumerant.get_proto().name.as_str()),
+        _ => {
+            let number = value.get_value();
+            write!(out, "({number})")?;
+            Ok(())
+        }
+    }
+}
+
+/// Writes a value as the C++ tool does; of a struct or a list nothing.
+fn put_capnp<A: ReaderArena>(
+    out: &mut String,
+    style: Style<'_>,
+    value: Reader<'_, A>,
+) -> Result<(), Error> {
+    match value {
+        Reader::Void => put(out, "void"),
+        Reader::Enum(value) => put_capnp_enum(out, value),
+        Reader::Text(text::Reader(bytes)) => put(out, Escaped::text(bytes)),
+        Reader::Data(bytes) => put(out, Escaped::data(bytes)),
+        _ => put_printed(out, style, value),
+    }
+}
+
+/// Returns the form of floats in a layout.
+fn float_form(layout: Layout) -> FloatForm {
+    match layout {
+        Layout::Json => FloatForm::Json,
+        Layout::Line | Layout::Pretty => FloatForm::Text,
+    }
+}
+
+/// Writes a float of these bits; of a value that has none, nothing, and returns false.
 fn put_float<A: ReaderArena>(
     out: &mut String,
-    form: FloatForm,
+    style: Style<'_>,
     value: Reader<'_, A>,
 ) -> Result<bool, Error> {
+    let form = float_form(style.layout);
+    let is_capnp = style.layout != Layout::Json && style.spelling == Spelling::Capnp;
     match value {
+        Reader::UInt32(bits) if is_capnp => put_float32(out, style.alloc, bits)?,
+        Reader::UInt64(bits) if is_capnp => put_float64(out, style.alloc, bits)?,
         Reader::UInt32(bits) => put(out, Float32 { bits, form })?,
         Reader::UInt64(bits) => put(out, Float64 { bits, form })?,
         _ => return Ok(false),
@@ -91,15 +133,14 @@ pub(crate) fn put_single<A: ReaderArena>(
     value: Reader<'_, A>,
     is_float: bool,
 ) -> Result<(), Error> {
-    let form = match style.layout {
-        Layout::Json => FloatForm::Json,
-        Layout::Line | Layout::Pretty => FloatForm::Text,
-    };
-    if is_float && put_float(out, form, value)? {
+    if is_float && put_float(out, style, value)? {
         return Ok(());
     }
     match style.layout {
         Layout::Json => put_json(out, value),
-        Layout::Line | Layout::Pretty => put_printed(out, style, value),
+        Layout::Line | Layout::Pretty => match style.spelling {
+            Spelling::Hagzimot => put_printed(out, style, value),
+            Spelling::Capnp => put_capnp(out, style, value),
+        },
     }
 }
