@@ -1,7 +1,7 @@
 //! The arguments that subcommands take.
 
 use clap::{Arg, ArgAction, value_parser};
-use std::alloc::Global;
+use std::alloc::{AllocError, Global};
 
 /// The forms of streams.
 static FORMS: [&str; 2] = ["framed", "packed"];
@@ -32,8 +32,16 @@ pub fn output<'a>(alloc: Global) -> Arg<'a> {
         .long("output")
         .value_name("FILE")
         .help(
-            "Writes to FILE in place of standard output: to FILE.part, which is renamed once all is written",
+            "Writes to FILE in place of standard output. It keeps what it holds until all is written; a device or pipe is written to directly",
         )
+}
+
+/// Whether what is written is synced.
+pub fn no_sync<'a>(alloc: Global) -> Arg<'a> {
+    Arg::new(alloc, "no-sync")
+        .long("no-sync")
+        .action(ArgAction::SetTrue)
+        .help("Ends before the system has put files that were written on the disk")
 }
 
 /// The limit of words.
@@ -65,7 +73,9 @@ pub fn log<'a>(alloc: Global) -> Arg<'a> {
         .value_name("WHICH")
         .value_parser(LOGS.as_slice())
         .default_value("refused")
-        .help("Which messages get a line on standard error")
+        .help(
+            "Which messages get a line on standard error: each (lines), those that are refused or have a refused call (refused), each as JSON (json), or none",
+        )
 }
 
 static ON_REFUSED: [&str; 3] = ["skip", "stop", "pass"];
@@ -78,7 +88,7 @@ pub fn on_refused<'a>(alloc: Global) -> Arg<'a> {
         .value_parser(ON_REFUSED.as_slice())
         .default_value("skip")
         .help(
-            "What is done at a message that is refused: it is skipped, it is skipped and the run stops there, or it is passed on unedited; the status is 3",
+            "What happens to a message that is refused: skip it, skip it and stop there, or pass it on unedited; the status is 3",
         )
 }
 
@@ -88,8 +98,26 @@ pub fn stats<'a>(alloc: Global) -> Arg<'a> {
         .long("stats")
         .action(ArgAction::SetTrue)
         .help(
-            "Tells at the end how many messages and bytes there were, and once a second where standard error is a terminal",
+            "Report at the end how many messages were written and refused, how many calls were refused and why, and how many bytes were read; also once a second if standard error is a terminal",
         )
+}
+
+/// Whether a refused call refuses its message.
+pub fn strict<'a>(alloc: Global) -> Arg<'a> {
+    Arg::new(alloc, "strict")
+        .long("strict")
+        .action(ArgAction::SetTrue)
+        .help(
+            "Refuse a message as soon as one of its calls is refused: it is not written, and --refused and --on-refused apply to it",
+        )
+}
+
+/// Whether refused calls leave the status 0.
+pub fn allow_refused_calls<'a>(alloc: Global) -> Arg<'a> {
+    Arg::new(alloc, "allow-refused-calls")
+        .long("allow-refused-calls")
+        .action(ArgAction::SetTrue)
+        .help("End with status 0, not 3, if calls were refused but every message was written")
 }
 
 /// The file of messages that are refused.
@@ -110,7 +138,8 @@ pub fn schema<'a>(alloc: Global) -> Arg<'a> {
 }
 
 /// What a schema file is.
-pub static SCHEMA_HELP: &str = "The schema: what capnp compile -o- writes, or a JSON file of nodes";
+pub static SCHEMA_HELP: &str =
+    "The schema: what capnp compile -o- writes, or a JSON file of nodes; - for standard input";
 
 /// Floats as the whole numbers of their bits.
 pub fn floats_as_bits<'a>(alloc: Global) -> Arg<'a> {
@@ -118,7 +147,7 @@ pub fn floats_as_bits<'a>(alloc: Global) -> Arg<'a> {
         .long("floats-as-bits")
         .action(ArgAction::SetTrue)
         .help(
-            "Takes fields of the types Float32 and Float64 in what the compiler wrote as the whole numbers of their bits, which are shown and set as decimal numbers",
+            "Has no effect: floats in what the compiler wrote are always read, shown and set as decimal numbers",
         )
 }
 
@@ -127,9 +156,8 @@ pub fn root<'a>(alloc: Global) -> Arg<'a> {
     Arg::new(alloc, "root")
         .long("root")
         .value_name("NAME|ID")
-        .required(true)
         .help(
-            "The struct that messages have at their root, by its name or its id in decimal digits",
+            "The struct at the root of messages: shop.capnp:Order, Order, Box.Item, or an id as 10 or 0xa; not needed if the schema has one struct at its top",
         )
 }
 
@@ -156,6 +184,20 @@ pub fn number<'a>(alloc: Global, id: &'a str, help: &'a str) -> Arg<'a> {
         .value_name("N")
         .value_parser(value_parser!(u64).range(1..))
         .help(help)
+}
+
+/// The spellings of values in text.
+static STYLES: [&str; 2] = ["hagzimot", "capnp"];
+
+/// How values are spelled in text.
+pub fn style<'a>(alloc: Global) -> Result<Arg<'a>, AllocError> {
+    Arg::new(alloc, "style")
+        .long("style")
+        .value_name("STYLE")
+        .value_parser(STYLES.as_slice())
+        .default_value("hagzimot")
+        .help("How values are spelled: capnp prints text that `capnp encode` reads back")
+        .conflicts_with("json")
 }
 
 /// An option that makes a call.

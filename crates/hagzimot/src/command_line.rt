@@ -1,10 +1,12 @@
 //! The words that the command takes.
 
 use crate::arguments::{
-    SCHEMA_HELP, call, file, files, floats_as_bits, form, limit_of_words, log, nesting, number,
-    on_refused, output, refused, renames, root, schema, stats,
+    SCHEMA_HELP, allow_refused_calls, call, file, files, floats_as_bits, form, limit_of_words, log,
+    nesting, no_sync, number, on_refused, output, refused, renames, root, schema, stats, strict,
+    style,
 };
 use crate::options::{Options, Taken};
+use crate::proof_statement::VERSION;
 use clap::{Arg, ArgAction, Command};
 use std::alloc::{AllocError, Global};
 
@@ -19,6 +21,40 @@ fn convert<'a, 'w>(alloc: Global, taken: Taken<'w>) -> Result<Options<'a, 'w>, A
     .arg(form(alloc, "out", "The form of the output"))?
     .arg(limit_of_words(alloc))?
     .arg(output(alloc))?
+    .arg(no_sync(alloc))?
+    .arg(files(alloc))
+}
+
+fn count<'a, 'w>(alloc: Global, taken: Taken<'w>) -> Result<Options<'a, 'w>, AllocError> {
+    Options::new(
+        alloc,
+        taken,
+        "count",
+        "Prints how many messages there are, which needs no schema",
+    )
+    .arg(form(alloc, "in", "The form of the input"))?
+    .arg(limit_of_words(alloc))?
+    .arg(files(alloc))
+}
+
+fn slice<'a, 'w>(alloc: Global, taken: Taken<'w>) -> Result<Options<'a, 'w>, AllocError> {
+    Options::new(
+        alloc,
+        taken,
+        "slice",
+        "Writes the messages of each input from one number to another, each with the same segments",
+    )
+    .arg(number(
+        alloc,
+        "from",
+        "The first message that is written, counted from 1",
+    ))?
+    .arg(number(alloc, "to", "The last message that is written"))?
+    .arg(form(alloc, "in", "The form of the input"))?
+    .arg(form(alloc, "out", "The form of the output"))?
+    .arg(limit_of_words(alloc))?
+    .arg(output(alloc))?
+    .arg(no_sync(alloc))?
     .arg(files(alloc))
 }
 
@@ -37,6 +73,7 @@ fn canonical<'a, 'w>(alloc: Global, taken: Taken<'w>) -> Result<Options<'a, 'w>,
     .arg(refused(alloc))?
     .arg(log(alloc))?
     .arg(output(alloc))?
+    .arg(no_sync(alloc))?
     .arg(files(alloc))
 }
 
@@ -76,6 +113,7 @@ fn show<'a, 'w>(alloc: Global, taken: Taken<'w>) -> Result<Options<'a, 'w>, Allo
             .help("Prints each field on a line of its own, indented")
             .conflicts_with("json")?,
     )?
+    .arg(style(alloc)?)?
     .arg(limit_of_words(alloc))?
     .arg(nesting(alloc))?
     .arg(files(alloc))
@@ -151,23 +189,39 @@ fn with_calls<'a, 'w>(
             alloc,
             "set",
             "PATH=VALUE",
-            "Sets a field, as customer.name=Ada or lines[0].count=3",
+            "Set a field, as customer.name=Ada or lines[0].count=3; a member of a union becomes the active one",
         ))?
-        .arg(call(alloc, "get", "PATH", "Prints a field in the log"))?
-        .arg(call(alloc, "clear", "PATH", "Gives a field its default"))?
-        .arg(call(alloc, "init", "PATH", "Makes a new struct in a field"))?
+        .arg(call(alloc, "get", "PATH", "Print a field in the log"))?
+        .arg(call(
+            alloc,
+            "clear",
+            "PATH",
+            "Give a field its default; a member of a union becomes the active one, whichever was (see --clear-active)",
+        ))?
+        .arg(call(
+            alloc,
+            "clear-active",
+            "PATH",
+            "Clear a field only if its path meets no inactive member of a union in the message as it is read; otherwise the call is skipped",
+        ))?
+        .arg(call(
+            alloc,
+            "init",
+            "PATH",
+            "Make a new struct or group in a field; a member of a union becomes the active one",
+        ))?
         .arg(call(
             alloc,
             "initn",
             "PATH=N",
-            "Makes a new list, text or data of N elements or bytes in a field",
+            "Make a new list, text or data of N elements or bytes in a field; a member of a union becomes the active one",
         ))?
         .arg(
             Arg::new(alloc, "lenient")
                 .long("lenient")
                 .action(ArgAction::SetTrue)
                 .help(
-                    "Takes calls that no message could take; each then tells so in its line of the log",
+                    "Accept calls that can never succeed, each of which is then refused at every message; the path of --set must exist even so, because the type of the field says how to read the value",
                 ),
         )
 }
@@ -214,18 +268,36 @@ fn relay<'a, 'w>(alloc: Global, taken: Taken<'w>) -> Result<Options<'a, 'w>, All
         .arg(refused(alloc))?
         .arg(log(alloc).default_value("lines"))?
         .arg(stats(alloc))?
+        .arg(strict(alloc).conflicts_with("allow-refused-calls")?)?
+        .arg(allow_refused_calls(alloc))?
         .arg(output(alloc))?
+        .arg(no_sync(alloc))?
         .arg(files(alloc))
+}
+
+fn version<'a, 'w>(alloc: Global, taken: Taken<'w>) -> Result<Options<'a, 'w>, AllocError> {
+    Options::new(
+        alloc,
+        taken,
+        "version",
+        "Prints the version, or what was proved of this build",
+    )
+    .arg(
+        Arg::new(alloc, "proof")
+            .long("proof")
+            .action(ArgAction::SetTrue)
+            .help("Prints the statement of the proof: its logic, axioms and handles, as JSON"),
+    )
 }
 
 /// The command without its subcommands.
 fn bare_command<'a>(alloc: Global) -> Result<Command<'a>, AllocError> {
     let command = Command::new(alloc, "hagzimot")
         .bin_name("hagzimot")?
-        .version("0.1.0")
+        .version(VERSION)
         .about("Reads, checks and edits streams of Cap'n Proto messages")
         .after_help(
-            "Status: 0 all was done and written, 3 messages were skipped or passed on unedited, 1 a fault, 2 wrong words",
+            "Status: 0 success; 1 the answer is no (compatible, check); 2 usage error; 3 messages skipped, unedited or not shown, or calls refused; 4 a fault of a file, a schema, memory, the input or the output",
         )
         .subcommand_required(true);
     Ok(command)
@@ -245,13 +317,16 @@ fn subcommand<'a>(
         "compatible" => compatible(alloc, taken)?,
         "canonical" => canonical(alloc, taken)?,
         "convert" => convert(alloc, taken)?,
+        "count" => count(alloc, taken)?,
+        "slice" => slice(alloc, taken)?,
+        "version" => version(alloc, taken)?,
         _ => return Ok(None),
     };
     Ok(Some(options.command()?))
 }
 
 /// The names of the subcommands.
-static SUBCOMMANDS: [&str; 7] = [
+static SUBCOMMANDS: [&str; 10] = [
     "show",
     "relay",
     "check",
@@ -259,6 +334,9 @@ static SUBCOMMANDS: [&str; 7] = [
     "compatible",
     "canonical",
     "convert",
+    "count",
+    "slice",
+    "version",
 ];
 
 /// The command with the subcommand that the first word names, or else with each.

@@ -7,7 +7,17 @@ use std::alloc::{AllocError, AllocFailed, Global};
 use std::fmt::{Display, Formatter, Write};
 use std::{fmt, io};
 
-/// Why a run ends with status 1.
+/// The status if the arguments are wrong.
+pub const WRONG_WORDS: u8 = 2;
+
+/// The status at a fault.
+const FAULT: u8 = 4;
+
+/// The status if whoever reads the output has closed the pipe: that of a program which the signal
+/// of a closed pipe ended.
+pub const CLOSED_PIPE: u8 = 141;
+
+/// Why a run ends before all is done.
 #[derive(Debug, Drop)]
 pub enum Failure {
     /// A growth was refused.
@@ -16,6 +26,10 @@ pub enum Failure {
     Output,
     /// The file of messages that are skipped can't be written.
     Refused,
+    /// Whoever reads the output has closed the pipe. Nothing is said.
+    ClosedPipe,
+    /// The arguments are wrong, in words.
+    Words(String),
     /// Anything else, in words.
     Text(String),
 }
@@ -66,6 +80,24 @@ fn reason(fault: Fault) -> &'static str {
 }
 
 impl Failure {
+    /// What is wrong with words, after the words themselves.
+    pub fn words<T: Display>(alloc: Global, words: &str, why: &T) -> Failure {
+        match format!(in alloc; "{words}: {why}") {
+            Ok(text) => Failure::Words(text),
+            Err(_) => Failure::Memory,
+        }
+    }
+
+    /// The failure of a range of messages that has none.
+    pub fn contradiction(alloc: Global, first: u64, last: u64) -> Failure {
+        match format!(in alloc;
+            "--from {first} --to {last}: no message is chosen (--to counts from 1 too)"
+        ) {
+            Ok(text) => Failure::Words(text),
+            Err(_) => Failure::Memory,
+        }
+    }
+
     /// The failure of a file.
     pub fn file(alloc: Global, name: &str, why: io::Error) -> Failure {
         Failure::about(alloc, name, &why)
@@ -77,6 +109,66 @@ impl Failure {
             Ok(text) => Failure::Text(text),
             Err(_) => Failure::Memory,
         }
+    }
+
+    /// The failure of an output that can't be written, for the system's reason. A closed pipe ends
+    /// the run without a word.
+    pub fn unwritten(alloc: Global, name: &str, why: io::Error) -> Failure {
+        if why.kind() == io::ErrorKind::BrokenPipe {
+            return Failure::ClosedPipe;
+        }
+        match format!(in alloc; "{name}: can't write: {why}") {
+            Ok(text) => Failure::Text(text),
+            Err(_) => Failure::Memory,
+        }
+    }
+
+    /// The failure of a file that has its new bytes, but may lose them if the machine stops.
+    pub fn unsynced(alloc: Global, name: &str, why: io::Error) -> Failure {
+        match format!(in alloc;
+            "{name}: written, but its folder can't be synced: {why} (it may be lost if the machine stops now)"
+        ) {
+            Ok(text) => Failure::Text(text),
+            Err(_) => Failure::Memory,
+        }
+    }
+
+    /// The failure of an output whose name is wrong.
+    pub fn output_words<T: Display>(alloc: Global, option: &str, name: &str, why: &T) -> Failure {
+        match format!(in alloc; "{option} {name}: {why}") {
+            Ok(text) => Failure::Words(text),
+            Err(_) => Failure::Memory,
+        }
+    }
+
+    /// The failure of two arguments that name one file, which would be lost.
+    pub fn one_file(
+        alloc: Global,
+        option: &str,
+        name: &str,
+        other: &str,
+        other_name: &str,
+    ) -> Failure {
+        match format!(in alloc;
+            "{option} {name}: the same file as {other} {other_name} (name another file)"
+        ) {
+            Ok(text) => Failure::Words(text),
+            Err(_) => Failure::Memory,
+        }
+    }
+
+    /// The status with which a run ends that failed.
+    pub fn status(&self) -> u8 {
+        match self {
+            Failure::ClosedPipe => CLOSED_PIPE,
+            Failure::Words(_) => WRONG_WORDS,
+            _ => FAULT,
+        }
+    }
+
+    /// Whether nothing is said.
+    pub fn is_silent(&self) -> bool {
+        matches!(self, Failure::ClosedPipe)
     }
 
     /// The failure of a schema file.
@@ -105,6 +197,17 @@ impl Failure {
         }
     }
 
+    /// The failure of an input that can't be read, for the system's reason.
+    pub fn unread(alloc: Global, name: &str, number: u64, start: u64, why: io::Error) -> Failure {
+        if start == 0 {
+            return Failure::file(alloc, name, why);
+        }
+        match format!(in alloc; "{name}: message {number}, at byte {start}: can't read: {why}") {
+            Ok(text) => Failure::Text(text),
+            Err(_) => Failure::Memory,
+        }
+    }
+
     /// The failure of the message of a number of an input, which begins behind so many bytes.
     pub fn stream(alloc: Global, name: &str, number: u64, start: u64, fault: Fault) -> Failure {
         let why = reason(fault);
@@ -121,7 +224,8 @@ impl Display for Failure {
             Failure::Memory => write!(f, "there is no memory left"),
             Failure::Output => write!(f, "the output can't be written"),
             Failure::Refused => write!(f, "the messages that are skipped can't be written"),
-            Failure::Text(text) => write!(f, "{text}"),
+            Failure::ClosedPipe => write!(f, "the pipe is closed"),
+            Failure::Words(text) | Failure::Text(text) => write!(f, "{text}"),
         }
     }
 }

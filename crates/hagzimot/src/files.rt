@@ -1,9 +1,14 @@
 //! The files and pipes of a run.
+ghost use Rattle.std.specs.Io.{WritesAtMost};
 
 use crate::faults::Failure;
 use crate::tape::Tape;
 use capnp_stream_io::adapters::{Sink, Source};
+use hagzimot_files::drafts::Draft;
+use hagzimot_files::faults::CommitError;
+use hagzimot_files::host::Host;
 use std::alloc::Global;
+use std::cell::{Cell, RefCell};
 use std::fs::File;
 use std::io::{BufWriter, Read, Stderr, Stdin, Stdout, Write};
 use std::rc::Rc;
@@ -16,7 +21,7 @@ enum Device {
     Named(File),
 }
 
-/// Where messages come from: a device, whose bytes are noted on a tape.
+/// Where messages come from: a device, whose bytes and faults are noted on a tape.
 #[derive(Drop)]
 pub struct Input {
     device: Device,
@@ -25,37 +30,153 @@ pub struct Input {
 
 impl Read for Input {
     fn read(&mut self, buf: &mut [u8]) -> io::Result<usize> {
-        let len = match &mut self.device {
-            Device::Standard(input) => input.read(buf)?,
-            Device::Named(file) => file.read(buf)?,
+        let got = match &mut self.device {
+            Device::Standard(input) => input.read(buf),
+            Device::Named(file) => file.read(buf),
         };
-        self.tape.note(&buf[..len]);
-        Ok(len)
+        match got {
+            Ok(len) => {
+                self.tape.note(&buf[..len]);
+                Ok(len)
+            }
+            Err(e) => Err(self.tape.note_fault(e)),
+        }
+    }
+}
+
+/// What takes the bytes of an output.
+#[derive(Drop)]
+pub enum Receiver {
+    Standard(Stdout),
+    /// What is written to as it is.
+    Direct(File),
+    /// A draft, until it has its name or is removed.
+    Draft(Host, Option<Draft<Host>>),
+}
+
+impl Receiver {
+    /// Writes bytes, and returns how many.
+    fn write(&mut self, buf: &[u8]) -> io::Result<usize>
+        ensures { WritesAtMost result buf.now }
+    {
+        match self {
+            Receiver::Standard(out) => out.write(buf),
+            Receiver::Direct(file) => file.write(buf),
+            Receiver::Draft(host, draft) => match draft {
+                Some(draft) => draft.write(host, buf),
+                None => Err(io::Error::other("the file is written already")),
+            },
+        }
+    }
+}
+
+/// An output of a run, which keeps the fault of its device.
+#[derive(Drop)]
+pub struct OutFile {
+    /// The name by which the words call it.
+    name: String,
+    receiver: RefCell<Receiver>,
+    fault: Cell<Option<io::Error>>,
+}
+
+impl OutFile {
+    /// The output of a name with what takes its bytes.
+    pub fn new(alloc: Global, name: &str, receiver: Receiver) -> Result<Rc<OutFile>, Failure> {
+        let out = OutFile {
+            name: String::from_str(alloc, name)?,
+            receiver: RefCell::new(receiver),
+            fault: Cell::new(None),
+        };
+        Ok(Rc::new(alloc, out)?)
+    }
+
+    /// Standard output.
+    pub fn standard(rt: &HostRuntime) -> Result<Rc<OutFile>, Failure> {
+        OutFile::new(rt.alloc(), "-", Receiver::Standard(rt.stdout()))
+    }
+
+    /// A sink that writes to it.
+    pub fn sink(self: &Rc<OutFile>, alloc: Global) -> Result<OutSink, Failure> {
+        open_sink(alloc, Output::Kept(Rc::clone(self)?))
+    }
+
+    /// Writes bytes, and returns how many. A fault is kept.
+    fn write(&self, buf: &[u8]) -> io::Result<usize>
+        ensures { WritesAtMost result buf.now }
+    {
+        let Ok(mut receiver) = self.receiver.try_borrow_mut() else {
+            return Err(io::Error::from(io::ErrorKind::ResourceBusy));
+        };
+        match receiver.write(buf) {
+            Ok(len) => Ok(len),
+            Err(e) => {
+                let kind = e.kind();
+                self.fault.set(Some(e));
+                Err(io::Error::from(kind))
+            }
+        }
+    }
+
+    /// Why it can't be written.
+    pub fn failure(&self, alloc: Global) -> Failure {
+        match self.fault.take() {
+            Some(e) => Failure::unwritten(alloc, self.name.as_str(), e),
+            None => Failure::Output,
+        }
+    }
+
+    /// Gives a draft its name.
+    pub fn commit(&self, alloc: Global) -> Result<(), Failure> {
+        let name = self.name.as_str();
+        let Ok(mut receiver) = self.receiver.try_borrow_mut() else {
+            return Err(Failure::Output);
+        };
+        let Receiver::Draft(host, draft) = &mut *receiver else {
+            return Ok(());
+        };
+        let Some(draft) = draft.take() else {
+            return Ok(());
+        };
+        match draft.commit(host) {
+            Ok(()) => Ok(()),
+            Err(CommitError::Kept(e)) => Err(Failure::unwritten(alloc, name, e)),
+            Err(CommitError::Unsynced(e)) => Err(Failure::unsynced(alloc, name, e)),
+        }
+    }
+
+    /// Removes a draft, if there is one; if it can't be removed it stays.
+    pub fn discard(&self) {
+        let Ok(mut receiver) = self.receiver.try_borrow_mut() else {
+            return;
+        };
+        if let Receiver::Draft(host, draft) = &mut *receiver {
+            if let Some(draft) = draft.take() {
+                draft.discard(host);
+            }
+        }
     }
 }
 
 /// Where messages, texts or lines of the log go.
 #[derive(Drop)]
 pub enum Output {
-    Standard(Stdout),
     Error(Stderr),
-    Named(File),
+    Kept(Rc<OutFile>),
 }
 
 impl Write for Output {
     fn write(&mut self, buf: &[u8]) -> io::Result<usize> {
         match self {
-            Output::Standard(out) => out.write(buf),
             Output::Error(out) => out.write(buf),
-            Output::Named(file) => file.write(buf),
+            Output::Kept(out) => out.write(buf),
         }
     }
 
     fn flush(&mut self) -> io::Result<()> {
         match self {
-            Output::Standard(out) => out.flush(),
             Output::Error(out) => out.flush(),
-            Output::Named(file) => file.flush(),
+            // What is written goes to the system at once.
+            Output::Kept(_) => Ok(()),
         }
     }
 }
@@ -103,46 +224,5 @@ fn open_device(rt: &HostRuntime, name: &str) -> Result<Device, Failure> {
     match File::open(rt, name) {
         Ok(file) => Ok(Device::Named(file)),
         Err(e) => Err(Failure::file(rt.alloc(), name, e)),
-    }
-}
-
-/// The name of the file that is written before it is renamed to this one.
-fn part_of(rt: &HostRuntime, name: &str) -> Result<String, Failure> {
-    Ok(format!(in rt.alloc(); "{name}.part")?)
-}
-
-/// The output of a name, which is written beside it at first; standard output without a name.
-pub fn open_output(rt: &HostRuntime, name: Option<&str>) -> Result<Output, Failure> {
-    let Some(name) = name else {
-        return Ok(Output::Standard(rt.stdout()));
-    };
-    let part = part_of(rt, name)?;
-    match File::create(rt, part.as_str()) {
-        Ok(file) => Ok(Output::Named(file)),
-        Err(e) => Err(Failure::file(rt.alloc(), part.as_str(), e)),
-    }
-}
-
-/// Gives the file that was written beside a name that name.
-pub fn keep(rt: &HostRuntime, name: Option<&str>) -> Result<(), Failure> {
-    let Some(name) = name else {
-        return Ok(());
-    };
-    let part = part_of(rt, name)?;
-    match fs::rename(rt, part.as_str(), name) {
-        Ok(()) => Ok(()),
-        Err(e) => Err(Failure::file(rt.alloc(), name, e)),
-    }
-}
-
-/// Removes the file that was written beside a name, if there is one; where it can't be removed it
-/// stays.
-pub fn give_up(rt: &HostRuntime, name: Option<&str>) {
-    let Some(name) = name else {
-        return;
-    };
-    if let Ok(part) = part_of(rt, name) {
-        // The run has failed already, and says so. A part that can't be removed changes nothing.
-        let _removed = fs::remove_file(rt, part.as_str());
     }
 }

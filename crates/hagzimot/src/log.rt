@@ -1,20 +1,18 @@
 //! The log of a run.
-ghost use Rattle.std.specs.Prelude.{◌≡◌, OnOk, OnErr, IfErr, ⊤};
+ghost use Rattle.std.specs.Prelude.{◌≡◌, OnOk, OnErr, ⊤};
 ghost use Rattle.std.specs.Io.Buffered.{writer_buffer};
 ghost use Rattle.capnp_stream_io.specs.Adapters.{source_window, sink_inner};
 ghost use Rattle.capnp_stream_io.specs.Counting.{Rose};
-ghost use Rattle.capnp_relay_loop.specs.Streams.{sink_of};
-ghost use Rattle.capnp_relay_loop.specs.Pauses.{SinkRests, FailsInPause};
 ghost use Rattle.capnp_relay_program.specs.Flushing.{HoldsNothing};
 ghost use Rattle.capnp_units.specs.declared.kinds.ErrorKind.{ErrorKind};
 
 use crate::faults::Failure;
-use crate::files::{Input, OutSink, Output, open_output, open_sink};
+use crate::files::{Input, OutSink, Output, open_sink};
 pub use crate::log_words::{Lines, Refusals};
-use crate::log_words::{LogWords, Noted, OnRefused, is_refusal};
+use crate::log_words::{LogWords, OnRefused, Watch, has_refusal, is_refused};
+use crate::run_log::{LogEnd, RunLog};
 use crate::stats::Stats;
 use crate::tape::Tape;
-use capnp_relay_loop::answer::Reason;
 use capnp_relay_loop::ends::Fault;
 use capnp_relay_loop::pauses::Pause;
 use capnp_relay_program::ahead::BoundedForm;
@@ -25,61 +23,11 @@ use capnp_stream_io::traits::Write;
 use capnp_units::errors::Error;
 use capnp_units::kinds::ErrorKind;
 use hagzimot_commands::float_replies::FloatReplies;
-use hagzimot_commands::log_lines::{json_line, unedited_line};
+use hagzimot_outcomes::log_lines::{json_line, text_line};
+use hagzimot_outcomes::outcomes::{CallOutcome, Outcome};
 use std::alloc::{AllocError, Global};
-use std::cell::Cell;
 use std::marker::PhantomData;
 use std::rc::Rc;
-
-/// What ended a run that the log ended.
-#[derive(Clone, Copy, Debug, PartialEq, Eq)]
-pub enum LogEnd {
-    /// A message was skipped, and the run was to stop there.
-    Stopped,
-    /// A message that was refused can't be written as it came.
-    Unwritten,
-}
-
-/// A log that is told where inputs and messages begin.
-pub trait RunLog: Flush + Drop {
-    /// The log on standard error.
-    fn open(rt: &HostRuntime, words: LogWords<'_>) -> Result<Self, Failure>;
-
-    /// Begins with another input, and returns its tape.
-    fn begin(&mut self) -> Result<Rc<Tape>, Failure>;
-
-    /// Sees to the message that was read last, before the next one, and flushes both sinks where
-    /// the source may wait. `Out`, `Log`: the sink's device failed. `Log` too: the run has to end,
-    /// `end` says why.
-    fn turn_and_flush<F: BoundedForm>(
-        &mut self,
-        source: &Source<Input>,
-        out: &mut OutSink,
-    ) -> Result<(), Fault>
-        ensures ok { let sink = sink_of ⟦<OutSink as Write>⟧ in
-            let line = sink_of ⟦<Self as Write>⟧ in
-            OnOk result (SinkRests (sink out.old) (sink out.new)
-            × SinkRests (line self.old) (line self.new)) }
-        ensures err { let sink = sink_of ⟦<OutSink as Write>⟧ in
-            let line = sink_of ⟦<Self as Write>⟧ in
-            IfErr result (λ f. FailsInPause f (sink out.old) (sink out.new)
-            (line self.old) (line self.new)) }
-        ensures held { OnOk result (HoldsNothing F.reader (source_window source.now)
-            (writer_buffer (sink_inner out.new)) (Self.held self.new)) };
-
-    /// Hands on what the log's sinks hold at the end of an input. False where the messages that
-    /// were refused can't be written.
-    fn finish(&mut self) -> bool;
-
-    /// What ended the run, where the log did.
-    fn end(&self) -> Option<LogEnd>;
-
-    /// Whether messages were passed on unedited.
-    fn has_unedited(&self) -> bool;
-
-    /// Tells what was counted, at the end of all inputs.
-    fn sum_up(&mut self);
-}
 
 /// A log on standard error that keeps some of the lines that it is given, each by one call, and
 /// sees to the messages that are refused.
@@ -91,13 +39,17 @@ pub struct Log {
     refusals: Refusals,
     /// The tape of the input that is read.
     tape: Rc<Tape>,
-    noted: Noted,
+    /// What is noted of messages; `None` of those that are shown or converted.
+    watch: Option<Watch>,
     /// Where replies tell floats, if some do.
     floats: Option<FloatReplies>,
     stats: Option<Stats>,
+    allows_refused_calls: bool,
+    /// How many messages of the input had a line.
+    number: u64,
     /// Whether the last line was that of a message that is refused.
     at_refusal: bool,
-    has_unedited: bool,
+    has_refusals: bool,
     end: Option<LogEnd>,
     failures: u64,
 }
@@ -114,11 +66,13 @@ impl Log {
             lines,
             refusals,
             tape,
-            noted: Rc::new(alloc, Cell::new(None))?,
+            watch: None,
             floats: None,
             stats: None,
+            allows_refused_calls: false,
+            number: 0,
             at_refusal: false,
-            has_unedited: false,
+            has_refusals: false,
             end: None,
             failures: 0,
         })
@@ -131,6 +85,7 @@ impl Log {
         }
         let tape = Tape::new(self.alloc, self.refusals.sink.is_some());
         self.tape = Rc::new(self.alloc, tape)?;
+        self.number = 0;
         Ok(Rc::clone(&self.tape)?)
     }
 
@@ -194,56 +149,82 @@ impl Log {
         }
     }
 
-    /// Writes a line of the log, in the form that is asked for.
-    fn put_line(&mut self, line: &[u8]) -> Result<(), Error>
+    /// Notes what became of a message, for the counts, the status and what is done next.
+    fn see(&mut self, outcome: &Outcome)
         ensures { self.new.failures ≡ self.old.failures }
     {
-        if self.lines != Lines::Json {
-            return self.inner.write_all(line);
+        self.number = self.number.saturating_add(1);
+        let is_unedited = matches!(outcome, Outcome::Unedited(_));
+        let is_unanswered = is_unedited || matches!(outcome, Outcome::Refused(_));
+        self.at_refusal = is_unanswered && self.refusals.are_seen();
+        if let Outcome::Written(calls) = outcome {
+            self.has_refusals |= !self.allows_refused_calls && calls.iter().any(is_refused);
         }
-        let json = match str::from_utf8(line) {
-            Ok(text) => json_line(self.alloc, text, self.tape.start()),
-            Err(_) => return self.inner.write_all(line),
+        self.has_refusals |= is_unedited;
+        if let Some(stats) = &mut self.stats {
+            stats.count(outcome);
+        }
+    }
+
+    /// Puts decimal numbers for the bits of floats into the replies of calls.
+    fn put_floats(&self, calls: &mut [CallOutcome]) -> Result<(), AllocError> {
+        let Some(floats) = &self.floats else {
+            return Ok(());
         };
-        match json {
-            Ok(json) => self.inner.write_all(json.as_bytes()),
+        for (number, call) in calls.iter_mut().enumerate() {
+            let told = match call {
+                CallOutcome::Text(bytes) => match str::from_utf8(bytes) {
+                    Ok(text) => floats.reply(self.alloc, number, text)?,
+                    Err(_) => continue,
+                },
+                _ => continue,
+            };
+            *call = CallOutcome::Text(told.into_bytes());
+        }
+        Ok(())
+    }
+
+    /// The line of a message, in the form that is asked for.
+    fn line(&self, mut outcome: Outcome) -> Result<Vec<u8>, AllocError> {
+        if let Outcome::Written(calls) = &mut outcome {
+            self.put_floats(calls)?;
+        }
+        if self.lines == Lines::Json {
+            return json_line(self.alloc, self.number, self.tape.start(), &outcome);
+        }
+        text_line(self.alloc, self.number, &outcome)
+    }
+
+    /// Writes the line of a message, in the form that is asked for.
+    fn put_outcome(&mut self, outcome: Outcome) -> Result<(), Error>
+        ensures { self.new.failures ≡ self.old.failures }
+    {
+        match self.line(outcome) {
+            Ok(line) => self.inner.write_all(&line),
             Err(_) => Err(Error::from(ErrorKind::OutOfMemory)),
         }
     }
 
-    /// Writes the line of a message, with decimal numbers for floats where replies tell some.
-    fn put_replies(&mut self, line: &[u8]) -> Result<(), Error>
+    /// Writes what is logged of the message that was answered last. If nothing is noted of it, that
+    /// is the line as it is given.
+    fn put(&mut self, given: &[u8]) -> Result<(), Error>
         ensures { self.new.failures ≡ self.old.failures }
     {
-        let told = match (&self.floats, str::from_utf8(line)) {
-            (Some(floats), Ok(text)) => floats.line(self.alloc, text),
-            _ => return self.put_line(line),
-        };
-        match told {
-            Ok(told) => self.put_line(told.as_bytes()),
-            Err(_) => Err(Error::from(ErrorKind::OutOfMemory)),
+        if self.lines == Lines::None && self.watch.is_none() {
+            return Ok(());
         }
-    }
-
-    /// Writes the line of a message, which is passed on unedited where a reason is given.
-    fn put_told(&mut self, line: &[u8], unedited: Option<Reason>) -> Result<(), Error>
-        ensures { self.new.failures ≡ self.old.failures }
-    {
-        let Some(reason) = unedited else {
-            return self.put_replies(line);
+        let noted = match &self.watch {
+            Some(watch) => watch.take(),
+            None => None,
         };
-        match unedited_line(self.alloc, line, reason) {
-            Ok(line) => self.put_line(&line),
-            Err(_) => Err(Error::from(ErrorKind::OutOfMemory)),
+        let Some(outcome) = noted else {
+            return self.inner.write_all(given);
+        };
+        self.see(&outcome);
+        if !self.lines.keep(has_refusal(&outcome)) {
+            return Ok(());
         }
-    }
-
-    /// Whether a line is that of a message that is skipped, where that is asked for at all.
-    fn tells_refusal(&self, line: &[u8]) -> bool {
-        let is_asked = self.refusals.are_seen()
-            || self.lines == Lines::Refused
-            || self.stats.is_some();
-        is_asked && is_refusal(line)
+        self.put_outcome(outcome)
     }
 
     /// Writes how many messages there were, where it is time for that.
@@ -284,17 +265,7 @@ impl Write for Log {
     ghost failures = { λ l. l.failures };
 
     fn write_all(&mut self, buf: &[u8]) -> Result<(), Error> {
-        let unedited = self.noted.take();
-        let is_refused = unedited.is_some() || self.tells_refusal(buf);
-        self.has_unedited |= unedited.is_some();
-        self.at_refusal = is_refused && self.refusals.are_seen();
-        if let Some(stats) = &mut self.stats {
-            stats.count(is_refused, unedited.is_some());
-        }
-        if !self.lines.keep(is_refused) {
-            return Ok(());
-        }
-        match self.put_told(buf, unedited) {
+        match self.put(buf) {
             Ok(()) => Ok(()),
             Err(_) => Err(self.failure()),
         }
@@ -318,18 +289,29 @@ impl Flush for Log {
 
 impl RunLog for Log {
     fn open(rt: &HostRuntime, words: LogWords<'_>) -> Result<Log, Failure> {
-        let sink = match words.refused {
-            Some(name) => Some(open_sink(rt.alloc(), open_output(rt, Some(name))?)?),
+        let LogWords {
+            lines,
+            on_refused,
+            refused: _name,
+            refused_out,
+            stats,
+            allows_refused_calls,
+            watch,
+            floats,
+        } = words;
+        let sink = match refused_out {
+            Some(output) => Some(open_sink(rt.alloc(), output)?),
             None => None,
         };
         let refusals = Refusals {
             sink,
-            stop: words.on_refused == OnRefused::Stop,
+            stop: on_refused == OnRefused::Stop,
         };
-        let mut log = Log::new(rt, words.lines, refusals)?;
-        log.noted = words.noted;
-        log.floats = words.floats;
-        if words.stats {
+        let mut log = Log::new(rt, lines, refusals)?;
+        log.watch = watch;
+        log.floats = floats;
+        log.allows_refused_calls = allows_refused_calls;
+        if stats {
             log.stats = Some(Stats::new(rt));
         }
         Ok(log)
@@ -358,8 +340,8 @@ impl RunLog for Log {
         self.end
     }
 
-    fn has_unedited(&self) -> bool {
-        self.has_unedited
+    fn has_refusals(&self) -> bool {
+        self.has_refusals
     }
 
     fn sum_up(&mut self) {

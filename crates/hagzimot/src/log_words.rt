@@ -1,8 +1,10 @@
 //! What a log is asked to do.
 
-use crate::files::OutSink;
+use crate::files::{OutSink, Output};
 use capnp_relay_loop::answer::Reason;
 use hagzimot_commands::float_replies::FloatReplies;
+use hagzimot_outcomes::outcomes::{CallOutcome, Cause, Outcome};
+use std::alloc::{AllocError, Global};
 use std::cell::Cell;
 use std::rc::Rc;
 
@@ -10,7 +12,7 @@ use std::rc::Rc;
 #[derive(Clone, Copy, Debug, PartialEq, Eq)]
 pub enum Lines {
     All,
-    /// Those of messages that are skipped, or passed on unedited.
+    /// Those of messages that are skipped or passed on unedited, or of which a call is refused.
     Refused,
     None,
     /// All, as JSON.
@@ -28,7 +30,7 @@ impl Lines {
         }
     }
 
-    /// Whether the line of a message is kept that is refused, or isn't.
+    /// Whether the line of a message is kept, of which something is refused or not.
     pub fn keep(self, is_refused: bool) -> bool {
         match self {
             Lines::All | Lines::Json => true,
@@ -38,10 +40,18 @@ impl Lines {
     }
 }
 
-/// Whether a line tells of a message that is skipped: its third word is `refused:`.
-pub fn is_refusal(line: &[u8]) -> bool {
-    let mut words = line.split(|b| *b == b' ');
-    words.nth(2) == Some(b"refused:".as_slice())
+/// Whether a call was refused.
+pub fn is_refused(call: &CallOutcome) -> bool {
+    matches!(call, CallOutcome::Refused(_))
+}
+
+/// Whether a message was skipped or passed on unedited, or one of its calls was refused.
+pub fn has_refusal(outcome: &Outcome) -> bool {
+    match outcome {
+        Outcome::Done(_) => false,
+        Outcome::Written(calls) => calls.iter().any(is_refused),
+        Outcome::Unedited(_) | Outcome::Refused(_) => true,
+    }
 }
 
 /// What is done at a message that is refused: that has no answer.
@@ -55,8 +65,53 @@ pub enum OnRefused {
     Pass,
 }
 
-/// Why the message that was answered last is passed on unedited, if it is.
-pub type Noted = Rc<Cell<Option<Reason>>>;
+/// What is noted of messages, for the log and the status. A clone shares the notes.
+#[derive(Drop)]
+pub struct Watch {
+    /// What became of the message that was answered last.
+    pub noted: Rc<Cell<Option<Outcome>>>,
+    /// Why that message is passed on unedited, if it is.
+    pub unedited: Rc<Cell<Option<Reason>>>,
+    /// How many calls were refused, if nothing else is noted.
+    pub refused_calls: Rc<Cell<u64>>,
+    /// Whether messages without an answer are passed on.
+    pub passes: bool,
+    /// Whether a message with a refused call has no answer.
+    pub is_strict: bool,
+}
+
+impl Watch {
+    /// Nothing is noted yet.
+    pub fn new(alloc: Global) -> Result<Watch, AllocError> {
+        Ok(Watch {
+            noted: Rc::new(alloc, Cell::new(None))?,
+            unedited: Rc::new(alloc, Cell::new(None))?,
+            refused_calls: Rc::new(alloc, Cell::new(0))?,
+            passes: false,
+            is_strict: false,
+        })
+    }
+
+    /// The same notes.
+    pub fn share(&self) -> Result<Watch, AllocError> {
+        Ok(Watch {
+            noted: Rc::clone(&self.noted)?,
+            unedited: Rc::clone(&self.unedited)?,
+            refused_calls: Rc::clone(&self.refused_calls)?,
+            passes: self.passes,
+            is_strict: self.is_strict,
+        })
+    }
+
+    /// Takes what is noted of the message that was answered last; `None` if nothing is.
+    pub fn take(&self) -> Option<Outcome> {
+        let is_unedited = self.unedited.take().is_some();
+        match self.noted.take() {
+            Some(Outcome::Refused(cause)) if is_unedited => Some(Outcome::Unedited(cause)),
+            noted => noted,
+        }
+    }
+}
 
 /// What a log is asked to do.
 #[derive(Drop)]
@@ -65,20 +120,34 @@ pub struct LogWords<'a> {
     pub on_refused: OnRefused,
     /// The name of the file of messages that are refused.
     pub refused: Option<&'a str>,
-    /// Whether messages and bytes are counted and told.
+    /// Where these are written.
+    pub refused_out: Option<Output>,
+    /// Whether messages and bytes are counted and reported.
     pub stats: bool,
-    pub noted: Noted,
+    /// Whether calls that are refused leave the status as it is.
+    pub allows_refused_calls: bool,
+    /// What is noted of messages, if anything is.
+    pub watch: Option<Watch>,
     /// Where replies tell floats, if some do.
     pub floats: Option<FloatReplies>,
 }
 
 impl LogWords<'_> {
+    /// Whether a message with a refused call has no answer.
+    fn is_strict(&self) -> bool {
+        match &self.watch {
+            Some(watch) => watch.is_strict,
+            None => false,
+        }
+    }
+
     /// Whether each line is written as it is, and nothing else is done.
     pub fn are_plain(&self) -> bool {
         self.lines == Lines::All
             && self.on_refused == OnRefused::Skip
             && self.refused.is_none()
             && !self.stats
+            && !self.is_strict()
             && self.floats.is_none()
     }
 }

@@ -1,22 +1,33 @@
 //! The command `hagzimot`: messages of files and pipes converted, made canonical, shown, checked
 //! and edited.
 //!
-//! `hagzimot --help` says more. The status is 0 where all was done and written, 3 where messages
-//! were skipped or passed on unedited. It is 1 at a fault, 2 where the words are wrong.
+//! `hagzimot --help` says more. The status is
+//! - 0 if all was done,
+//! - 1 if the answer is no: schemas are not compatible, or a schema breaks a rule,
+//! - 2 if the words are wrong,
+//! - 3 if messages were skipped, passed on unedited or not shown, or calls were refused,
+//! - 4 at a fault of a file, a schema, memory, the input or the output.
 #![tactic(auto)]
 
 mod arguments;
 mod command_line;
 mod faults;
 mod files;
+mod hints;
 mod log;
 mod log_words;
 mod options;
+mod outputs;
 mod passes;
+mod pieces;
 mod plain_log;
+mod proof_statement;
 mod relay_calls;
+mod relay_checks;
+mod relay_plan;
 mod relay_task;
 mod reports;
+mod run_log;
 mod shows;
 mod stats;
 mod tape;
@@ -24,26 +35,26 @@ mod versions;
 mod words;
 
 use crate::command_line::command_line;
-use crate::faults::Failure;
+use crate::faults::{CLOSED_PIPE, Failure, WRONG_WORDS};
 use crate::options::Taken;
 use clap::{ArgMatches, Error};
 use std::alloc::Global;
 use std::process::ExitCode;
 use std::{env, io};
 
-/// The status where the words are wrong.
-const WRONG_WORDS: u8 = 2;
-
 /// Runs the subcommand that the words name, and returns the status.
 fn run_subcommand(rt: &HostRuntime, matches: &ArgMatches<'_>) -> Result<u8, Failure> {
     match matches.subcommand() {
         Some(("convert", words)) => passes::convert(rt, words),
         Some(("canonical", words)) => passes::canonical(rt, words),
+        Some(("count", words)) => pieces::count(rt, words),
+        Some(("slice", words)) => pieces::slice(rt, words),
         Some(("relay", words)) => passes::relay(rt, words),
         Some(("show", words)) => shows::show(rt, words),
         Some(("check", words)) => reports::check(rt, words),
         Some(("schema", words)) => reports::schema(rt, words),
         Some(("compatible", words)) => versions::compatible(rt, words),
+        Some(("version", words)) => proof_statement::version(rt, words),
         _ => Ok(WRONG_WORDS),
     }
 }
@@ -64,7 +75,7 @@ fn matches_of(alloc: Global, words: &[String]) -> Result<ArgMatches<'_>, Error> 
 fn run(rt: &HostRuntime) -> io::Result<u8> {
     let given = match env::args(rt) {
         Err(e) if e.kind() == io::ErrorKind::InvalidData => {
-            eprintln!(rt; "hagzimot: a word is no text in UTF-8")?;
+            eprintln!(rt; "hagzimot: an argument is not valid UTF-8")?;
             return Ok(WRONG_WORDS);
         }
         given => given?,
@@ -80,8 +91,10 @@ fn run(rt: &HostRuntime) -> io::Result<u8> {
     match run_subcommand(rt, &matches) {
         Ok(status) => Ok(status),
         Err(failure) => {
-            eprintln!(rt; "hagzimot: {failure}")?;
-            Ok(1)
+            if !failure.is_silent() {
+                eprintln!(rt; "hagzimot: {failure}")?;
+            }
+            Ok(failure.status())
         }
     }
 }
@@ -89,6 +102,7 @@ fn run(rt: &HostRuntime) -> io::Result<u8> {
 fn main(rt: HostRuntime) -> ExitCode {
     match run(&rt) {
         Ok(status) => ExitCode::from(status),
+        Err(e) if e.kind() == io::ErrorKind::BrokenPipe => ExitCode::from(CLOSED_PIPE),
         Err(e) => {
             // Where standard error is closed there is nowhere to say so.
             let _said = eprintln!(rt; "hagzimot: {e}");

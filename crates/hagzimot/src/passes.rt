@@ -1,13 +1,17 @@
 //! Subcommands that read streams of messages and write streams of messages.
 
 use crate::faults::Failure;
-use crate::files::{Input, OutSink, open_sink};
-use crate::log::{Log, LogEnd, RunLog, TurnAndFlush};
-use crate::log_words::{Lines, LogWords, Noted, OnRefused};
+use crate::files::{Input, OutSink};
+use crate::log::{Log, TurnAndFlush};
+use crate::log_words::{Lines, LogWords, OnRefused, Watch};
+use crate::outputs::Outputs;
 use crate::plain_log::PlainLog;
-use crate::relay_task::RelayTask;
+use crate::relay_task::{RelayTask, Seen, watch_all};
+use crate::run_log::{LogEnd, RunLog};
+use crate::tape::Tape;
 use crate::{files, words};
-use capnp_relay_loop::ends::Counts;
+use capnp_relay_answers::bounds::Bounds;
+use capnp_relay_loop::ends::{Counts, Fault};
 use capnp_relay_program::ahead::BoundedForm;
 use capnp_relay_streams::between::BetweenFault;
 use capnp_relay_streams::options::Form;
@@ -17,15 +21,12 @@ use capnp_stream_packed::form::Packed;
 use clap::ArgMatches;
 use hagzimot_commands::canonical::{Canonical, canonicalize_all};
 use hagzimot_commands::convert::convert_all;
-use hagzimot_commands::passing::pass_on_all;
 use std::alloc::Global;
-use std::cell::Cell;
-use std::rc::Rc;
 
 /// The status where all was done and written.
 const DONE: u8 = 0;
 
-/// The status where messages were skipped, or passed on unedited.
+/// The status if messages were skipped or passed on unedited, or calls were refused.
 const SKIPPED: u8 = 3;
 
 /// What is done with each message of an input.
@@ -62,41 +63,14 @@ impl Task for Conversion {
     }
 }
 
-impl Task for Canonical {
-    fn run_in<I: BoundedForm, O: MessageForm, L: RunLog>(
-        &self,
-        alloc: Global,
-        source: &mut Source<Input>,
-        out: &mut OutSink,
-        log: &mut L,
-    ) -> Result<Counts, BetweenFault> {
-        let end = canonicalize_all::<I, O, Source<Input>, OutSink, L, TurnAndFlush<I>>(
-            alloc, source, out, log, *self,
-        );
-        end.map_err(BetweenFault::Relay)
-    }
-}
-
-impl Task for RelayTask {
-    fn run_in<I: BoundedForm, O: MessageForm, L: RunLog>(
-        &self,
-        alloc: Global,
-        source: &mut Source<Input>,
-        out: &mut OutSink,
-        log: &mut L,
-    ) -> Result<Counts, BetweenFault> {
-        self.run::<I, L>(alloc, source, out, log)
-    }
-}
-
-/// A task that passes messages on which it can't answer, and notes why.
+/// Each message is written in canonical form, and what becomes of it is noted.
 #[derive(Drop)]
-struct PassingOn<T> {
-    task: T,
-    noted: Noted,
+struct CanonicalTask {
+    limits: Canonical,
+    watch: Watch,
 }
 
-impl Task for PassingOn<Canonical> {
+impl Task for CanonicalTask {
     fn run_in<I: BoundedForm, O: MessageForm, L: RunLog>(
         &self,
         alloc: Global,
@@ -104,22 +78,35 @@ impl Task for PassingOn<Canonical> {
         out: &mut OutSink,
         log: &mut L,
     ) -> Result<Counts, BetweenFault> {
-        let mut region = [0u8; 8];
-        let end = pass_on_all::<I, O, Source<Input>, OutSink, L, Canonical, TurnAndFlush<I>>(
-            alloc,
-            source,
-            out,
-            log,
-            &self.task,
-            &self.noted,
-            self.task.words as usize,
-            &mut region,
+        let limits = self.limits;
+        if self.watch.passes {
+            let bounds = Bounds {
+                words: limits.words,
+                nesting: limits.nesting,
+            };
+            let seen = Seen {
+                watch: &self.watch,
+                bounds,
+                skips: None,
+            };
+            return watch_all::<I, O, L, Canonical>(alloc, source, out, log, &limits, seen);
+        }
+        let noted = &*self.watch.noted;
+        let end = canonicalize_all::<I, O, Source<Input>, OutSink, L, TurnAndFlush<I>>(
+            alloc, source, out, log, limits, noted,
         );
         end.map_err(BetweenFault::Relay)
     }
 }
 
-impl Task for PassingOn<&RelayTask> {
+/// A relay whose calls that are refused are counted.
+#[derive(Drop)]
+struct PlainRelay<'a> {
+    task: &'a RelayTask,
+    watch: Watch,
+}
+
+impl Task for PlainRelay<'_> {
     fn run_in<I: BoundedForm, O: MessageForm, L: RunLog>(
         &self,
         alloc: Global,
@@ -128,7 +115,27 @@ impl Task for PassingOn<&RelayTask> {
         log: &mut L,
     ) -> Result<Counts, BetweenFault> {
         self.task
-            .run_passing::<I, O, L>(alloc, source, out, log, &self.noted)
+            .run::<I, O, L>(alloc, source, out, log, &self.watch)
+    }
+}
+
+/// A relay of which it is noted what becomes of each message.
+#[derive(Drop)]
+struct WatchedRelay<'a> {
+    task: &'a RelayTask,
+    watch: Watch,
+}
+
+impl Task for WatchedRelay<'_> {
+    fn run_in<I: BoundedForm, O: MessageForm, L: RunLog>(
+        &self,
+        alloc: Global,
+        source: &mut Source<Input>,
+        out: &mut OutSink,
+        log: &mut L,
+    ) -> Result<Counts, BetweenFault> {
+        self.task
+            .run_watched::<I, O, L>(alloc, source, out, log, &self.watch)
     }
 }
 
@@ -164,21 +171,38 @@ struct Forms {
     output: Form,
 }
 
-/// How the messages of an input ended that is no failure.
+/// How the messages of an input ended without a failure.
 #[derive(Clone, Copy, Debug, PartialEq, Eq)]
 struct Ended {
-    /// Whether messages were skipped, or passed on unedited.
+    /// Whether messages were skipped or passed on unedited, or calls were refused.
     skipped: bool,
     /// Whether the first one that was skipped ended the run.
     stopped: bool,
 }
 
 /// What is said of the end of an input.
-fn end_failure(alloc: Global, name: &str, start: u64, fault: BetweenFault) -> Failure {
+fn end_failure(
+    alloc: Global,
+    name: &str,
+    tape: &Tape,
+    outputs: &Outputs,
+    fault: BetweenFault,
+) -> Failure {
     match fault {
         BetweenFault::Relay(e) => {
             let before = e.counts.written.saturating_add(e.counts.refused);
-            Failure::stream(alloc, name, before.saturating_add(1), start, e.fault)
+            let number = before.saturating_add(1);
+            match (e.fault, tape.take_fault()) {
+                (Fault::Out, _) => outputs.messages.failure(alloc),
+                (Fault::Source, Some(why)) => Failure::unread(
+                    alloc,
+                    name,
+                    number,
+                    tape.start(),
+                    why,
+                ),
+                (fault, _) => Failure::stream(alloc, name, number, tape.start(), fault),
+            }
         }
         BetweenFault::Memory => Failure::Memory,
         other => Failure::about(alloc, "--newer", &other),
@@ -191,6 +215,7 @@ fn pass_one<T: Task, L: RunLog>(
     task: &T,
     forms: Forms,
     name: &str,
+    outputs: &Outputs,
     out: &mut OutSink,
     log: &mut L,
 ) -> Result<Ended, Failure> {
@@ -202,35 +227,36 @@ fn pass_one<T: Task, L: RunLog>(
     let all_kept = log.finish();
     let stopped = log.end() == Some(LogEnd::Stopped);
     if log.end() == Some(LogEnd::Unwritten) || !all_kept {
-        return Err(Failure::Refused);
+        return Err(outputs.refused_failure(alloc));
     }
     match (end, flushed) {
         (Err(_), Ok(())) if stopped => Ok(Ended {
             skipped: true,
             stopped,
         }),
-        (Err(fault), _) => Err(end_failure(alloc, name, tape.start(), fault)),
-        (Ok(_), Err(_)) => Err(Failure::Output),
+        (Err(fault), _) => Err(end_failure(alloc, name, &tape, outputs, fault)),
+        (Ok(_), Err(_)) => Err(outputs.messages.failure(alloc)),
         (Ok(counts), Ok(())) => Ok(Ended {
-            skipped: counts.refused > 0 || log.has_unedited(),
+            skipped: counts.refused > 0 || log.has_refusals(),
             stopped: false,
         }),
     }
 }
 
-/// Passes the messages of all inputs on, and returns whether some were skipped, or passed on
-/// unedited.
+/// Passes the messages of all inputs on, and returns whether some were skipped or passed on
+/// unedited, or calls were refused.
 fn pass_each<T: Task, L: RunLog>(
     rt: &HostRuntime,
     task: &T,
     forms: Forms,
     names: &[String],
+    outputs: &Outputs,
     out: &mut OutSink,
     log: &mut L,
 ) -> Result<bool, Failure> {
     let mut skipped = false;
     for name in names {
-        let ended = pass_one::<T, L>(rt, task, forms, name.as_str(), out, log)?;
+        let ended = pass_one::<T, L>(rt, task, forms, name.as_str(), outputs, out, log)?;
         skipped |= ended.skipped;
         if ended.stopped {
             break;
@@ -239,49 +265,51 @@ fn pass_each<T: Task, L: RunLog>(
     Ok(skipped)
 }
 
-/// Passes the messages of the inputs that the words name on to the sinks that they name, and
-/// returns whether some were skipped, or passed on unedited.
+/// Passes the messages of the inputs on to the outputs, and returns whether some were skipped or
+/// passed on unedited, or calls were refused.
 fn pass_inputs<T: Task, L: RunLog>(
     rt: &HostRuntime,
     matches: &ArgMatches<'_>,
     task: &T,
+    names: &[String],
+    outputs: &Outputs,
     asked: LogWords<'_>,
 ) -> Result<bool, Failure> {
-    let alloc = rt.alloc();
     let forms = Forms {
         input: words::form(matches, "in"),
         output: words::form(matches, "out"),
     };
-    let names = words::inputs(alloc, matches)?;
-    let mut out = open_sink(alloc, files::open_output(rt, matches.get_str("output"))?)?;
+    let mut out = outputs.messages.sink(rt.alloc())?;
     let mut log = L::open(rt, asked)?;
-    let skipped = pass_each::<T, L>(rt, task, forms, &names, &mut out, &mut log);
+    let skipped = pass_each::<T, L>(rt, task, forms, names, outputs, &mut out, &mut log);
     log.sum_up();
     skipped
 }
 
-/// The same, and returns the status; the files that were written get their names, or are removed.
+/// Passes the messages of the inputs that the words name on to the outputs that they name, and
+/// returns the status; the files that were written get their names, or are removed.
 fn pass_all<T: Task, L: RunLog>(
     rt: &HostRuntime,
     matches: &ArgMatches<'_>,
     task: &T,
-    asked: LogWords<'_>,
+    mut asked: LogWords<'_>,
 ) -> Result<u8, Failure> {
-    let named = matches.get_str("output");
-    let refused = asked.refused;
-    if refused.is_some() && refused == named {
-        let why = "the output has this name too";
-        return Err(Failure::about(rt.alloc(), "--refused", &why));
-    }
-    match pass_inputs::<T, L>(rt, matches, task, asked) {
+    let names = words::inputs(rt.alloc(), matches)?;
+    let outputs = Outputs::open(rt, matches, &names)?;
+    asked.refused_out = match outputs.refused_output() {
+        Ok(refused) => refused,
+        Err(failure) => {
+            outputs.discard();
+            return Err(failure);
+        }
+    };
+    match pass_inputs::<T, L>(rt, matches, task, &names, &outputs, asked) {
         Ok(skipped) => {
-            files::keep(rt, refused)?;
-            files::keep(rt, named)?;
+            outputs.commit(rt.alloc())?;
             Ok(if skipped { SKIPPED } else { DONE })
         }
         Err(failure) => {
-            files::give_up(rt, refused);
-            files::give_up(rt, named);
+            outputs.discard();
             Err(failure)
         }
     }
@@ -297,10 +325,25 @@ fn asked<'a>(
         lines,
         on_refused: words::on_refused(matches),
         refused: words::refused_name(matches),
-        stats: words::has_stats(matches),
-        noted: Rc::new(rt.alloc(), Cell::new(None))?,
+        refused_out: None,
+        stats: words::has_flag(matches, "stats"),
+        allows_refused_calls: words::has_flag(matches, "allow-refused-calls"),
+        watch: None,
         floats: None,
     })
+}
+
+/// The notes that a task and its log share.
+fn shared_watch(
+    rt: &HostRuntime,
+    matches: &ArgMatches<'_>,
+    asked: &mut LogWords<'_>,
+) -> Result<Watch, Failure> {
+    let mut watch = Watch::new(rt.alloc())?;
+    watch.passes = asked.on_refused == OnRefused::Pass;
+    watch.is_strict = words::has_flag(matches, "strict");
+    asked.watch = Some(watch.share()?);
+    Ok(watch)
 }
 
 /// The lines of the log that the words name, or else these.
@@ -320,31 +363,27 @@ pub fn convert(rt: &HostRuntime, matches: &ArgMatches<'_>) -> Result<u8, Failure
 
 /// `hagzimot canonical`.
 pub fn canonical(rt: &HostRuntime, matches: &ArgMatches<'_>) -> Result<u8, Failure> {
-    let task = Canonical {
+    let limits = Canonical {
         words: words::limit_of_words(matches),
         nesting: words::nesting(matches),
     };
-    let asked = asked(rt, matches, lines(matches, Lines::Refused))?;
-    if asked.on_refused != OnRefused::Pass {
-        return pass_all::<Canonical, Log>(rt, matches, &task, asked);
-    }
-    let noted = Rc::clone(&asked.noted)?;
-    let task = PassingOn { task, noted };
-    pass_all::<PassingOn<Canonical>, Log>(rt, matches, &task, asked)
+    let mut asked = asked(rt, matches, lines(matches, Lines::Refused))?;
+    let watch = shared_watch(rt, matches, &mut asked)?;
+    let task = CanonicalTask { limits, watch };
+    pass_all::<CanonicalTask, Log>(rt, matches, &task, asked)
 }
 
 /// `hagzimot relay`.
 pub fn relay(rt: &HostRuntime, matches: &ArgMatches<'_>) -> Result<u8, Failure> {
     let task = RelayTask::new(rt, matches)?;
     let mut asked = asked(rt, matches, lines(matches, Lines::All))?;
-    asked.floats = task.float_replies(rt.alloc())?;
-    if asked.are_plain() {
-        return pass_all::<RelayTask, PlainLog>(rt, matches, &task, asked);
+    asked.floats = task.replies(rt.alloc(), asked.lines)?;
+    let watch = shared_watch(rt, matches, &mut asked)?;
+    let task = &task;
+    if asked.are_plain() && task.runs_all() {
+        let task = PlainRelay { task, watch };
+        return pass_all::<PlainRelay<'_>, PlainLog>(rt, matches, &task, asked);
     }
-    if asked.on_refused != OnRefused::Pass {
-        return pass_all::<RelayTask, Log>(rt, matches, &task, asked);
-    }
-    let noted = Rc::clone(&asked.noted)?;
-    let task = PassingOn { task: &task, noted };
-    pass_all::<PassingOn<&RelayTask>, Log>(rt, matches, &task, asked)
+    let task = WatchedRelay { task, watch };
+    pass_all::<WatchedRelay<'_>, Log>(rt, matches, &task, asked)
 }

@@ -4,8 +4,8 @@ ghost use Rattle.capnp_stream_io.specs.Adapters.{sink_inner, sink_failures};
 
 use crate::faults::Failure;
 use crate::files::{Input, OutSink, Output, open_sink};
-use crate::log::{LogEnd, RunLog};
 use crate::log_words::LogWords;
+use crate::run_log::{LogEnd, RunLog};
 use crate::tape::Tape;
 use capnp_relay_loop::ends::Fault;
 use capnp_relay_program::ahead::BoundedForm;
@@ -15,6 +15,7 @@ use capnp_stream_io::adapters::Source;
 use capnp_stream_io::traits::Write;
 use capnp_units::errors::Error;
 use std::alloc::Global;
+use std::cell::Cell;
 use std::rc::Rc;
 
 /// A log on standard error of each line as it is, by which nothing else is done.
@@ -25,6 +26,9 @@ pub struct PlainLog {
     inner: OutSink,
     /// The tape of the input that is read.
     tape: Rc<Tape>,
+    /// How many calls were refused.
+    refused_calls: Rc<Cell<u64>>,
+    allows_refused_calls: bool,
 }
 
 impl Write for PlainLog {
@@ -49,12 +53,18 @@ impl Flush for PlainLog {
 }
 
 impl RunLog for PlainLog {
-    fn open(rt: &HostRuntime, _words: LogWords<'_>) -> Result<PlainLog, Failure> {
+    fn open(rt: &HostRuntime, words: LogWords<'_>) -> Result<PlainLog, Failure> {
         let alloc = rt.alloc();
+        let refused_calls = match &words.watch {
+            Some(watch) => Rc::clone(&watch.refused_calls)?,
+            None => Rc::new(alloc, Cell::new(0))?,
+        };
         Ok(PlainLog {
             alloc,
             inner: open_sink(alloc, Output::Error(rt.stderr()))?,
             tape: Rc::new(alloc, Tape::new(alloc, false))?,
+            refused_calls,
+            allows_refused_calls: words.allows_refused_calls,
         })
     }
 
@@ -83,8 +93,8 @@ impl RunLog for PlainLog {
         None
     }
 
-    fn has_unedited(&self) -> bool {
-        false
+    fn has_refusals(&self) -> bool {
+        !self.allows_refused_calls && self.refused_calls.get() > 0
     }
 
     fn sum_up(&mut self) {}

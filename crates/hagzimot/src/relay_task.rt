@@ -3,47 +3,49 @@ ghost use Rattle.std.specs.Prelude.{◌≡◌, length, replicate, IfOk};
 
 use crate::faults::Failure;
 use crate::files::{Input, OutSink};
-use crate::log::{RunLog, TurnAndFlush};
-use crate::log_words::Noted;
-use crate::relay_calls::{all_calls, named_calls};
+use crate::log::TurnAndFlush;
+use crate::log_words::{Lines, Watch};
+use crate::relay_calls::{AllCalls, all_calls, named_calls};
+use crate::relay_checks::{Versions, check_names};
+use crate::relay_plan::Plan;
+use crate::run_log::RunLog;
 use crate::words;
 use capnp_calls::{Action, Call};
-use capnp_calls_versions::admitted::{Admission, admitted_with};
-use capnp_calls_versions::compatible::compatible_with;
-use capnp_calls_versions::renamings::Renamings;
-use capnp_calls_versions::root::Root;
 use capnp_relay_answers::bounds::Bounds;
 use capnp_relay_answers::root_calls::RootCalls;
 use capnp_relay_files::calls_file::CallsFile;
 use capnp_relay_loop::answers::Answers;
 use capnp_relay_loop::ends::Counts;
+use capnp_relay_loop::run::answer_all;
 use capnp_relay_program::ahead::BoundedForm;
 use capnp_relay_streams::at_root::{CallsAtRoot, PlainCallsAtRoot};
-use capnp_relay_streams::between::{BetweenFault, relay_between_pausing};
-use capnp_relay_streams::options::{ReaderOptions, RelayOptions};
-use capnp_relay_streams::relay::relay_pausing;
+use capnp_relay_streams::between::BetweenFault;
+use capnp_relay_streams::options::{Form, ReaderOptions, RelayOptions};
 use capnp_stream::forms::MessageForm;
 use capnp_stream_io::adapters::Source;
 use clap::ArgMatches;
+use hagzimot_clears::active::ActiveClears;
 use hagzimot_commands::float_replies::FloatReplies;
 use hagzimot_commands::passing::pass_on_all;
+use hagzimot_outcomes::skips::Skips;
+use hagzimot_outcomes::watched::{Counted, Watched};
 use hagzimot_schemas::schemas::RootedSchema;
 use std::alloc::Global;
+use std::cell::Cell;
 
 /// The most bytes of the region in which messages are edited; a message that doesn't fit is edited
 /// in other memory.
 const REGION_LEN: usize = 64 * 1024;
 
-/// A relay: its schemas, its calls and its options.
+/// A relay: its schema, its calls and its limits.
 #[derive(Drop)]
 pub struct RelayTask {
     schema: RootedSchema,
-    newer: Option<RootedSchema>,
-    renamings: Renamings,
     calls: Vec<Call>,
-    limits: ReaderOptions,
+    /// Which calls run where; `None` if each runs at every message.
+    plan: Option<Plan>,
+    bounds: Bounds,
     is_plain: bool,
-    options: RelayOptions,
 }
 
 /// The limits that the words set, or else the calls file.
@@ -67,19 +69,16 @@ fn limits(matches: &ArgMatches<'_>, file: Option<&CallsFile>) -> ReaderOptions {
     }
 }
 
-/// The options that the words set.
-fn options(
-    alloc: Global,
-    matches: &ArgMatches<'_>,
-    limits: ReaderOptions,
-) -> Result<RelayOptions, Failure> {
-    let input = words::form(matches, "in");
-    let output = words::form(matches, "out");
-    match RelayOptions::new(input, output, limits) {
-        Ok(options) if matches.get_flag("plain") => Ok(options.plain()),
-        Ok(options) => Ok(options),
-        Err(why) => Err(Failure::about(alloc, "the limits", &why)),
+/// How far messages are followed, as `RelayOptions` take these limits.
+fn bounds(alloc: Global, limits: ReaderOptions) -> Result<Bounds, Failure> {
+    if let Err(why) = RelayOptions::new(Form::Framed, Form::Framed, limits) {
+        return Err(Failure::about(alloc, "the limits", &why));
     }
+    let words = limits.traversal_limit_in_words.unwrap_or(0);
+    Ok(Bounds {
+        words: u32::try_from(words).unwrap_or(u32::MAX),
+        nesting: u32::try_from(limits.nesting_limit).unwrap_or(0),
+    })
 }
 
 impl RelayTask {
@@ -93,29 +92,50 @@ impl RelayTask {
         };
         let renamings = words::renamings(rt, matches)?;
         let file = named_calls(rt, &schema, matches)?;
-        let limits = limits(matches, file.as_ref());
-        let options = options(alloc, matches, limits)?;
+        let bounds = bounds(alloc, limits(matches, file.as_ref()))?;
         let parts = match file {
             Some(file) => file.calls,
             None => Vec::new(alloc),
         };
-        let calls = all_calls(alloc, &schema, parts, matches)?;
+        let AllCalls {
+            calls,
+            plan,
+            sources,
+        } = all_calls(alloc, &schema, parts, bounds.words as u64, matches)?;
+        if let Some(newer) = &newer {
+            let versions = Versions {
+                older: &schema,
+                newer,
+                calls: &calls,
+                sources: &sources,
+            };
+            versions.check_schemas(alloc, &renamings)?;
+            versions.check_calls(alloc, &renamings)?;
+        }
         Ok(RelayTask {
             schema,
-            newer,
-            renamings,
             calls,
-            limits,
+            plan,
+            bounds,
             is_plain: matches.get_flag("plain"),
-            options,
         })
     }
 
-    /// Where the replies tell floats; `None` where none does.
-    pub fn float_replies(&self, alloc: Global) -> Result<Option<FloatReplies>, Failure> {
-        let schema = &self.schema;
+    /// Whether each call runs at every message.
+    pub fn runs_all(&self) -> bool {
+        self.plan.is_none()
+    }
+
+    /// Whether replies print values.
+    fn has_gets(&self) -> bool {
         let is_get = |call: &Call| matches!(call.action(), Action::Get);
-        if schema.floats().is_empty() || !self.calls.iter().any(is_get) {
+        self.calls.iter().any(is_get)
+    }
+
+    /// Where the replies tell floats; `None` if none does.
+    fn float_replies(&self, alloc: Global) -> Result<Option<FloatReplies>, Failure> {
+        let schema = &self.schema;
+        if schema.floats().is_empty() || !self.has_gets() {
             return Ok(None);
         }
         let (nodes, root) = (schema.nodes(), schema.root_id());
@@ -123,106 +143,118 @@ impl RelayTask {
         Ok(Some(replies))
     }
 
-    /// Relays the messages of a source in this form.
-    pub fn run<I: BoundedForm, L: RunLog>(
+    /// Where the replies that a log of these lines prints tell floats; `None` if none does. Refuses
+    /// names that the log can't print.
+    pub fn replies(&self, alloc: Global, lines: Lines) -> Result<Option<FloatReplies>, Failure> {
+        let floats = self.float_replies(alloc)?;
+        let is_text = matches!(lines, Lines::All | Lines::Refused) && self.has_gets();
+        if is_text || floats.is_some() {
+            check_names(alloc, &self.schema)?;
+        }
+        Ok(floats)
+    }
+
+    /// Relays the messages of a source from one form to another, and counts calls that are refused.
+    pub fn run<I: BoundedForm, O: MessageForm, L: RunLog>(
         &self,
         alloc: Global,
         source: &mut Source<Input>,
         out: &mut OutSink,
         log: &mut L,
+        watch: &Watch,
     ) -> Result<Counts, BetweenFault> {
-        let mut region = region(alloc, REGION_LEN)?;
-        let root = self.schema.root();
-        let calls = self.calls.as_slice();
-        let Some(newer) = &self.newer else {
-            let end = relay_pausing::<Source<Input>, OutSink, L, TurnAndFlush<I>>(
-                alloc,
-                source,
-                out,
-                log,
-                root,
-                calls,
-                self.options,
-                &mut region,
-            );
-            return end.map_err(BetweenFault::Relay);
-        };
-        relay_between_pausing::<Source<Input>, OutSink, L, TurnAndFlush<I>>(
-            alloc,
-            source,
-            out,
-            log,
-            root,
-            newer.root(),
-            &self.renamings,
-            calls,
-            self.options,
-            &mut region,
-        )
-    }
-
-    /// Whether the calls may be relayed beside the newer schema, if there is one.
-    fn check_newer(&self, alloc: Global) -> Result<(), BetweenFault> {
-        let Some(newer) = &self.newer else {
-            return Ok(());
-        };
-        let (newer, older) = (newer.root(), self.schema.root());
-        let newer = Root {
-            set: newer.set(),
-            id: newer.raw().id,
-        };
-        let older = Root {
-            set: older.set(),
-            id: older.raw().id,
-        };
-        match compatible_with(alloc, older, newer, &self.renamings) {
-            Ok(true) => {}
-            Ok(false) => return Err(BetweenFault::NotCompatible),
-            Err(_) => return Err(BetweenFault::Memory),
-        }
-        match admitted_with(alloc, &self.calls, older, newer, &self.renamings) {
-            Ok(Admission::Admitted) => Ok(()),
-            Ok(Admission::Refused(number)) => Err(BetweenFault::NotAdmitted(number)),
-            Err(_) => Err(BetweenFault::Memory),
-        }
-    }
-
-    /// How far messages are followed; `RelayOptions` has taken these limits.
-    fn bounds(&self) -> Bounds {
-        let words = self.limits.traversal_limit_in_words.unwrap_or(0);
-        Bounds {
-            words: u32::try_from(words).unwrap_or(u32::MAX),
-            nesting: u32::try_from(self.limits.nesting_limit).unwrap_or(0),
-        }
-    }
-
-    /// Relays the messages of a source from one form to another. One that would be skipped is
-    /// passed on unedited, and why is noted.
-    pub fn run_passing<I: BoundedForm, O: MessageForm, L: RunLog>(
-        &self,
-        alloc: Global,
-        source: &mut Source<Input>,
-        out: &mut OutSink,
-        log: &mut L,
-        noted: &Noted,
-    ) -> Result<Counts, BetweenFault> {
-        self.check_newer(alloc)?;
-        let bounds = self.bounds();
+        let bounds = self.bounds;
         let Ok(calls) = RootCalls::new(alloc, self.schema.root(), &self.calls) else {
             return Err(BetweenFault::Memory);
         };
         if self.is_plain {
             let answers = PlainCallsAtRoot { calls, bounds };
-            return pass_on::<I, O, L, PlainCallsAtRoot<'_>>(
-                alloc, source, out, log, &answers, bounds, noted,
+            return count_all::<I, O, L, PlainCallsAtRoot<'_>>(
+                alloc, source, out, log, &answers, bounds, watch,
             );
         }
         let answers = CallsAtRoot { calls, bounds };
-        pass_on::<I, O, L, CallsAtRoot<'_>>(alloc, source, out, log, &answers, bounds, noted)
+        count_all::<I, O, L, CallsAtRoot<'_>>(alloc, source, out, log, &answers, bounds, watch)
+    }
+
+    /// As `run`, and notes what becomes of each message.
+    pub fn run_watched<I: BoundedForm, O: MessageForm, L: RunLog>(
+        &self,
+        alloc: Global,
+        source: &mut Source<Input>,
+        out: &mut OutSink,
+        log: &mut L,
+        watch: &Watch,
+    ) -> Result<Counts, BetweenFault> {
+        if let Some(plan) = &self.plan {
+            return self.run_planned::<I, O, L>(alloc, source, out, log, watch, plan);
+        }
+        let bounds = self.bounds;
+        let Ok(calls) = RootCalls::new(alloc, self.schema.root(), &self.calls) else {
+            return Err(BetweenFault::Memory);
+        };
+        let seen = Seen {
+            watch,
+            bounds,
+            skips: None,
+        };
+        if self.is_plain {
+            let answers = PlainCallsAtRoot { calls, bounds };
+            return watch_all::<I, O, L, PlainCallsAtRoot<'_>>(
+                alloc, source, out, log, &answers, seen,
+            );
+        }
+        let answers = CallsAtRoot { calls, bounds };
+        watch_all::<I, O, L, CallsAtRoot<'_>>(alloc, source, out, log, &answers, seen)
+    }
+
+    /// As `run_watched`, where some calls run only where a member is active.
+    fn run_planned<I: BoundedForm, O: MessageForm, L: RunLog>(
+        &self,
+        alloc: Global,
+        source: &mut Source<Input>,
+        out: &mut OutSink,
+        log: &mut L,
+        watch: &Watch,
+        plan: &Plan,
+    ) -> Result<Counts, BetweenFault> {
+        let bounds = self.bounds;
+        let schema = self.schema.root();
+        let Ok(calls) = RootCalls::new(alloc, schema, &plan.probes) else {
+            return Err(BetweenFault::Memory);
+        };
+        let inactive = Cell::new(0);
+        let answers = ActiveClears {
+            probes: CallsAtRoot { calls, bounds },
+            schema,
+            planned: &plan.planned,
+            is_plain: self.is_plain,
+            bounds,
+            inactive: &inactive,
+        };
+        let skips = Skips {
+            probes: &plan.numbers,
+            inactive: &inactive,
+        };
+        let seen = Seen {
+            watch,
+            bounds,
+            skips: Some(skips),
+        };
+        watch_all::<I, O, L, ActiveClears<'_, '_>>(alloc, source, out, log, &answers, seen)
     }
 }
 
-/// Memory of so many bytes in which messages are edited, all zeros.
+/// How messages are followed, and what is noted of them.
+#[derive(Clone, Copy)]
+pub struct Seen<'a, 'p, 'i> {
+    pub watch: &'a Watch,
+    pub bounds: Bounds,
+    /// Which calls the answers leave out, if they leave some out.
+    pub skips: Option<Skips<'p, 'i>>,
+}
+
+/// Returns `len` zeros, in which messages are edited.
 fn region(alloc: Global, len: usize) -> Result<Vec<u8>, BetweenFault>
     ensures { IfOk result (λ bytes. bytes.items ≡ replicate (length bytes.items) 0) }
 {
@@ -232,26 +264,74 @@ fn region(alloc: Global, len: usize) -> Result<Vec<u8>, BetweenFault>
     }
 }
 
-/// Answers the messages of a source; one that would be skipped is passed on, and why is noted.
-fn pass_on<I: BoundedForm, O: MessageForm, L: RunLog, A: Answers>(
+/// Answers the messages of a source, and counts calls that are refused.
+fn count_all<I: BoundedForm, O: MessageForm, L: RunLog, A: Answers>(
     alloc: Global,
     source: &mut Source<Input>,
     out: &mut OutSink,
     log: &mut L,
     answers: &A,
     bounds: Bounds,
-    noted: &Noted,
+    watch: &Watch,
 ) -> Result<Counts, BetweenFault> {
     let mut region = region(alloc, REGION_LEN)?;
-    let end = pass_on_all::<I, O, Source<Input>, OutSink, L, A, TurnAndFlush<I>>(
+    let counted = Counted {
+        answers,
+        refused: &*watch.refused_calls,
+    };
+    let end = answer_all::<I, O, Source<Input>, OutSink, L, Counted<'_, '_, A>, TurnAndFlush<I>>(
         alloc,
         source,
         out,
         log,
-        answers,
-        noted,
+        &counted,
         bounds.words as usize,
         &mut region,
     );
+    end.map_err(BetweenFault::Relay)
+}
+
+/// Answers the messages of a source, and notes what becomes of each. One that would be skipped is
+/// passed on, if that is asked for.
+pub fn watch_all<I: BoundedForm, O: MessageForm, L: RunLog, A: Answers>(
+    alloc: Global,
+    source: &mut Source<Input>,
+    out: &mut OutSink,
+    log: &mut L,
+    answers: &A,
+    seen: Seen<'_, '_, '_>,
+) -> Result<Counts, BetweenFault> {
+    let mut region = region(alloc, REGION_LEN)?;
+    let watch = seen.watch;
+    let limit = seen.bounds.words as usize;
+    let watched = Watched {
+        answers,
+        noted: &*watch.noted,
+        is_strict: watch.is_strict,
+        skips: seen.skips,
+    };
+    let end = if watch.passes {
+        let noted = &*watch.unedited;
+        pass_on_all::<I, O, Source<Input>, OutSink, L, Watched<'_, '_, '_, '_, A>, TurnAndFlush<I>>(
+            alloc,
+            source,
+            out,
+            log,
+            &watched,
+            noted,
+            limit,
+            &mut region,
+        )
+    } else {
+        answer_all::<I, O, Source<Input>, OutSink, L, Watched<'_, '_, '_, '_, A>, TurnAndFlush<I>>(
+            alloc,
+            source,
+            out,
+            log,
+            &watched,
+            limit,
+            &mut region,
+        )
+    };
     end.map_err(BetweenFault::Relay)
 }

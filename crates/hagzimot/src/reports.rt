@@ -1,17 +1,17 @@
 //! Subcommands that read one schema alone.
 
 use crate::faults::Failure;
-use crate::files::read_file;
 use crate::words;
+use capnp_relay_requests::request::Floats;
 use clap::ArgMatches;
 use hagzimot_schemas::schema_text::{IdForm, schema_text};
-use hagzimot_schemas::schemas::{read_nodes, read_set};
+use hagzimot_schemas::schemas::{SchemaTrouble, read_nodes, read_set};
 
 /// Prints a line.
 pub fn print_line(rt: &HostRuntime, line: &str) -> Result<(), Failure> {
     match println!(rt; "{line}") {
         Ok(()) => Ok(()),
-        Err(_) => Err(Failure::Output),
+        Err(e) => Err(Failure::unwritten(rt.alloc(), "-", e)),
     }
 }
 
@@ -19,18 +19,26 @@ pub fn print_line(rt: &HostRuntime, line: &str) -> Result<(), Failure> {
 fn print_text(rt: &HostRuntime, text: &str) -> Result<u8, Failure> {
     match print!(rt; "{text}") {
         Ok(()) => Ok(0),
-        Err(_) => Err(Failure::Output),
+        Err(e) => Err(Failure::unwritten(rt.alloc(), "-", e)),
     }
 }
+
+/// The status where a schema breaks a rule.
+const BREAKS_RULE: u8 = 1;
 
 /// `hagzimot check`: whether a schema keeps the rules.
 pub fn check(rt: &HostRuntime, matches: &ArgMatches<'_>) -> Result<u8, Failure> {
     let alloc = rt.alloc();
     let name = words::text(matches, "schema");
-    let bytes = read_file(rt, name)?;
-    let set = match read_set(alloc, &bytes, words::floats(matches)) {
+    let bytes = words::schema_bytes(rt, name)?;
+    let set = match read_set(alloc, &bytes, Floats::AsBits) {
         Ok(checked) => checked.set,
-        Err(why) => return Err(Failure::schema(alloc, name, &why)),
+        Err(why @ SchemaTrouble::Rule { .. }) => {
+            let line = format!(in alloc; "{name}: {why}")?;
+            print_line(rt, line.as_str())?;
+            return Ok(BREAKS_RULE);
+        }
+        Err(why) => return Err(words::schema_failure(alloc, name, &why)),
     };
     let count = set.nodes().len();
     let line = format!(in alloc; "{name}: {count} nodes keep all rules")?;
@@ -42,10 +50,10 @@ pub fn check(rt: &HostRuntime, matches: &ArgMatches<'_>) -> Result<u8, Failure> 
 pub fn schema(rt: &HostRuntime, matches: &ArgMatches<'_>) -> Result<u8, Failure> {
     let alloc = rt.alloc();
     let name = words::text(matches, "schema");
-    let bytes = read_file(rt, name)?;
-    let nodes = match read_nodes(alloc, &bytes, words::floats(matches)) {
+    let bytes = words::schema_bytes(rt, name)?;
+    let nodes = match read_nodes(alloc, &bytes, Floats::AsBits) {
         Ok(nodes) => nodes,
-        Err(why) => return Err(Failure::schema(alloc, name, &why)),
+        Err(why) => return Err(words::schema_failure(alloc, name, &why)),
     };
     let ids = if matches.get_flag("ids-as-texts") {
         IdForm::Texts

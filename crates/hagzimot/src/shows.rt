@@ -1,9 +1,12 @@
 //! `hagzimot show`.
 
 use crate::faults::Failure;
-use crate::files::{Input, OutSink, Output, open_sink, open_source};
+use crate::files::{Input, OutFile, OutSink, open_source};
+use crate::hints::{Beginning, beginning_of, hint};
 use crate::log::{Lines, Log, Refusals, TurnAndFlush};
+use crate::tape::Tape;
 use crate::words;
+use capnp_relay_loop::ends::Fault;
 use capnp_relay_program::ahead::BoundedForm;
 use capnp_relay_program::sinks::Flush;
 use capnp_relay_streams::options::Form;
@@ -13,10 +16,29 @@ use capnp_stream_io::traits::Write;
 use capnp_stream_packed::form::Packed;
 use clap::ArgMatches;
 use hagzimot_commands::canonical::Canonical;
+use hagzimot_schemas::schemas::RootedSchema;
 use hagzimot_show::laid_out::Manner;
-use hagzimot_show::layout::Layout;
-use hagzimot_show::show::{Chosen, ShownCounts, StreamFault, show_all};
+use hagzimot_show::layout::{Layout, Spelling};
+use hagzimot_show::show::{Chosen, Origin, ShownCounts, StreamFault, show_all};
 use std::alloc::Global;
+use std::rc::Rc;
+
+/// An input by its name, with the tape on which its bytes are noted.
+#[derive(Drop)]
+struct NamedInput<'a> {
+    name: &'a str,
+    tape: Rc<Tape>,
+}
+
+impl Origin for NamedInput<'_> {
+    fn file(&self) -> &str {
+        self.name
+    }
+
+    fn byte(&self) -> u64 {
+        self.tape.start()
+    }
+}
 
 /// What is shown, and how.
 #[derive(Clone, Copy)]
@@ -34,15 +56,39 @@ impl Showing<'_> {
         source: &mut Source<Input>,
         out: &mut OutSink,
         log: &mut Log,
+        input: &NamedInput<'_>,
     ) -> Result<ShownCounts, StreamFault> {
-        show_all::<I, Source<Input>, OutSink, Log, TurnAndFlush<I>>(
+        show_all::<I, Source<Input>, OutSink, Log, TurnAndFlush<I>, NamedInput<'_>>(
             alloc,
             source,
             out,
             log,
             self.manner,
             self.chosen,
+            input,
         )
+    }
+
+    /// Returns the failure of an input, or of what is shown of it, at a message.
+    fn failure(
+        self,
+        alloc: Global,
+        input: &NamedInput<'_>,
+        kept: &OutFile,
+        beginning: Beginning,
+        end: StreamFault,
+    ) -> Failure {
+        let StreamFault { fault, number } = end;
+        let (name, start) = (input.name, input.tape.start());
+        match (fault, input.tape.take_fault()) {
+            (Fault::Out, _) => return kept.failure(alloc),
+            (Fault::Source, Some(why)) => return Failure::unread(alloc, name, number, start, why),
+            _ => {}
+        }
+        match hint(self.form, beginning, number, fault) {
+            Some(why) => Failure::about(alloc, name, &why),
+            None => Failure::stream(alloc, name, number, start, fault),
+        }
     }
 
     /// Shows the messages of one input, and flushes the sinks.
@@ -50,32 +96,40 @@ impl Showing<'_> {
         self,
         rt: &HostRuntime,
         name: &str,
+        kept: &OutFile,
         out: &mut OutSink,
         log: &mut Log,
     ) -> Result<ShownCounts, Failure> {
         let alloc = rt.alloc();
         let tape = log.begin_input()?;
         let mut source = open_source(rt, name, &tape)?;
+        let beginning = beginning_of(&mut source);
+        let input = NamedInput { name, tape };
         let end = match self.form {
-            Form::Framed => self.run_in::<Framed>(alloc, &mut source, out, log),
-            Form::Packed => self.run_in::<Packed>(alloc, &mut source, out, log),
+            Form::Framed => self.run_in::<Framed>(alloc, &mut source, out, log, &input),
+            Form::Packed => self.run_in::<Packed>(alloc, &mut source, out, log, &input),
         };
         let flushed = out.flush();
         // A log that fails now has nowhere to say so.
         let _flushed_log = log.flush();
         match (end, flushed) {
-            (Err(e), _) => Err(Failure::stream(alloc, name, e.number, tape.start(), e.fault)),
-            (Ok(_), Err(_)) => Err(Failure::Output),
+            (Err(end), _) => Err(self.failure(alloc, &input, kept, beginning, end)),
+            (Ok(_), Err(_)) => Err(kept.failure(alloc)),
             (Ok(counts), Ok(())) => Ok(counts),
         }
     }
 }
 
 /// Writes a number and a line feed.
-fn put_number(alloc: Global, out: &mut OutSink, number: u64) -> Result<(), Failure> {
+fn put_number(
+    alloc: Global,
+    kept: &OutFile,
+    out: &mut OutSink,
+    number: u64,
+) -> Result<(), Failure> {
     let line = format!(in alloc; "{number}\n")?;
     if out.write_all(line.as_bytes()).is_err() || out.flush().is_err() {
-        return Err(Failure::Output);
+        return Err(kept.failure(alloc));
     }
     Ok(())
 }
@@ -92,11 +146,26 @@ fn layout(matches: &ArgMatches<'_>) -> Layout {
     }
 }
 
-/// `hagzimot show`.
-pub fn show(rt: &HostRuntime, matches: &ArgMatches<'_>) -> Result<u8, Failure> {
-    let alloc = rt.alloc();
-    let schema = words::rooted(rt, matches, "schema")?;
-    let showing = Showing {
+/// Returns the spelling of single values that the options ask for.
+fn spelling(matches: &ArgMatches<'_>) -> Spelling {
+    match matches.get_str("style") {
+        Some("capnp") => Spelling::Capnp,
+        _ => Spelling::Hagzimot,
+    }
+}
+
+/// Returns which messages the options choose.
+fn chosen(matches: &ArgMatches<'_>) -> Chosen {
+    Chosen {
+        first: matches.get_one::<u64>("from").unwrap_or(1),
+        last: matches.get_one::<u64>("to").unwrap_or(u64::MAX),
+        is_count: matches.get_flag("count"),
+    }
+}
+
+/// Returns what is shown under a schema.
+fn showing_of<'a>(matches: &ArgMatches<'_>, schema: &'a RootedSchema) -> Showing<'a> {
+    Showing {
         manner: Manner {
             root: schema.root(),
             limits: Canonical {
@@ -104,27 +173,40 @@ pub fn show(rt: &HostRuntime, matches: &ArgMatches<'_>) -> Result<u8, Failure> {
                 nesting: words::nesting(matches),
             },
             layout: layout(matches),
+            spelling: spelling(matches),
             floats: schema.floats(),
         },
-        chosen: Chosen {
-            first: matches.get_one::<u64>("from").unwrap_or(1),
-            last: matches.get_one::<u64>("to").unwrap_or(u64::MAX),
-            is_count: matches.get_flag("count"),
-        },
+        chosen: chosen(matches),
         form: words::form(matches, "in"),
-    };
-    let mut out = open_sink(alloc, Output::Standard(rt.stdout()))?;
+    }
+}
+
+/// `hagzimot show`.
+pub fn show(rt: &HostRuntime, matches: &ArgMatches<'_>) -> Result<u8, Failure> {
+    let alloc = rt.alloc();
+    let Chosen {
+        first,
+        last,
+        is_count,
+    } = chosen(matches);
+    if first > last {
+        return Err(Failure::contradiction(alloc, first, last));
+    }
+    let schema = words::rooted(rt, matches, "schema")?;
+    let showing = showing_of(matches, &schema);
+    let kept = OutFile::standard(rt)?;
+    let mut out = kept.sink(alloc)?;
     let mut log = Log::new(rt, Lines::All, Refusals::unseen())?;
     let names = words::inputs(alloc, matches)?;
     let mut all_shown = true;
     let mut shown: u64 = 0;
     for name in names.iter() {
-        let counts = showing.show_one(rt, name.as_str(), &mut out, &mut log)?;
+        let counts = showing.show_one(rt, name.as_str(), &kept, &mut out, &mut log)?;
         all_shown &= counts.not_shown == 0;
         shown = shown.saturating_add(counts.shown);
     }
-    if showing.chosen.is_count {
-        put_number(alloc, &mut out, shown)?;
+    if is_count {
+        put_number(alloc, &kept, &mut out, shown)?;
     }
     Ok(if all_shown { 0 } else { 3 })
 }

@@ -1,5 +1,7 @@
 //! How many messages and bytes a run has seen.
 
+use hagzimot_outcomes::outcomes::{CallOutcome, Cause, Outcome};
+use hagzimot_outcomes::refused_calls::RefusedCalls;
 use std::alloc::{AllocError, Global};
 use std::io::IsTerminal;
 use std::time::Instant;
@@ -7,7 +9,7 @@ use std::time::Instant;
 /// How many seconds there are between two lines of counts.
 const BETWEEN: u64 = 1;
 
-/// The counts of a run, which are told once a second where standard error is a terminal.
+/// The counts of a run, which are reported once a second if standard error is a terminal.
 #[derive(Drop)]
 pub struct Stats {
     rt: HostRuntime,
@@ -15,6 +17,7 @@ pub struct Stats {
     /// How many of those that were written are unedited.
     unedited: u64,
     refused: u64,
+    calls: RefusedCalls,
     /// How many bytes the inputs before this one gave.
     bytes: u64,
     /// When counts were last told; `None` where they are told at the end alone.
@@ -34,20 +37,40 @@ impl Stats {
             written: 0,
             unedited: 0,
             refused: 0,
+            calls: RefusedCalls::new(rt.alloc()),
             bytes: 0,
             told,
         }
     }
 
-    /// Counts a message, which is refused or not; one that is refused and unedited is written.
-    pub fn count(&mut self, is_refused: bool, is_unedited: bool) {
-        if is_refused && !is_unedited {
-            self.refused = self.refused.saturating_add(1);
-            return;
+    /// Counts a message and its calls that are refused. One that is unedited is written too.
+    pub fn count(&mut self, outcome: &Outcome) {
+        match outcome {
+            Outcome::Done(_) => {}
+            Outcome::Written(calls) => {
+                for call in calls {
+                    if let CallOutcome::Refused(kind) = call {
+                        self.calls.count(*kind);
+                    }
+                }
+            }
+            Outcome::Unedited(cause) => {
+                self.count_cause(*cause);
+                self.unedited = self.unedited.saturating_add(1);
+            }
+            Outcome::Refused(cause) => {
+                self.count_cause(*cause);
+                self.refused = self.refused.saturating_add(1);
+                return;
+            }
         }
         self.written = self.written.saturating_add(1);
-        if is_unedited {
-            self.unedited = self.unedited.saturating_add(1);
+    }
+
+    /// Counts the call for which a message is not edited, if it is for one.
+    fn count_cause(&mut self, cause: Cause) {
+        if let Cause::Call(call) = cause {
+            self.calls.count(call.kind);
         }
     }
 
@@ -79,12 +102,14 @@ impl Stats {
         let refused = self.refused;
         let bytes = self.bytes.saturating_add(given);
         if as_json {
+            let calls = self.calls.json(alloc)?;
             return format!(in alloc;
-                "{{\"written\":{written},\"unedited\":{unedited},\"refused\":{refused},\"bytes\":{bytes}}}\n"
+                "{{\"written\":{written},\"calls_refused\":{calls},\"unedited\":{unedited},\"refused\":{refused},\"bytes\":{bytes}}}\n"
             );
         }
+        let calls = self.calls.text(alloc)?;
         format!(in alloc;
-            "{written} written, {unedited} of them unedited, {refused} refused, {bytes} bytes read\n"
+            "{written} written, {calls}, {unedited} unedited, {refused} messages refused, {bytes} bytes read\n"
         )
     }
 }

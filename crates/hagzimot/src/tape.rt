@@ -2,6 +2,7 @@
 
 use std::alloc::Global;
 use std::cell::{Cell, RefCell};
+use std::io;
 
 /// Notes how many bytes an input gave, where the message begins that is read, and, where they are
 /// kept, its bytes.
@@ -17,6 +18,8 @@ pub struct Tape {
     kept: RefCell<Vec<u8>>,
     /// Whether a growth was refused, so that bytes are missing.
     is_torn: Cell<bool>,
+    /// Why the input can't be read, if it can't.
+    fault: Cell<Option<io::Error>>,
 }
 
 impl Tape {
@@ -28,7 +31,20 @@ impl Tape {
             keeps,
             kept: RefCell::new(Vec::new(alloc)),
             is_torn: Cell::new(false),
+            fault: Cell::new(None),
         }
+    }
+
+    /// Notes why the input can't be read, and returns an error of the same kind.
+    pub fn note_fault(&self, fault: io::Error) -> io::Error {
+        let kind = fault.kind();
+        self.fault.set(Some(fault));
+        io::Error::from(kind)
+    }
+
+    /// Takes away why the input can't be read, if that was noted.
+    pub fn take_fault(&self) -> Option<io::Error> {
+        self.fault.take()
     }
 
     /// Notes bytes that were given.

@@ -10,8 +10,10 @@ use capnp_relay_requests::request::Floats;
 use capnp_relay_streams::options::Form;
 use clap::ArgMatches;
 use hagzimot_forms::renames_form::renames_form_fault;
-use hagzimot_schemas::schemas::RootedSchema;
+use hagzimot_schemas::roots::RootTrouble;
+use hagzimot_schemas::schemas::{RootedSchema, SchemaTrouble};
 use std::alloc::Global;
+use std::io::Read;
 
 /// The most words of a message, and the most that following it may cost, where no word says
 /// otherwise.
@@ -86,28 +88,81 @@ pub fn on_refused(words: &ArgMatches<'_>) -> OnRefused {
     }
 }
 
-/// Whether messages and bytes are counted and told.
-pub fn has_stats(words: &ArgMatches<'_>) -> bool {
-    words.contains_id("stats") && words.get_flag("stats")
+/// Whether a subcommand takes a flag and it is given.
+pub fn has_flag(words: &ArgMatches<'_>, id: &str) -> bool {
+    words.contains_id(id) && words.get_flag(id)
 }
 
-/// What becomes of floats in what the compiler wrote.
-pub fn floats(words: &ArgMatches<'_>) -> Floats {
-    if words.get_flag("floats-as-bits") {
-        Floats::AsBits
-    } else {
-        Floats::Refused
+/// Whether messages are read from standard input.
+fn reads_standard_input(words: &ArgMatches<'_>) -> bool {
+    if !words.contains_id("schema") {
+        return false;
+    }
+    match words.get_strs("files") {
+        Some(files) => files.is_empty() || files.iter().any(|file| *file == "-"),
+        None => true,
     }
 }
 
-/// The schema of the file that an argument names, with the root that the words name.
+/// All bytes of standard input.
+fn read_standard_input(rt: &HostRuntime) -> Result<Vec<u8>, Failure> {
+    let mut bytes = Vec::new(rt.alloc());
+    match rt.stdin().read_to_end(&mut bytes) {
+        Ok(_) => Ok(bytes),
+        Err(e) => Err(Failure::file(rt.alloc(), "-", e)),
+    }
+}
+
+/// The bytes of the schema file of a name, `-` for standard input.
+pub fn schema_bytes(rt: &HostRuntime, name: &str) -> Result<Vec<u8>, Failure> {
+    if name == "-" {
+        read_standard_input(rt)
+    } else {
+        read_file(rt, name)
+    }
+}
+
+/// What is said of a file that holds no schema.
+pub fn schema_failure(alloc: Global, name: &str, why: &SchemaTrouble) -> Failure {
+    let text = match why {
+        SchemaTrouble::Source => {
+            let stem = name.strip_suffix(".capnp").unwrap_or(name);
+            format!(in alloc;
+                "{name}: this is schema source; compile it first: capnp compile -o- {name} > {stem}.request"
+            )
+        }
+        SchemaTrouble::Gzip => format!(in alloc;
+            "{name}: this is gzip data; decompress it first: gzip -dc {name} | hagzimot .. --schema -"
+        ),
+        SchemaTrouble::Memory => return Failure::Memory,
+        SchemaTrouble::Root(RootTrouble::Memory) => return Failure::Memory,
+        SchemaTrouble::Root(why) => return Failure::words(alloc, name, why),
+        other => return Failure::schema(alloc, name, other),
+    };
+    match text {
+        Ok(text) => Failure::Text(text),
+        Err(_) => Failure::Memory,
+    }
+}
+
+/// The word that names the root, if there is one.
+fn root_word<'a>(words: &ArgMatches<'a>) -> Option<&'a str> {
+    words.get_str("root")
+}
+
+/// The schema of the file that an argument names, with the root that the words name, or else the one
+/// at the top of the schema.
 pub fn rooted(rt: &HostRuntime, words: &ArgMatches<'_>, id: &str) -> Result<RootedSchema, Failure> {
     let alloc = rt.alloc();
     let name = text(words, id);
-    let bytes = read_file(rt, name)?;
-    match RootedSchema::new(alloc, &bytes, floats(words), text(words, "root")) {
+    if name == "-" && reads_standard_input(words) {
+        let why = "standard input can't hold both the schema and messages (name a file of either)";
+        return Err(Failure::words(alloc, name, &why));
+    }
+    let bytes = schema_bytes(rt, name)?;
+    match RootedSchema::new(alloc, &bytes, Floats::AsBits, root_word(words)) {
         Ok(schema) => Ok(schema),
-        Err(why) => Err(Failure::schema(alloc, name, &why)),
+        Err(why) => Err(schema_failure(alloc, name, &why)),
     }
 }
 

@@ -1,6 +1,6 @@
 -- Replies of calls in which floats are told, and the calls files that set them.
-use Rattle.std.specs.Prelude.{◌≡◌, ◌≢◌, ℕ, ◌<◌, ◌==◌, ⊤, Option, None, option_and_then, List, ◌++◌, map, codes, string_bytes, IsUtf8}
-use Rattle.std.specs.List.{before_first}
+use Rattle.std.specs.Prelude.{◌≡◌, ◌≢◌, ℕ, ◌<◌, ◌==◌, ⊤, Option, None, option_and_then, slice_get, List, ◌++◌, map, codes, string_bytes, IsUtf8}
+use Rattle.capnp_model.specs.Chains.{◌>>=◌}
 use Rattle.serde_json.specs.Data.{Items}
 use Rattle.serde_json.specs.Find.{get as member, as_array}
 use Rattle.serde_json.specs.Read.{read}
@@ -13,6 +13,8 @@ use Rattle.hagzimot_commands.specs.declared.float_calls.FloatCallsTrouble.TheVar
 use Rattle.hagzimot_commands.specs.declared.float_calls.FloatTrouble.TheVariants as why
 use Rattle.hagzimot_commands.specs.declared.float_replies.Holder.{Holder}
 use Rattle.hagzimot_commands.specs.declared.float_replies.NamedPlace.{NamedPlace}
+use Rattle.hagzimot_commands.specs.declared.float_replies.Place.{Place}
+use Rattle.hagzimot_commands.specs.declared.float_replies.FloatReplies.{FloatReplies}
 use Rattle.hagzimot_commands.specs.declared.paths.Landing.{Landing}
 use Rattle.hagzimot_commands.specs.Paths.{struct_landing, landing_of, walked}
 
@@ -39,9 +41,9 @@ told_by _ at = None
 abbrev pub reply_at : List NodeRecord → ℕ → ModelCall → Option Landing
 reply_at nodes root call = told_by call.verb (walked nodes (struct_landing root) call.path)
 
--- What stands in front of the first semicolon of a line, all of it where it has none.
-abbrev pub in_front : List ℕ → List ℕ
-in_front line = before_first (λ b. b == 59) line
+-- What the reply of the call of a number tells, counted from 0: where it is a value, that.
+abbrev pub place_of_reply : FloatReplies → ℕ → Option Place
+place_of_reply told n = slice_get told.calls.items n >>= λ place. place
 
 -- A text begins with another.
 pub record Extends (front text : List ℕ) : Type 0 where

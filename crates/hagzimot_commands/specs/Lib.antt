@@ -1,8 +1,10 @@
 pub mod Copies
 pub mod FloatReplies
 pub mod Answers
+pub mod Names
 pub mod Passing
 pub mod Paths
+pub mod Sizes
 pub mod Sorts
 pub mod Strict
 pub mod Words

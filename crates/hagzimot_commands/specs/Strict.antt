@@ -1,4 +1,4 @@
--- Calls that some message could take.
+-- Calls that some record could take.
 use Rattle.std.specs.Prelude.{◌≡◌, ℕ, ◌-◌, ◌^◌, ◌==◌, ℤ, pos, negsuc, int_lt, Bool, true, false, not, ◌||◌, ◌&&◌, if◌then◌else◌, ◌⊎◌, Option, Some, None, is_some, List, length, slice_get}
 use Rattle.capnp_model.specs.Calls.{Step as ModelStep, name, index, CallValue as ModelValue, whole_number, truth, enumerant, text_value, blob_value, message, Verb as ModelVerb, get, set_to, init, initn, clear}
 use Rattle.capnp_records.specs.declared.node.BaseType.{BaseType}
@@ -27,7 +27,7 @@ abbrev pub is_number_among : ℤ → Option (ℤ × ℤ) → Bool
 is_number_among z None = true
 is_number_among z (Some (least, greatest)) = not (int_lt z least || int_lt greatest z)
 
--- Which base types a value is of: a Void slot takes any plain value, an untyped pointer any other.
+-- Which base types a value is of: Void takes any value, an untyped pointer any that isn't plain.
 abbrev pub base_takes_number : BaseType → Bool
 base_takes_number base.Void = true
 base_takes_number b = is_some (numbers_of b)
@@ -45,11 +45,13 @@ base_takes_enumerant _ = false
 abbrev pub base_takes_text : BaseType → Bool
 base_takes_text base.Text = true
 base_takes_text base.AnyPointer = true
+base_takes_text base.Void = true
 base_takes_text _ = false
 
 abbrev pub base_takes_blob : BaseType → Bool
 base_takes_blob base.Data = true
 base_takes_blob base.AnyPointer = true
+base_takes_blob base.Void = true
 base_takes_blob _ = false
 
 abbrev pub is_struct_base : BaseType → Bool
@@ -59,6 +61,7 @@ is_struct_base _ = false
 abbrev pub base_takes_message : BaseType → Bool
 base_takes_message (base.Struct id) = true
 base_takes_message base.AnyPointer = true
+base_takes_message base.Void = true
 base_takes_message _ = false
 
 abbrev pub base_takes : ModelValue → BaseType → Bool
@@ -82,10 +85,14 @@ abbrev pub has_sort_of : ModelValue → Landing → Bool
 has_sort_of v (landing.Group id) = is_whole_message v
 has_sort_of v (landing.Value ty) = if ty.list_count == 0 then base_takes v ty.base else is_whole_message v
 
--- Whether a number is one of the type that stands there.
+-- The least and the greatest number of the type that stands there.
+abbrev pub numbers_there : Landing → Option (ℤ × ℤ)
+numbers_there (landing.Group id) = None
+numbers_there (landing.Value ty) = numbers_of ty.base
+
+-- Whether a number is one of them.
 abbrev pub is_in_type : ℤ → Landing → Bool
-is_in_type z (landing.Group id) = true
-is_in_type z (landing.Value ty) = is_number_among z (numbers_of ty.base)
+is_in_type z at = is_number_among z (numbers_there at)
 
 abbrev pub is_in_range_there : ModelValue → Landing → Bool
 is_in_range_there (whole_number z) at = is_in_type z at
@@ -99,6 +106,15 @@ is_in_range_there (message t) at = true
 abbrev pub is_struct_there : Landing → Bool
 is_struct_there (landing.Group id) = true
 is_struct_there (landing.Value ty) = if ty.list_count == 0 then is_struct_base ty.base else false
+
+-- Whether an untyped pointer stands there.
+abbrev pub is_untyped_base : BaseType → Bool
+is_untyped_base base.AnyPointer = true
+is_untyped_base _ = false
+
+abbrev pub is_untyped_there : Landing → Bool
+is_untyped_there (landing.Group id) = false
+is_untyped_there (landing.Value ty) = if ty.list_count == 0 then is_untyped_base ty.base else false
 
 abbrev pub is_blob_base : BaseType → Bool
 is_blob_base base.Text = true
@@ -122,27 +138,34 @@ is_found_index (Some s) = is_index s
 abbrev pub ends_with_index : List ModelStep → Bool
 ends_with_index path = is_found_index (slice_get path (length path - 1))
 
--- Whether a call can be made where its path leads.
+-- Whether a call can be made where its path leads. No untyped pointer of a list can be set, and no element is made anew or cleared.
 abbrev pub can_take : Landing → List ModelStep → ModelVerb → Bool
 can_take at path get = true
-can_take at path (set_to v) = has_sort_of v at && is_in_range_there v at
-can_take at path init = is_struct_there at
+can_take at path (set_to v) = has_sort_of v at && (is_in_range_there v at && not (is_untyped_there at && ends_with_index path))
+can_take at path init = not (ends_with_index path) && (is_struct_there at || is_untyped_there at)
 can_take at path (initn n) = is_many_there at
 can_take at path clear = not (ends_with_index path)
+
+-- A number is not one of the type that stands there, which has these.
+abbrev pub IsOutOfRange : ℤ → Landing → Misfit → Type 0
+IsOutOfRange z at (misfit.Range number there least greatest) = (number ≡ z) × (numbers_there at ≡ Some (least, greatest)) × (is_in_type z at ≡ false)
+IsOutOfRange z at _ = ⊥
 
 -- What is wrong with a call where its path leads.
 abbrev pub IsMisfitThere : Landing → List ModelStep → ModelVerb → Misfit → Type 0
 IsMisfitThere at path verb (misfit.Path m) = ⊥
 IsMisfitThere at path verb (misfit.Sort given there) = (v : ModelValue) × (verb ≡ set_to v) × (has_sort_of v at ≡ false)
-IsMisfitThere at path verb (misfit.Range z there) = (verb ≡ set_to (whole_number z)) × (has_sort_of (whole_number z) at ≡ true) × (is_in_type z at ≡ false)
-IsMisfitThere at path verb (misfit.NotMade told wanted there) = ((verb ≡ init) × (is_struct_there at ≡ false)) ⊎ ((n : ℕ) × (verb ≡ initn n) × (is_many_there at ≡ false))
-IsMisfitThere at path verb misfit.ClearsElement = (verb ≡ clear) × (ends_with_index path ≡ true)
+IsMisfitThere at path verb (misfit.Range z there least greatest) = (verb ≡ set_to (whole_number z)) × (has_sort_of (whole_number z) at ≡ true) × IsOutOfRange z at (misfit.Range z there least greatest)
+IsMisfitThere at path verb (misfit.NotMade told wanted there) = ((verb ≡ init) × (is_struct_there at ≡ false) × (is_untyped_there at ≡ false)) ⊎ ((n : ℕ) × (verb ≡ initn n) × (is_many_there at ≡ false))
+IsMisfitThere at path verb (misfit.AtElement told) = ((verb ≡ init) ⊎ (verb ≡ clear)) × (ends_with_index path ≡ true)
+IsMisfitThere at path verb (misfit.Size count words limit) = ⊥
+IsMisfitThere at path verb misfit.UntypedElement = (v : ModelValue) × (verb ≡ set_to v) × (is_untyped_there at ≡ true) × (ends_with_index path ≡ true)
 
--- Some message could take the call: its path leads somewhere, and the call can be made there.
+-- Some record could take the call: its path leads somewhere, and the call can be made there.
 abbrev pub CouldBeTaken : List NodeRecord → ℕ → List ModelStep → ModelVerb → Type 0
 CouldBeTaken nodes root path verb = (at : Landing) × (walked nodes (struct_landing root) path ≡ Some at) × (can_take at path verb ≡ true)
 
--- Why no message could take it.
+-- Why no record could take it.
 abbrev pub IsMisfit : List NodeRecord → ℕ → List ModelStep → ModelVerb → Misfit → Type 0
 IsMisfit nodes root path verb (misfit.Path m) = Misses nodes (struct_landing root) path m
 IsMisfit nodes root path verb e = (at : Landing) × (walked nodes (struct_landing root) path ≡ Some at) × IsMisfitThere at path verb e

@@ -1,5 +1,5 @@
 -- Calls that are given as words, as `lines[0].count=3`.
-use Rattle.std.specs.Prelude.{◌≡◌, ℕ, ◌==◌, ◌⊎◌, if◌then◌else◌, Option, Some, None, Ok, List, [], ◌++◌, map, find, codes, decimal, string_bytes}
+use Rattle.std.specs.Prelude.{◌≡◌, ℕ, pos, ◌==◌, ◌⊎◌, if◌then◌else◌, Option, Some, None, Ok, List, [], ◌++◌, map, find, codes, decimal, string_bytes}
 use Rattle.std.specs.List.{flat_map, position, before_first, after_first}
 use Rattle.std.specs.Str.{bytes_eq}
 use Rattle.std.specs.Str.Parse.{IsNumeral, digits_value, without_leading_plus, without_leading_sign, signed_digits_value}
@@ -42,9 +42,13 @@ IsNumberWord word n = IsNumeral 10 (without_leading_plus word) × (n ≡ digits_
 abbrev pub SpellsEnumerant : List NodeRecord → ℕ → List ℕ → ℕ → Type 0
 SpellsEnumerant nodes id word n = ((node : NodeRecord) × (find (λ m. m.id == id) nodes ≡ Some node) × (enumerant_numbered node word ≡ Some n)) ⊎ IsNumberWord word n
 
+-- A word for the value of Void.
+abbrev pub IsVoidWord : List ℕ → Type 0
+IsVoidWord word = (word ≡ []) ⊎ ((word ≡ codes "void") ⊎ (word ≡ codes "()"))
+
 -- A word spells a value of a type.
 abbrev pub SpellsValue : List NodeRecord → BaseType → List ℕ → CallValue → Type 0
-SpellsValue nodes b word (value.Number z) = IsNumeral 10 (without_leading_sign word) × (z ≡ signed_digits_value 10 word)
+SpellsValue nodes b word (value.Number z) = (IsNumeral 10 (without_leading_sign word) × (z ≡ signed_digits_value 10 word)) ⊎ ((b ≡ base.Void) × (z ≡ pos 0) × IsVoidWord word)
 SpellsValue nodes b word (value.Bool x) = (b ≡ base.Bool) × (word ≡ (if x then codes "true" else codes "false"))
 SpellsValue nodes b word (value.Enum n) = (id : ℕ) × (b ≡ base.Enum id) × SpellsEnumerant nodes id word n
 SpellsValue nodes b word (value.Text t) = (b ≡ base.Text) × (string_bytes t ≡ word)

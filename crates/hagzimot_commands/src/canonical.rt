@@ -22,7 +22,10 @@ use capnp_wire_canonical::copy::write_canonical;
 use capnp_wire_canonical::laws::copies_as_walks;
 use capnp_wire_objects::arena::{ReaderArena, ReaderArenaImpl};
 use capnp_wire_objects::place::ROOT;
+use hagzimot_outcomes::outcomes::Outcome;
+use hagzimot_outcomes::watched::Watched;
 use std::alloc::Global;
+use std::cell::Cell;
 
 /// How far messages are followed whose canonical form goes out.
 #[derive(Clone, Copy, Debug, PartialEq, Eq, Drop)]
@@ -121,7 +124,8 @@ impl Answers for Canonical {
 ///
 /// `Framing`: what is left of the source begins with no message. `Source`, `Out`, `Log`: the device
 /// failed, or a sink has no room. `Memory`: a growth was refused, or the canonical words are 2^29
-/// or more. `Size`: it is message number 2^64. What was written before stands.
+/// or more. `Size`: it is message number 2^64. What was written before stands. What became of each
+/// message is noted before its line is logged.
 pub fn canonicalize_all<
     I: MessageForm,
     O: MessageForm,
@@ -135,18 +139,25 @@ pub fn canonicalize_all<
     out: &mut W,
     log: &mut L,
     limits: Canonical,
+    noted: &Cell<Option<Outcome>>,
 ) -> Result<Counts, RelayFault>
     ensures { let seen = streams_of ⟦<R as Read>⟧ ⟦<W as Write>⟧ ⟦<L as Write>⟧ in
         RelaysPausing P.may_fail (canonical_work I.reader O.writer limits W.may_grow L.may_grow)
         (seen source.old out.old log.old) (seen source.new out.new log.new) result }
 {
     let mut region = [0u8; 8];
-    answer_all::<I, O, R, W, L, Canonical, P>(
+    let watched = Watched {
+        answers: &limits,
+        noted,
+        is_strict: false,
+        skips: None,
+    };
+    answer_all::<I, O, R, W, L, Watched<'_, '_, '_, '_, Canonical>, P>(
         alloc,
         source,
         out,
         log,
-        &limits,
+        &watched,
         limits.words as usize,
         &mut region,
     )

@@ -1,8 +1,8 @@
 //! Replies of calls, in which floats are told as decimal numbers.
-ghost use Rattle.std.specs.Prelude.{◌≡◌, map, option_map, string_bytes, IfOk, OnOk};
+ghost use Rattle.std.specs.Prelude.{◌≡◌, None, map, option_map, string_bytes, IfOk, OnOk};
 ghost use Rattle.capnp_calls.specs.CallViews.{step_view, call_view};
 ghost use Rattle.hagzimot_commands.specs.Paths.{struct_landing, walked};
-ghost use Rattle.hagzimot_commands.specs.FloatReplies.{fields_placed, holder_placed, reply_at, in_front, Extends};
+ghost use Rattle.hagzimot_commands.specs.FloatReplies.{fields_placed, holder_placed, reply_at, place_of_reply, Extends};
 
 use crate::float_fields::is_float_at;
 use crate::paths::{Landing, Misstep, element_there, id_there, landing_at, landing_from};
@@ -119,33 +119,30 @@ impl FloatReplies {
         })
     }
 
-    /// The line of a message, with decimal numbers for the bits of floats. An error where a growth
-    /// was refused.
+    /// Returns the text that the call of a number, counted from 0, replies, with decimal numbers for
+    /// the bits of floats. An error if an allocation is refused.
     #[tactic(auto, using(crate::proofs::Fronts::fronts))]
-    pub fn line(&self, alloc: Global, line: &str) -> Result<String, AllocError>
-        ensures front { IfOk result (λ told. Extends (in_front line.now) (string_bytes told)) }
-        ensures whole { in_front line.now ≡ line.now
-            → IfOk result (λ told. string_bytes told ≡ line.now) }
+    pub fn reply(&self, alloc: Global, call: usize, text: &str) -> Result<String, AllocError>
+        ensures { place_of_reply self.now call ≡ None
+            → IfOk result (λ told. string_bytes told ≡ text.now) }
     {
-        let Some((front, replies)) = line.split_once(';') else {
-            return String::from_str(alloc, line);
+        let Some(place) = self.calls.get(call).copied().flatten() else {
+            return String::from_str(alloc, text);
         };
         let mut teller = Teller {
             alloc,
             told: self,
-            line: String::from_str(alloc, front)?,
+            text: String::new(alloc),
             word: String::new(alloc),
             around: Vec::new(alloc),
-            place: None,
-            calls: 0,
+            place: Some(place),
             mode: Mode::Plain,
         };
-        teller.take(';')?;
-        for c in replies.chars() {
+        for c in text.chars() {
             teller.take(c)?;
         }
         teller.end_word(' ')?;
-        Ok(teller.line)
+        Ok(teller.text)
     }
 
     /// The fields of what has fields there.
@@ -180,7 +177,7 @@ enum Mode {
     Plain,
     /// In a text between double quotes.
     Text,
-    /// In such a text, behind a backslash.
+    /// In such a text, after a backslash.
     Escape,
     /// Between angle brackets, as no value is told.
     Angle,
@@ -191,15 +188,13 @@ enum Mode {
 struct Teller<'a> {
     alloc: Global,
     told: &'a FloatReplies,
-    line: String,
+    text: String,
     /// The letters and digits of the word that the next character may end.
     word: String,
     /// What stands around, the innermost last.
     around: Vec<Around>,
     /// What the next value is; `None` before the name of a field too.
     place: Option<Place>,
-    /// How many replies have begun.
-    calls: usize,
     mode: Mode,
 }
 
@@ -225,7 +220,7 @@ impl Teller<'_> {
     /// Writes the word that ends here, before a character: a float, a field's name or another.
     #[tactic(auto, using(crate::proofs::Fronts::fronts))]
     fn end_word(&mut self, before: char) -> Result<(), AllocError>
-        ensures { OnOk result (Extends (string_bytes self.old.line) (string_bytes self.new.line)) }
+        ensures { OnOk result (Extends (string_bytes self.old.text) (string_bytes self.new.text)) }
     {
         if self.word.is_empty() {
             return Ok(());
@@ -236,8 +231,8 @@ impl Teller<'_> {
             _ => None,
         };
         match told {
-            Some(told) => self.line.push_str(told.as_str())?,
-            None => self.line.push_str(word.as_str())?,
+            Some(told) => self.text.push_str(told.as_str())?,
+            None => self.text.push_str(word.as_str())?,
         }
         if let (' ', None, Some(Around::Struct(holder))) = (
             before,
@@ -251,7 +246,7 @@ impl Teller<'_> {
 
     /// Takes a character that is in no text and between no angle brackets.
     fn take_plain(&mut self, c: char) -> Result<(), AllocError>
-        ensures { OnOk result (self.new.line ≡ self.old.line) }
+        ensures { OnOk result (self.new.text ≡ self.old.text) }
     {
         match c {
             '(' => {
@@ -273,10 +268,6 @@ impl Teller<'_> {
                     _ => None,
                 };
             }
-            ';' => {
-                self.place = self.told.calls.get(self.calls).copied().flatten();
-                self.calls = self.calls.saturating_add(1);
-            }
             '"' => self.mode = Mode::Text,
             '<' => self.mode = Mode::Angle,
             _ => {}
@@ -287,10 +278,10 @@ impl Teller<'_> {
     /// Takes a character.
     #[tactic(auto, using(crate::proofs::Fronts::fronts))]
     fn take(&mut self, c: char) -> Result<(), AllocError>
-        ensures { OnOk result (Extends (string_bytes self.old.line) (string_bytes self.new.line)) }
+        ensures { OnOk result (Extends (string_bytes self.old.text) (string_bytes self.new.text)) }
     {
         match (self.mode, c) {
-            (Mode::Plain, '(' | ')' | '[' | ']' | ',' | ';' | '"' | '<' | ' ' | '\n') => {
+            (Mode::Plain, '(' | ')' | '[' | ']' | ',' | '"' | '<' | ' ') => {
                 self.end_word(c)?;
                 self.take_plain(c)?;
             }
@@ -304,7 +295,7 @@ impl Teller<'_> {
             (Mode::Escape, _) => self.mode = Mode::Text,
             (Mode::Text | Mode::Angle, _) => {}
         }
-        self.line.push(c)?;
+        self.text.push(c)?;
         Ok(())
     }
 }

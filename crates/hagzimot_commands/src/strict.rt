@@ -1,9 +1,9 @@
-//! Calls that no message could take, told before any is read.
+//! Calls that no record could take, refused before any message is read.
 ghost use Rattle.std.specs.Prelude.{◌≡◌, true, IfErr, OnOk, map};
-ghost use Rattle.capnp_model.specs.Calls.{set_to};
+ghost use Rattle.capnp_model.specs.Calls.{set_to, init};
 ghost use Rattle.capnp_calls.specs.CallViews.{step_view, slot_value_view, action_view, call_view};
 ghost use Rattle.hagzimot_commands.specs.Sorts.{sort_told};
-ghost use Rattle.hagzimot_commands.specs.Strict.{numbers_of, is_number_among, base_takes_number, base_takes, is_whole_message, has_sort_of, is_in_type, is_in_range_there, is_struct_there, is_many_there, is_index, ends_with_index, can_take, IsMisfitThere, CouldBeTaken, IsMisfit};
+ghost use Rattle.hagzimot_commands.specs.Strict.{numbers_of, is_number_among, base_takes_number, base_takes, is_whole_message, has_sort_of, is_in_type, is_in_range_there, numbers_there, is_struct_there, is_untyped_there, is_many_there, is_index, ends_with_index, can_take, IsOutOfRange, IsMisfitThere, CouldBeTaken, IsMisfit};
 
 use crate::paths::{Landing, Misstep, landing_from};
 use capnp_calls::{Action, Call, SlotValue, Step};
@@ -12,7 +12,7 @@ use std::alloc::Global;
 use std::fmt;
 use std::fmt::{Display, Formatter, Write};
 
-/// Why no message could take a call.
+/// Why no record could take a call.
 #[derive(Debug, Drop)]
 pub enum Misfit {
     /// Its path leads nowhere.
@@ -22,10 +22,12 @@ pub enum Misfit {
         given: &'static str,
         there: &'static str,
     },
-    /// A number that the type doesn't have.
+    /// A number that the type doesn't have, which has those from the least to the greatest.
     Range {
         number: i128,
         there: &'static str,
+        least: i128,
+        greatest: i128,
     },
     /// `init` or `initn` of what can't be made so.
     NotMade {
@@ -33,8 +35,18 @@ pub enum Misfit {
         wanted: &'static str,
         there: &'static str,
     },
-    /// `clear` of an element.
-    ClearsElement,
+    /// `init` or `clear` of an element.
+    AtElement {
+        verb: &'static str,
+    },
+    /// `set` of an element of a list of untyped pointers.
+    UntypedElement,
+    /// `initn` of so many elements, whose words pass the limit of a message.
+    Size {
+        count: u32,
+        words: u64,
+        limit: u64,
+    },
 }
 
 /// The name of a plain type, or of the sort of any other.
@@ -70,16 +82,39 @@ impl Display for Misfit {
     fn fmt<W: Write>(&self, f: &mut Formatter<W>) -> fmt::Result {
         match self {
             Misfit::Path(misstep) => write!(f, "{misstep}"),
-            Misfit::Sort { given, there } => write!(f, "it sets {given}, where there is {there}"),
-            Misfit::Range { number, there } => write!(f, "{number} is out of the range of {there}"),
+            Misfit::Sort { given, there } => write!(
+                f,
+                "{given} can't be set where the path leads to {there}"
+            ),
+            Misfit::Range {
+                number,
+                there,
+                least,
+                greatest,
+            } => write!(
+                f,
+                "{number} is out of the range of {there} ({least} to {greatest})"
+            ),
             Misfit::NotMade {
                 verb,
                 wanted,
                 there,
-            } => write!(f, "{verb} wants {wanted}, where there is {there}"),
-            Misfit::ClearsElement => write!(
+            } => write!(f, "{verb} needs {wanted}, but the path leads to {there}"),
+            Misfit::AtElement { verb } => write!(
                 f,
-                "clear wants a field, where its path ends with an index"
+                "{verb} needs a field, but its path ends with an index"
+            ),
+            Misfit::UntypedElement => write!(
+                f,
+                "an element of a list of untyped pointers can't be set"
+            ),
+            Misfit::Size {
+                count,
+                words,
+                limit,
+            } => write!(
+                f,
+                "{count} elements take {words} words, and a message has at most {limit} (allow more by --words)"
             ),
         }
     }
@@ -102,15 +137,17 @@ fn range_of(base: BaseType) -> Option<(i128, i128)>
     }
 }
 
-/// Whether a value is of a base type. A Void field takes any plain value, an untyped pointer any
-/// other.
+/// Whether a value is of a base type. Void takes any value, an untyped pointer any that isn't plain.
 fn is_of_base(value: &SlotValue, base: BaseType) -> bool
     ensures { result ≡ base_takes (slot_value_view value.now) base }
 {
+    if base == BaseType::Void {
+        return true;
+    }
     match value {
-        SlotValue::Number(_) => base == BaseType::Void || range_of(base).is_some(),
-        SlotValue::Bool(_) => matches!(base, BaseType::Bool | BaseType::Void),
-        SlotValue::Enum(_) => matches!(base, BaseType::Enum(_) | BaseType::Void),
+        SlotValue::Number(_) => range_of(base).is_some(),
+        SlotValue::Bool(_) => base == BaseType::Bool,
+        SlotValue::Enum(_) => matches!(base, BaseType::Enum(_)),
         SlotValue::Text(_) => matches!(base, BaseType::Text | BaseType::AnyPointer),
         SlotValue::Data(_) => matches!(base, BaseType::Data | BaseType::AnyPointer),
         SlotValue::Message(_) => matches!(base, BaseType::Struct(_) | BaseType::AnyPointer),
@@ -147,16 +184,13 @@ fn has_sort(value: &SlotValue, at: Landing) -> bool
     }
 }
 
-/// Whether a number is one of the type that is there.
-fn has_number(number: i128, at: Landing) -> bool
-    ensures { result ≡ is_in_type number at }
+/// The least and the greatest number of the type that is there, where it has some.
+fn numbers_at(at: Landing) -> Option<(i128, i128)>
+    ensures { result ≡ numbers_there at }
 {
-    let Landing::Value(ty) = at else {
-        return true;
-    };
-    match range_of(ty.base) {
-        Some((least, greatest)) => !(number < least || number > greatest),
-        None => true,
+    match at {
+        Landing::Value(ty) => range_of(ty.base),
+        Landing::Group(_) => None,
     }
 }
 
@@ -167,6 +201,16 @@ fn is_struct(at: Landing) -> bool
     match at {
         Landing::Value(ty) => ty.list_count == 0 && matches!(ty.base, BaseType::Struct(_)),
         Landing::Group(_) => true,
+    }
+}
+
+/// Whether an untyped pointer is there.
+fn is_untyped(at: Landing) -> bool
+    ensures { result ≡ is_untyped_there at }
+{
+    match at {
+        Landing::Value(ty) => ty.list_count == 0 && ty.base == BaseType::AnyPointer,
+        Landing::Group(_) => false,
     }
 }
 
@@ -198,6 +242,22 @@ fn ends_at_element(path: &[Step]) -> bool
     }
 }
 
+/// Whether a number is one of the type that is there.
+fn check_number(number: i128, at: Landing) -> Result<(), Misfit>
+    ensures ok { OnOk result (is_in_type number at ≡ true) }
+    ensures err { IfErr result (IsOutOfRange number at) }
+{
+    match numbers_at(at) {
+        Some((least, greatest)) if number < least || number > greatest => Err(Misfit::Range {
+            number,
+            there: there_at(at),
+            least,
+            greatest,
+        }),
+        _ => Ok(()),
+    }
+}
+
 /// Whether a value can be set where a path leads.
 fn check_set(value: &SlotValue, at: Landing, path: &[Step]) -> Result<(), Misfit>
     ensures ok { OnOk result (can_take at (map step_view path.now)
@@ -211,13 +271,31 @@ fn check_set(value: &SlotValue, at: Landing, path: &[Step]) -> Result<(), Misfit
             there: there_at(at),
         });
     }
+    if is_untyped(at) && ends_at_element(path) {
+        return Err(Misfit::UntypedElement);
+    }
     match value {
-        SlotValue::Number(number) if !has_number(*number, at) => Err(Misfit::Range {
-            number: *number,
-            there: there_at(at),
-        }),
+        SlotValue::Number(number) => check_number(*number, at),
         _ => Ok(()),
     }
+}
+
+/// Whether a value can be made anew where a path leads.
+fn check_init(at: Landing, path: &[Step]) -> Result<(), Misfit>
+    ensures ok { OnOk result (can_take at (map step_view path.now) init ≡ true) }
+    ensures err { IfErr result (IsMisfitThere at (map step_view path.now) init) }
+{
+    if ends_at_element(path) {
+        return Err(Misfit::AtElement { verb: "init" });
+    }
+    if is_struct(at) || is_untyped(at) {
+        return Ok(());
+    }
+    Err(Misfit::NotMade {
+        verb: "init",
+        wanted: "a struct, a group or an untyped pointer",
+        there: there_at(at),
+    })
 }
 
 /// Whether an action can be made where a path leads.
@@ -230,31 +308,31 @@ fn check_there(action: &Action, at: Landing, path: &[Step]) -> Result<(), Misfit
     match action {
         Action::Get => Ok(()),
         Action::Set(value) => check_set(value, at, path),
-        Action::Init if is_struct(at) => Ok(()),
-        Action::Init => Err(Misfit::NotMade {
-            verb: "init",
-            wanted: "a struct or a group",
-            there: there_at(at),
-        }),
+        Action::Init => check_init(at, path),
         Action::Initn(_) if is_many(at) => Ok(()),
         Action::Initn(_) => Err(Misfit::NotMade {
             verb: "initn",
             wanted: "a list, a text or data",
             there: there_at(at),
         }),
-        Action::Clear if ends_at_element(path) => Err(Misfit::ClearsElement),
+        Action::Clear if ends_at_element(path) => Err(Misfit::AtElement { verb: "clear" }),
         Action::Clear => Ok(()),
     }
 }
 
-/// Whether some message could take a call under a schema, from the struct of an id on: its path
+/// Whether some record could take a call under a schema, from the struct of an id on: its path
 /// leads to a field or an element, and what it does there fits the type. A refusal says what is
-/// wrong:
+/// wrong, and that each record would refuse the call:
 /// - `Path`: a step of its path leads nowhere;
 /// - `Sort`: a value of another sort than what is there;
+/// - `UntypedElement`: `set` of an element of a list of untyped pointers;
 /// - `Range`: a number that the type there doesn't have;
-/// - `NotMade`: `init` where no struct or group is, `initn` where no list, text or data is;
-/// - `ClearsElement`: `clear` of an element.
+/// - `AtElement`: `init` or `clear` of an element;
+/// - `NotMade`: `init` where no struct, group or untyped pointer is, `initn` where no list, text or
+///   data is.
+///
+/// A message is taken for each struct, group and list: whether its root is one, with elements of
+/// their type, shows only when the call runs.
 pub fn check_call(alloc: Global, nodes: &[NodeRecord], root: u64, call: &Call) -> Result<(), Misfit>
     ensures ok { OnOk result
         (CouldBeTaken nodes.now root (call_view call.now).path (call_view call.now).verb) }

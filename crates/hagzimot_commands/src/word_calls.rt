@@ -33,8 +33,8 @@ pub enum WordVerb {
 /// Why words make no call.
 #[derive(Debug, Drop)]
 pub enum WordTrouble {
-    /// The path is none: names with points between them, each with indices in brackets behind it or
-    /// not.
+    /// The path isn't one: names with points between them, each with indices in brackets after it
+    /// or not.
     Path,
     /// The path leads nowhere.
     Step(Misstep),
@@ -65,13 +65,13 @@ impl From<Misstep> for WordTrouble {
 impl Display for WordTrouble {
     fn fmt<W: Write>(&self, f: &mut Formatter<W>) -> fmt::Result {
         match self {
-            WordTrouble::Path => write!(f, "this is no path: write it as lines[0].count"),
+            WordTrouble::Path => write!(f, "this is not a path (write it as lines[0].count)"),
             WordTrouble::Step(misstep) => write!(f, "{misstep}"),
-            WordTrouble::NoValue => write!(f, "a value is missing: write path=value"),
-            WordTrouble::Value(there) => write!(f, "this is no value of {there}"),
+            WordTrouble::NoValue => write!(f, "a value is missing (write path=value)"),
+            WordTrouble::Value(there) => write!(f, "this is not a value of {there}"),
             WordTrouble::NotByWords(there) => write!(
                 f,
-                "the value of {there} is given by a calls file"
+                "an option can't give the value of {there} (write the call in a calls file)"
             ),
             WordTrouble::NoEnumerant => write!(
                 f,
@@ -124,6 +124,17 @@ fn push_steps(alloc: Global, text: &mut Vec<u8>, path: &[Step]) -> Result<(), Al
         push_step(alloc, text, step)?;
     }
     Ok(())
+}
+
+/// Returns the text of a path, as `lines[0].count`. An error if an allocation is refused.
+pub fn path_text(alloc: Global, path: &[Step]) -> Result<String, AllocError> {
+    let mut text = Vec::new(alloc);
+    push_steps(alloc, &mut text, path)?;
+    let told = match str::from_utf8(&text) {
+        Ok(told) => told,
+        Err(_) => "",
+    };
+    String::from_str(alloc, told.strip_prefix('.').unwrap_or(told))
 }
 
 /// Whether a text spells a path: it is the only text of these steps. An error where a growth was
@@ -198,7 +209,8 @@ fn enumerant_of(nodes: &[NodeRecord], id: u64, word: &str) -> Result<u16, WordTr
 }
 
 /// A value of a base type that a word spells. It is a number in decimal digits, `true` or `false`,
-/// an enumerant's name or number, a text as it is, or data in hex.
+/// an enumerant's name or number, a text as it is, or data in hex. Void is spelled by the empty word,
+/// `void`, `()` or any number.
 fn value_of(
     alloc: Global,
     nodes: &[NodeRecord],
@@ -226,6 +238,7 @@ fn value_of(
         BaseType::Struct(_) | BaseType::AnyPointer | BaseType::Capability => {
             Err(WordTrouble::NotByWords(there))
         }
+        BaseType::Void if matches!(word, "" | "void" | "()") => Ok(CallValue::Number(0)),
         _ => match word.parse::<i128>() {
             Ok(number) => Ok(CallValue::Number(number)),
             Err(_) => Err(WordTrouble::Value(there)),
