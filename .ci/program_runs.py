@@ -1,9 +1,9 @@
 #!/usr/bin/env python3
-"""Runs the built program on README's examples, on the stored runs, and as a child that is waited for.
+"""Runs the built program on the examples of docs/PIPES.md, on the stored runs, and as a child that is waited for.
 
 usage: program_runs.py PROGRAM EXAMPLES CASES..
 
-EXAMPLES is the folder of README's examples. CASES are files of cases, one a line, as the README of cases_relay
+EXAMPLES is the folder of these examples. CASES are files of cases, one a line, as the README of cases_relay
 tells; those without a "call" are runs of the program: the arguments, the files, the input, and the status, output and
 log that are wanted. The program's status, output and log must be those, byte by byte; where a run has "messages", its
 output is judged by plain_judge.py. Ends with status 1 where one differs, where a file has no case, and where no file has
@@ -127,7 +127,7 @@ def waits_for_no_part(program):
 
 
 def answers_the_examples(program, folder):
-    """Whether both messages of README become the words that stand there, and the newer one also where its schema renames a field."""
+    """Whether both messages of the examples become the words that docs/PIPES.md has, and the newer one also where its schema renames a field."""
     null_root = "0000000002000000" + "0000000001000000" + "0700000000000000"
     newer_record = "0000000003000000" + "0000000002000000" + "0700000000000000" + "6300000000000000"
     written = b"message 1 written; done\n"
@@ -185,4 +185,6 @@ def main(program, folder, *files):
 
 
 if __name__ == "__main__":
+    if sys.argv[1:] in (["-h"], ["--help"]):
+        sys.exit(print(__doc__))
     sys.exit(main(*sys.argv[1:]))

@@ -95,15 +95,15 @@ def faults_of_roads(crates):
 
 
 def faults_of_words(crates):
-    """Public names of definitions that stand in two places, so that a word would have two meanings."""
-    places = {}
+    """Public names of definitions that stand in two modules of a crate, so that a word would have two meanings there."""
     for crate in crates:
+        places = {}
         for path in files_below(f"crates/{crate}/specs"):
             for name in re.findall(r"(?m)^ *(?:pub (?:record|data)|(?:abbrev|unfoldable) pub) (\S+)", text_of(path)):
                 places.setdefault(name, []).append(path)
-    for name, paths in sorted(places.items()):
-        if len(paths) > 1:
-            yield f"{name} is defined in {' and '.join(paths)}"
+        for name, paths in sorted(places.items()):
+            if len(paths) > 1:
+                yield f"{name} is defined in {' and '.join(paths)}"
 
 
 def parts_of(text, end):
@@ -285,4 +285,6 @@ def main():
 
 
 if __name__ == "__main__":
+    if sys.argv[1:] in (["-h"], ["--help"]):
+        sys.exit(print(__doc__))
     sys.exit(main())

@@ -2,7 +2,7 @@
 
     python3 .ci/tool_peers.py [PROGRAM]
 
-The messages lie in crates/hagzimot/data/peers, whose README says how they were made. For each stream NAME.framed the text of `show` and of `show --pretty` is compared with NAME.text, and that of `show --json` with NAME.json, message by message and by
+The messages lie in crates/hagzimot/data/peers, whose README says how they were made. The text of `show --style capnp` has to be NAME.text token by token, but for the digits of floats. For each stream NAME.framed the text of `show` and of `show --pretty` is compared with NAME.text, and that of `show --json` with NAME.json, message by message and by
 what they mean: texts and data as their bytes, whole numbers as such, floats as floats of 64 bits or, in texts, of 32, fields with their names in their order. A message that differs is shown, and the status is 1. Nothing is written.
 """
 import json
@@ -76,8 +76,8 @@ def value_of(tokens, at):
     return ("struct", fields), at + 1
 
 
-def values_in_text(text):
-    """The messages of a text, in the form of `capnp decode` or of `show`."""
+def tokens_of(text):
+    """The tokens of a text."""
     tokens, at = [], 0
     text = text.rstrip()
     while at < len(text):
@@ -86,6 +86,17 @@ def values_in_text(text):
             raise ValueError(f"no token at byte {at}")
         tokens.append(match.group(1))
         at = match.end()
+    return tokens
+
+
+def tokens_in_lines(text):
+    """The tokens of each message of a text, floats by what they mean."""
+    return [[single_of(token) if FLOAT.fullmatch(token) else token for token in tokens_of(line)] for line in text.splitlines()]
+
+
+def values_in_text(text):
+    """The messages of a text, in the form of `capnp decode` or of `show`."""
+    tokens = tokens_of(text)
     values, at = [], 0
     while at < len(tokens):
         value, at = value_of(tokens, at)
@@ -170,6 +181,7 @@ def main():
         for words, wanted, read in (
             ((), f"{name}.text", values_in_text),
             (("--pretty",), f"{name}.text", values_in_text),
+            (("--style", "capnp"), f"{name}.text", tokens_in_lines),
             (("--json",), f"{name}.json", values_in_json),
         ):
             count, others = differences(program, stream, words, wanted, read)
@@ -180,4 +192,6 @@ def main():
 
 
 if __name__ == "__main__":
+    if sys.argv[1:] in (["-h"], ["--help"]):
+        sys.exit(print(__doc__))
     sys.exit(main())

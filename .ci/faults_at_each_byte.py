@@ -1,7 +1,7 @@
 #!/usr/bin/env python3
 """Runs cases_devices as it was built, and prints at how many bytes devices failed.
 
-usage: world_bytes.py PROGRAM FOLDER
+usage: faults_at_each_byte.py PROGRAM FOLDER
 
 FOLDER has the file `args` with the names of the cases, one a line, and `stdout` with what each tells. Ends with status
 1 where the program tells something else or fails, and where no device failed.
@@ -12,7 +12,7 @@ import subprocess
 import sys
 import time
 
-from world_runs import LIMIT
+from stored_runs import LIMIT
 
 ALL = re.compile(r"in all (\d+) times\n\Z")
 
@@ -36,4 +36,6 @@ def main(program, folder):
 
 
 if __name__ == "__main__":
+    if sys.argv[1:] in (["-h"], ["--help"]):
+        sys.exit(print(__doc__))
     sys.exit(main(*sys.argv[1:]))

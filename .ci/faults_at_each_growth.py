@@ -1,7 +1,7 @@
 #!/usr/bin/env python3
 """Refuses each growth of each case of cases_growths in turn, and prints how many were tried.
 
-usage: world_cases.py PROGRAM FOLDER
+usage: faults_at_each_growth.py PROGRAM FOLDER
 
 FOLDER has the file `args` with the names of the cases, one a line, and `stdout` with what each tells where nothing is
 refused. A run with a growth refused tells the same, or the refusal and that what was there stands. A case whose name
@@ -19,8 +19,8 @@ import sys
 import tempfile
 import time
 
-from world_growths import build, renumbered
-from world_runs import LIMIT, Failure
+from faults_of_memory import build, renumbered
+from stored_runs import LIMIT, Failure
 
 EVERY, WITHOUT_MEMORY = 0, "no_memory."
 REFUSED = re.compile(r"refused (OutOfMemory|Memory)(; stands; .*)?")
@@ -179,4 +179,6 @@ def main(program, folder):
 
 
 if __name__ == "__main__":
+    if sys.argv[1:] in (["-h"], ["--help"]):
+        sys.exit(print(__doc__))
     sys.exit(main(*sys.argv[1:]))

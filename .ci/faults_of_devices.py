@@ -2,7 +2,7 @@
 import os
 import subprocess
 
-from world_runs import LIMIT, Failure, answers, room
+from stored_runs import LIMIT, Failure, answers, room
 
 # Bytes that a reader takes before it leaves, and times that a run's input is sent to it.
 TAKEN, SENT = 10, 20_000

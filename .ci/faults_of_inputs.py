@@ -8,7 +8,7 @@ import tempfile
 import threading
 import time
 
-from world_runs import LIMIT, Failure, Ran, answers, message_ends, of_first, ran, room
+from stored_runs import LIMIT, Failure, Ran, answers, message_ends, of_first, ran, room
 
 MANY = 100_000
 DEFAULT_WORDS = 8_388_608

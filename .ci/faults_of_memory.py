@@ -2,7 +2,7 @@
 import os
 import subprocess
 
-from world_runs import Failure, Ran, answers, message_ends, of_first, ran, room
+from stored_runs import Failure, Ran, answers, message_ends, of_first, ran, room
 
 FAULT = b"fault: memory\n"
 BEFORE, BEHIND = "growths refused before an answer", "growths refused behind one"

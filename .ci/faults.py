@@ -1,7 +1,7 @@
 #!/usr/bin/env python3
 """Runs the built program in a world that goes wrong, and prints what was tried, and how often.
 
-usage: world.py PROGRAM RUNS [PART]
+usage: faults.py PROGRAM RUNS [PART]
 
 RUNS has stored runs, with what independent software makes of them. The parts are devices, inputs, sizes and
 growths. Ends with status 1 at the first difference, and where something was tried no time at all.
@@ -14,10 +14,10 @@ import sys
 import tempfile
 import time
 
-from world_devices import SENT, failing, leaving
-from world_growths import build, growths
-from world_inputs import abandoned, cuts, large, limits, many, nested, printed, trickle
-from world_runs import Failure, stored_runs
+from faults_of_devices import SENT, failing, leaving
+from faults_of_memory import build, growths
+from faults_of_inputs import abandoned, cuts, large, limits, many, nested, printed, trickle
+from stored_runs import Failure, stored_runs
 
 # Every so manieth run is cut, and has its growths refused, one of many messages more often. A pipe holds fewer bytes.
 CUT_EACH, REFUSED_EACH, MANY_EACH, PIPE = 2, 10, 3, 1 << 17
@@ -76,4 +76,6 @@ def main(program, path, *names):
 
 
 if __name__ == "__main__":
+    if sys.argv[1:] in (["-h"], ["--help"]):
+        sys.exit(print(__doc__))
     sys.exit(main(*sys.argv[1:]))

@@ -1,0 +1,164 @@
+#!/usr/bin/env python3
+"""Unit tests of the scripts that judge: each has to pass what is right, and to see what is wrong.
+
+usage: test_judges.py
+
+Bytes are worked by hand from the encoding, or are the examples of its document (packing).
+"""
+import json
+import os
+import stat
+import struct
+import subprocess
+import sys
+import tempfile
+import unittest
+
+HERE = os.path.dirname(os.path.realpath(__file__))
+TOP = os.path.dirname(HERE)
+sys.dont_write_bytecode = True
+sys.path.insert(0, HERE)
+os.chdir(TOP)
+import plain_judge
+import program_runs
+import quick
+import random_sets
+import stored_runs
+import tool_peers
+import tool_walk
+
+# A framed message of one segment: a struct of one word that holds 7.
+SEVEN = struct.pack("<IIQQ", 0, 2, 1 << 32, 7)
+
+
+class Peers(unittest.TestCase):
+    """The comparison of what two programs print of a message."""
+
+    def same(self, ours, theirs):
+        return tool_peers.are_same(tool_peers.values_in_text(ours), tool_peers.values_in_text(theirs), False)
+
+    def test_other_spelling_of_the_same(self):
+        self.assertTrue(self.same(b'(a = 1, b = "\\t", c = [1.5])', b'( a = 1,\n b = "\\x09", c = [1.50e0] )'))
+        self.assertTrue(self.same(b'(d = 0x"6869")', b'(d = "hi")'))
+        self.assertTrue(self.same(b"(f = 0.1)", b"(f = 0.10000000149011612)"))
+
+    def test_what_differs(self):
+        for ours, theirs in (
+            (b"(a = 1)", b"(a = 2)"),
+            (b"(a = 1)", b"(b = 1)"),
+            (b"(a = 1, b = 2)", b"(b = 2, a = 1)"),
+            (b"(a = [1])", b"(a = [1, 1])"),
+            (b"(a = 18446744073709551615)", b"(a = 18446744073709551614)"),
+            (b'(a = "b")', b"(a = b)"),
+            (b"(f = 0.1)", b"(f = 0.11)"),
+            (b"(a = 1)", b"(a = 1)\n(a = 1)"),
+        ):
+            self.assertFalse(self.same(ours, theirs), (ours, theirs))
+
+    def test_json_is_compared_as_floats_of_64_bits(self):
+        read = tool_peers.values_in_json
+        self.assertTrue(tool_peers.are_same(read(b'{"a": 0.5, "b": [1]}'), read(b'{"a": 5e-1, "b": [1]}'), True))
+        self.assertFalse(tool_peers.are_same(read(b'{"a": 0.1}'), read(b'{"a": 0.10000000149011612}'), True))
+
+
+class Walk(unittest.TestCase):
+    """The commands of the documents."""
+
+    TEXT = "before\n```console\n$ hagzimot show a\nx\ny\n$ cat b\n```\nbetween\n```\n$ rm c\n```\n"
+
+    def test_commands_with_what_they_print(self):
+        self.assertEqual(list(tool_walk.commands(self.TEXT)), [("hagzimot show a", ["x", "y"]), ("cat b", [])])
+
+    def test_only_readers_of_files_run(self):
+        self.assertTrue(tool_walk.is_allowed("hagzimot show a | cat"))
+        for command in ("rm a", "cat a | sh", "cat a; rm b", "cat a && rm b", "cat a & cat b"):
+            self.assertFalse(tool_walk.is_allowed(command), command)
+
+    def test_output_and_status_are_seen(self):
+        with tempfile.TemporaryDirectory() as room:
+            program = f"{room}/p"
+            with open(program, "w", encoding="utf-8") as file:
+                file.write('#!/bin/sh\necho "got $1"\necho wrong >&2\nexit 3\n')
+            os.chmod(program, stat.S_IRWXU)
+            self.assertEqual(tool_walk.said_by("hagzimot x", room, program), ["got x", "wrong", "[status 3]"])
+
+
+class StoredRuns(unittest.TestCase):
+    """The comparison of a run with the stored one."""
+
+    def difference(self, script, **wanted):
+        run = {"args": [], "files": {}, "stdin": "6162", "status": 0, "stdout": "6162", "stderr": "", **wanted}
+        with tempfile.TemporaryDirectory() as room:
+            with open(f"{room}/p", "w", encoding="utf-8") as file:
+                file.write(f"#!/bin/sh\n{script}\n")
+            os.chmod(f"{room}/p", stat.S_IRWXU)
+            return program_runs.difference(f"{room}/p", run)
+
+    def test_the_same_is_passed(self):
+        self.assertIsNone(self.difference("cat"))
+        self.assertIsNone(self.difference("cat; echo well >&2; exit 1", status=1, log="well\n"))
+
+    def test_each_part_is_compared(self):
+        for script in ("cat; echo c", "cat; echo c >&2", "cat; exit 1", "true"):
+            self.assertIsNotNone(self.difference(script), script)
+
+    def test_files_are_given(self):
+        self.assertIsNone(self.difference("cat a", files={"a": "6162"}))
+        self.assertIsNone(self.difference("cat a", files={"a": [1]}, stdout=json.dumps([1]).encode().hex()))
+
+    def test_messages_of_a_stream_end_where_they_should(self):
+        self.assertEqual(stored_runs.message_ends(SEVEN * 2, "framed"), ([24, 48], None))
+        self.assertEqual(stored_runs.message_ends(SEVEN + SEVEN[:20], "framed")[0], [24])
+        self.assertIsNotNone(stored_runs.message_ends(SEVEN[:20], "framed")[1])
+        packed = bytes.fromhex("100200" + "1001" + "0107")
+        self.assertEqual(stored_runs.message_ends(bytes.fromhex("1002" + "1001" + "0107"), "packed"), ([6], None))
+        self.assertIsNotNone(stored_runs.message_ends(packed[:-1], "packed")[1])
+
+
+class Encoders(unittest.TestCase):
+    """The encoder of values beside which the relay is tried, and the judge of plain messages."""
+
+    def test_struct_and_text(self):
+        self.assertEqual(random_sets.framed(random_sets.Struct([7], [])), SEVEN)
+        # A struct without words whose one pointer leads to the text "hi" with its zero byte.
+        wanted = struct.pack("<II", 0, 3) + struct.pack("<QQQ", 1 << 48, 1 | 2 << 32 | 3 << 35, int.from_bytes(b"hi\0", "little"))
+        self.assertEqual(random_sets.framed(random_sets.Struct([], [b"hi\0"])), wanted)
+
+    def test_zeros_and_nulls_at_the_end_are_trimmed(self):
+        self.assertEqual(random_sets.framed(random_sets.Struct([7, 0], [None])), SEVEN)
+
+    def test_unpacking_as_the_document_has_it(self):
+        self.assertEqual(plain_judge.unpacked(bytes.fromhex("51080302" + "3119aa01")), bytes.fromhex("0800000003000200" + "1900 0000 aa01 0000"))
+        self.assertEqual(plain_judge.unpacked(bytes.fromhex("0003")), bytes(32))
+
+    def test_the_plain_judge_tries_itself(self):
+        run = subprocess.run([sys.executable, f"{HERE}/plain_judge.py"], capture_output=True, text=True, check=False)
+        self.assertEqual(run.returncode, 0, run.stdout + run.stderr)
+
+    def test_another_number_is_seen(self):
+        self.assertIsNone(plain_judge.difference("framed", SEVEN, [SEVEN]))
+        other = SEVEN[:-8] + struct.pack("<Q", 8)
+        self.assertIsNotNone(plain_judge.difference("framed", other, [SEVEN]))
+        self.assertIsNotNone(plain_judge.difference("framed", SEVEN * 2, [SEVEN]))
+        self.assertIsNotNone(plain_judge.difference("framed", SEVEN[:-1], [SEVEN]))
+
+
+class QuickLook(unittest.TestCase):
+    """What is quick to see."""
+
+    def test_parameters_are_counted(self):
+        self.assertEqual(quick.parameters_of(quick.parts_of("(a b : Nat) → {c : Nat} → Nat → Type", "→")), 3)
+
+    def test_edit_that_fits_nothing(self):
+        with tempfile.TemporaryDirectory() as room:
+            path = f"{room}/e.edit"
+            with open(path, "w", encoding="utf-8") as file:
+                file.write("file: src/main.rt\nold: no such text stands there\nnew: x\n")
+            self.assertIn("0 times", quick.fault_of_edit("hagzimot", path))
+            with open(path, "w", encoding="utf-8") as file:
+                file.write("file: src/main.rt\n")
+            self.assertIsNotNone(quick.fault_of_edit("hagzimot", path))
+
+
+if __name__ == "__main__":
+    unittest.main()
