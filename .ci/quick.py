@@ -1,6 +1,7 @@
 #!/usr/bin/env python3
 """Refuses in seconds what would fail the gate after an hour: files out of layout, edits that no longer apply, dead links,
-dependencies that nothing cites or that go up, a second path to an item, a second meaning of a word of the definitions.
+dependencies that nothing cites or that go up, a second path to an item, a second meaning of a word of the definitions,
+and English that docs/STYLE.md rules out (style.py).
 
 usage: quick.py    (at the top of the repository)
 
@@ -14,6 +15,9 @@ import shutil
 import subprocess
 import sys
 import tempfile
+
+sys.dont_write_bytecode = True
+import style
 
 # The most wrong bodies in the repository, and in a crate.
 MOST_EDITS = 130
@@ -273,6 +277,7 @@ def main():
     found = [*faults_of_crates(crates), *faults_of_uses(), *faults_of_edits(crates), *faults_of_links(), *faults_of_samples()]
     found += [*faults_of_named_tests(), *faults_of_lengths(crates), *faults_of_counts(crates), *faults_of_answers(crates)]
     found += [*faults_of_storeys(), *faults_of_roads(crates), *faults_of_words(crates), *faults_of_parameters(crates)]
+    found += style.faults()
     with tempfile.TemporaryDirectory() as room:
         shutil.copy("crates.txt", room)
         with concurrent.futures.ThreadPoolExecutor(os.cpu_count()) as pool:

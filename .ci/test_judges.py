@@ -24,6 +24,7 @@ import program_runs
 import quick
 import random_sets
 import stored_runs
+import style
 import tool_peers
 import tool_walk
 
@@ -158,6 +159,92 @@ class QuickLook(unittest.TestCase):
             with open(path, "w", encoding="utf-8") as file:
                 file.write("file: src/main.rt\n")
             self.assertIsNotNone(quick.fault_of_edit("hagzimot", path))
+
+
+class Style(unittest.TestCase):
+    """The English that docs/STYLE.md rules out."""
+
+    # A text that breaks each pattern of the list, in the list's order.
+    PLANTED = (
+        "It is true exactly where the list is empty.",
+        "It returns `None` where the list is empty.",
+        "The bytes behind the table are read.",
+        "It tells the length.",
+        "What stands there is read.",
+        "Else the list is empty.",
+        "A word that is no number is refused.",
+        "Such a call is none.",
+        "This word alone is read.",
+        "Whoever reads it is slow.",
+        "Each growth is refused.",
+        "A list, of which two are read.",
+        "It takes so many words.",
+        "It gives back the list.",
+        "All words but for the last are read.",
+        "It is read anew.",
+        "The other road is slow.",
+        "It wants a list.",
+        "A list is got.",
+        "The list and the words thereof.",
+    )
+    CLEAN = (
+        "It is true exactly if the list is empty. Otherwise it returns `None`. Nothing else is read; who else would?",
+        "The file is where the list is, and `stands behind` is code. There is no other, and it is no longer than 8 words.",
+        "It stands for a list. Let alone two. Therefore it is read.",
+    )
+
+    def whats(self, text, is_source=False):
+        return [what for _, what in style.faults_of_text(text, is_source)]
+
+    def test_each_pattern_finds_its_fault(self):
+        self.assertEqual(len(self.PLANTED), len(style.PATTERNS))
+        for text, (pattern, instead) in zip(self.PLANTED, style.PATTERNS):
+            found = self.whats(text)
+            self.assertEqual(len(found), 1, (text, found))
+            self.assertTrue(found[0].endswith(f"say {instead}"), (text, pattern.pattern, found))
+
+    def test_clean_text_passes(self):
+        for text in self.CLEAN:
+            self.assertEqual(self.whats(text), [], text)
+            self.assertEqual(self.whats(f"/// {text}\nfn a() {{}}", is_source=True), [], text)
+
+    def test_code_is_not_read(self):
+        self.assertEqual(self.whats("Run:\n\n```\nit tells\n```\n\n    it tells\n\nThe word `tells` and [a](tells)."), [])
+        self.assertEqual(self.whats("// It tells.\nfn a() { let tells = \"tells\"; }", is_source=True), [])
+
+    def test_each_part_of_a_page_is_read(self):
+        for text in ("# It tells", "- a\n- It tells", "| a | it tells |", "1. It tells", "a\nand it\ntells"):
+            self.assertEqual(len(self.whats(text)), 1, text)
+        self.assertEqual(style.faults_of_text("a\n\nb\nthat is\nno c\n", False)[0][0], 4)
+
+    def test_long_sentences(self):
+        words = " ".join(["word"] * 45)
+        self.assertEqual(self.whats(f"{words}. {words}.\n\n- {words}\n- {words}"), [])
+        self.assertEqual(len(self.whats(f"{words} more. {words}.")), 1)
+        self.assertEqual(len(self.whats(f"/// {words}\n/// more.", is_source=True)), 1)
+
+    def test_openers_of_doc_comments(self):
+        for text in ("/// What a list has.", "    /// How it is read.\n    /// And more.", "//! The same for lists.", "/// As `a`."):
+            self.assertEqual(len(self.whats(text, is_source=True)), 1, text)
+        for text in ("/// Returns what a list has.", "/// Returns\n/// What.", "// What a list has.", "/// Asks."):
+            self.assertEqual(self.whats(text, is_source=True), [], text)
+
+    def test_allowed_list_only_shrinks(self):
+        def faults(allowed):
+            return list(style.faults_of_list(allowed, ["a", "b", "c"], {"c"}))
+
+        self.assertEqual(faults(["a", "b"]), [])
+        for allowed in (["b", "a"], ["a", "a"], ["a", "d"], ["a", "c"]):
+            self.assertEqual(len(faults(allowed)), 1, allowed)
+
+    def test_a_fault_in_a_file_is_seen(self):
+        with tempfile.TemporaryDirectory() as room:
+            path = f"{room}/a.rt"
+            with open(path, "w", encoding="utf-8") as file:
+                file.write("fn a() {}\n\n/// It tells.\nfn b() {}\n")
+            self.assertEqual(style.faults_of_file(path), [f"{path}:3: 'tells': say reports, says, indicates, distinguishes"])
+            run = subprocess.run([sys.executable, f"{HERE}/style.py", path], capture_output=True, text=True, check=False)
+            self.assertEqual(run.returncode, 1)
 
 
 if __name__ == "__main__":
