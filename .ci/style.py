@@ -30,7 +30,7 @@ PATTERNS = tuple(
         (r"(?i)\bbehind\b", "after, below, or 'that X leads to'"),
         (r"(?i)\b(?:tells|told)\b", "reports, says, indicates, distinguishes"),
         (r"(?i)\bst(?:ands?|ood)\b(?! for\b)", "is, remains, applies"),
-        (r"(?i)(?<!thing )(?<!body )(?<!\bwho )(?<!\bwhere )\belse\b(?! if\b)", "otherwise, or 'everything else'"),
+        (r"(?i)(?<!thing )(?<!body )(?<!\bwho )(?<!\bwhat )(?<!\bwhere )\belse\b(?! if\b)", "otherwise, or 'everything else'"),
         (r"(?i)(?<!\bthere )\b(?:is|are|was|were) no (?!longer\b|\w+er than\b|more\b|less\b)", "is not a"),
         (r"\b(?:is|are|was|were) none\b|\bnone if\b", "is not one, or `None` if"),
         (r"(?i)(?<!let )\balone\b", "only"),
