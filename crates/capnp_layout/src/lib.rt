@@ -1,6 +1,6 @@
 //! The layout layer under one name: units and sizes, arenas, and the readers and builders of
-//! pointers, structs and lists. What a caller's type gives a builder stands in `owned`, as what it
-//! gives a reader stands here (`Owned`, `OwnedStruct`).
+//! pointers, structs and lists. The traits of types that callers build are in `owned`, those of
+//! types that callers read are here (`Owned`, `OwnedStruct`).
 #![tactic(auto)]
 
 pub mod laws;

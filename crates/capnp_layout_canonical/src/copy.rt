@@ -1,5 +1,4 @@
-//! The canonical copy of a pointer's value that is read, in place of the value of one that is
-//! built.
+//! Canonical copies of a reader's value, which replace the value of a builder's pointer.
 ghost use Rattle.std.specs.Prelude.{◌≡◌, ◌<◌, ◌^◌, true};
 ghost use Rattle.std.specs.Option.{is_some};
 ghost use Rattle.capnp_model.specs.Segments.{words_at};
@@ -21,8 +20,7 @@ use capnp_wire::pointer::PointerReader;
 use capnp_wire_objects::arena::ReaderArena;
 use capnp_wire_objects::place::Place;
 
-/// Puts the canonical copy of a pointer's value that is read in place of the value of the pointer
-/// at a place.
+/// Replaces the value of the pointer at a place by the canonical copy of a reader's value.
 fn copy_pointer<A: BuilderArena, B: ReaderArena>(
     arena: &mut A,
     slot: Place,
@@ -55,15 +53,16 @@ fn copy_pointer<A: BuilderArena, B: ReaderArena>(
     }
 }
 
-/// Puts a canonical copy of a pointer's value that is read in place of the value, which is cleared:
-/// the trimmed tree, as a canonical message has it. A pointer past a struct's pointers is null. A
-/// value with a capability is refused.
+/// Replaces a pointer's value, which is cleared, by a canonical copy of a reader's value: the
+/// trimmed tree, as in a canonical message. A pointer past a struct's pointers is null. A value
+/// with a capability is refused.
 ///
-/// It goes by way of lent words of 8 bytes each, and is refused as
-/// `capnp_copy_values::canonical::copy_canonical_from`, and under a negative nesting limit with
-/// `NestingLimitExceeded`; what stands in a default is read without a limit of words, and costs
-/// nothing. After a refusal all words stand as they were, and those that were allocated are zero.
-/// Of the lent words no more are written than were granted, and one.
+/// The copy uses lent words of 8 bytes each. It is refused like
+/// `capnp_copy_values::canonical::copy_canonical_from`, and with `NestingLimitExceeded` under a
+/// negative nesting limit. A value in a default is read without a limit of words, and costs
+/// nothing. After a refusal all words are unchanged, and the words that were allocated are zero.
+/// The number of lent words that are written is at most one more than the number of words that were
+/// granted.
 pub fn copy_canonical_from<A: BuilderArena, B: ReaderArena>(
     builder: &mut PointerBuilder<'_, A>,
     limiter: &mut ReadLimiter,

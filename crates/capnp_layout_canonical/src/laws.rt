@@ -11,8 +11,8 @@ ghost use Rattle.capnp_layout_canonical.specs.Scratch.{level_above, ThroughScrat
 use capnp_copy_values::laws::values_after_copies;
 use capnp_model::laws::values_as_a_relation;
 
-/// Where no word of the scratch's old value was taken twice, what is put by way of it is exactly
-/// what is read, trimmed, and has no capability. No word of null's value is taken twice.
+/// If no word of the scratch's old value was taken twice, a copy that uses the scratch is exactly
+/// the source's value, trimmed, and has no capability. No word of null's value is taken twice.
 pub fn values_by_way_of_scratches()
     ensures structs { (v : StructView) (b d : Segments) (k : Place) (lent after : List (List ℕ))
         (s u : Segments) (p : Place) (old new : ReadLimiter) (n : ℕ) (t : Tree) → Owns n b k t

@@ -1,4 +1,4 @@
-//! Canonical copies of what readers stand at, over handles.
+//! Canonical copies of the values of readers, over handles.
 #![tactic(auto)]
 
 pub mod copy;

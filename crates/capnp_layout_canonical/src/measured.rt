@@ -1,4 +1,4 @@
-//! The canonical copy of a pointer's value by way of words of its own.
+//! Canonical copies of a pointer's value, over words that the copy allocates.
 ghost use Rattle.std.specs.Prelude.{◌≡◌, ◌+◌, ◌-◌, ◌<◌, ◌^◌, min, true};
 ghost use Rattle.std.specs.Option.{is_some};
 ghost use Rattle.capnp_model.specs.Segments.{words_at};
@@ -18,22 +18,21 @@ use capnp_wire::pointer::PointerReader;
 use capnp_wire_objects::arena::ReaderArena;
 use std::alloc::Global;
 
-/// As many words as a value's objects have, and one for its pointer, and at most those of a
-/// message.
+/// Returns the number of words of a value's objects and of one pointer, at most those of a message.
 fn room_for(size: MessageSize) -> usize
     ensures { result ≡ min size.word_count (2 ^ 29 - 2) + 1 }
 {
     size.word_count.min(MOST_WORDS as u64 - 1) as usize + 1
 }
 
-/// Puts a canonical copy of a pointer's value that is read in place of the value, as
-/// `copy_canonical_from`. It goes by way of words from `alloc`: as many as the value's objects
-/// have, and one, at most 2^29 - 1.
+/// Replaces a pointer's value by a canonical copy of a reader's value, like `copy_canonical_from`.
+/// It takes the lent words from `alloc`: one more than the words of the value's objects, at most
+/// 2^29 - 1.
 ///
-/// The value is measured first, so what is followed is paid for twice. It is refused as
-/// `PointerReader::total_size`, and then with `OutOfMemory` where there is none for the words; then
-/// nothing is allocated in the message. Else it is refused as `copy_canonical_from` over n words.
-/// After a refusal all words stand as they were.
+/// The value is measured first, so following it is paid for twice. It is refused like
+/// `PointerReader::total_size`, and then with `OutOfMemory` if there is no memory for the words; in
+/// these cases nothing is allocated in the message. Otherwise it is refused like
+/// `copy_canonical_from` over n words. After a refusal all words are unchanged.
 pub fn copy_canonical<A: BuilderArena, B: ReaderArena>(
     alloc: Global,
     builder: &mut PointerBuilder<'_, A>,

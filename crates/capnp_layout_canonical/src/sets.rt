@@ -1,5 +1,5 @@
-//! Canonical copies of structs and lists that are read, by way of a scratch, in place of the value
-//! of a pointer that is built.
+//! Canonical copies of a reader's struct or list, made in a scratch, which replace the value of a
+//! builder's pointer.
 ghost use Rattle.std.specs.Prelude.{◌≡◌};
 ghost use Rattle.capnp_wire_objects.specs.Places.{place_view};
 ghost use Rattle.capnp_wire.specs.Views.{seen_struct, seen_list};
@@ -16,7 +16,8 @@ use capnp_wire::list::ListReader;
 use capnp_wire::structs::StructReader;
 use capnp_wire_objects::arena::ReaderArena;
 
-/// How many levels the pointer to an object has from whose pointers n may be followed.
+/// Returns the number of levels of a pointer to an object from whose pointers n levels may be
+/// followed.
 fn levels_above(levels: Option<u32>) -> u32
     ensures { result ≡ level_above levels }
 {
@@ -26,8 +27,8 @@ fn levels_above(levels: Option<u32>) -> u32
     }
 }
 
-/// Puts the canonical copy of a scratch's value in place of the value. With `Some(n)`, at most n
-/// levels may be followed from the pointers of its object; with `None` not even its own pointer.
+/// Replaces the value by the canonical copy of a scratch's value. With `Some(n)`, at most n levels
+/// may be followed from the pointers of its object; with `None` not even its own pointer.
 fn copy_scratch<A: BuilderArena, C: BuilderArena>(
     builder: &mut PointerBuilder<'_, A>,
     scratch: &PointerBuilder<'_, C>,
@@ -50,16 +51,17 @@ fn copy_scratch<A: BuilderArena, C: BuilderArena>(
     copy_canonical_from(arena, slot, &mut unlimited, from, scratch.place, deep, lent)
 }
 
-/// Puts a canonical copy of a struct that is read in place of the value, which is cleared: its
-/// trimmed tree, as a canonical message has it. A struct with a capability is refused.
+/// Replaces the value, which is cleared, by a canonical copy of a reader's struct: its trimmed
+/// tree, as in a canonical message. A struct with a capability is refused.
 ///
-/// It goes by way of a scratch, another pointer that is built, whose value becomes the plain copy,
-/// and of lent words of 8 bytes each, over which the canonical words are written. It is refused as
-/// `PointerBuilder::set_struct` of the scratch is; then with `CapabilityInCanonical`, with
-/// `BufferNotLargeEnough` only where the copy's words, and one, are more than were lent, or for
-/// want of room, as `capnp_copy_values::canonical::copy_canonical_from` of the scratch under no
-/// limit of words. After a refusal all words beside the scratch's stand as they were, and those
-/// that were allocated are zero.
+/// The copy uses a scratch, which is another pointer of a builder, and lent words of 8 bytes each.
+/// The value of the scratch becomes the plain copy, and the canonical words are written over the
+/// lent words. It is refused like `PointerBuilder::set_struct` of the scratch. Then it is refused
+/// with `CapabilityInCanonical`; with `BufferNotLargeEnough`, only if the copy's words and one more
+/// exceed the lent words; or for lack of room, like
+/// `capnp_copy_values::canonical::copy_canonical_from` of the scratch without a limit of words.
+/// After a refusal all words other than the scratch's are unchanged, and the words that were
+/// allocated are zero.
 pub fn set_struct_canonical<A: BuilderArena, B: ReaderArena, C: BuilderArena>(
     builder: &mut PointerBuilder<'_, A>,
     limiter: &mut ReadLimiter,
@@ -87,12 +89,12 @@ pub fn set_struct_canonical<A: BuilderArena, B: ReaderArena, C: BuilderArena>(
     }
 }
 
-/// Puts a canonical copy of a list that is read in place of the value, which is cleared: its
-/// trimmed tree, as a canonical message has it. A list of structs is copied whole, however it was
-/// got. A list with a capability is refused.
+/// Replaces the value, which is cleared, by a canonical copy of a reader's list: its trimmed tree,
+/// as in a canonical message. A list of structs is copied whole, as whatever list it was read. A
+/// list with a capability is refused.
 ///
-/// It goes by way of a scratch and of lent words as `set_struct_canonical`, and is refused as
-/// `PointerBuilder::set_list` of the scratch is, and then as that.
+/// The copy uses a scratch and lent words like `set_struct_canonical`. It is refused like
+/// `PointerBuilder::set_list` of the scratch, and then like `set_struct_canonical`.
 pub fn set_list_canonical<A: BuilderArena, B: ReaderArena, C: BuilderArena>(
     builder: &mut PointerBuilder<'_, A>,
     limiter: &mut ReadLimiter,

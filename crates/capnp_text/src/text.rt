@@ -1,7 +1,7 @@
-//! Texts: bytes that should be UTF-8 and needn't be.
+//! Texts: bytes that should be UTF-8, but may not be.
 //!
-//! On the wire a text ends with a zero byte, which isn't part of it; here it is left out.
-//! (Encoding, "Blobs")
+//! On the wire a text ends with a zero byte, which isn't part of the text; here the zero byte is
+//! left out. (Encoding, "Blobs")
 ghost use Rattle.std.specs.Prelude.{◌≡◌, ◌+◌, ◌<◌, ◌≤◌, ◌==◌, ◌++◌, length, take, drop, replicate, slice_set, nat_eq, IfOk, string_bytes};
 ghost use Rattle.std.specs.Ordering.{nat_cmp};
 ghost use Rattle.std.specs.Cmp.{partial_equiv_from_equiv, on_per};
@@ -30,21 +30,21 @@ pub struct Owned;
 pub struct Reader<'a>(pub &'a [u8]);
 
 impl<'a> Reader<'a> {
-    /// How many bytes the text has.
+    /// Returns the number of bytes.
     pub fn len(&self) -> usize
         ensures { result ≡ length self.now.0.now }
     {
         self.0.len()
     }
 
-    /// Whether the text has no byte.
+    /// Returns whether the text is empty.
     pub fn is_empty(&self) -> bool
         ensures { result ≡ (length self.now.0.now == 0) }
     {
         self.0.is_empty()
     }
 
-    /// The bytes of the text.
+    /// Returns the bytes of the text.
     pub fn as_bytes(self) -> &'a [u8]
         ensures { result.now ≡ self.entry.0.now }
     {
@@ -52,14 +52,14 @@ impl<'a> Reader<'a> {
         bytes
     }
 
-    /// The text as a `str`. It is refused where the bytes aren't UTF-8.
+    /// Returns the text as a `str`. It is refused if the bytes aren't UTF-8.
     pub fn to_str(self) -> Result<&'a str, Utf8Error>
         ensures { IsUtf8Text (λ text. text.now) self.entry.0.now result }
     {
         std::str::from_utf8(self.0)
     }
 
-    /// The text as a `String`, or `None` where the bytes aren't UTF-8.
+    /// Returns the text as a `String`, or `None` if the bytes aren't UTF-8.
     pub fn to_string(self, alloc: Global) -> Result<Option<String>, AllocError>
         ensures { IfOk result (IsTextIfAny string_bytes self.entry.0.now) }
     {
@@ -69,14 +69,14 @@ impl<'a> Reader<'a> {
         }
     }
 
-    /// Whether the text has exactly the bytes of a `str`.
+    /// Returns whether the text has exactly the bytes of a `str`.
     pub fn eq_str(&self, other: &str) -> bool
         ensures { result ≡ pointwise nat_eq self.now.0.now other.now }
     {
         self.0 == other.as_bytes()
     }
 
-    /// How the text compares with a `str`: by the first bytes that differ, else by length.
+    /// Compares the text with a `str`: by the first bytes that differ, otherwise by length.
     pub fn cmp_str(&self, other: &str) -> Ordering
         ensures { result ≡ slice_cmp nat_cmp self.now.0.now other.now }
     {
@@ -84,7 +84,7 @@ impl<'a> Reader<'a> {
     }
 }
 
-/// Writes a text as Rust does, between quotes, and the bytes of one that isn't UTF-8.
+/// Writes a text as Rust does, between quotes, or its bytes if they aren't UTF-8.
 impl fmt::Debug for Reader<'_> {
     fn fmt<W: fmt::Write>(&self, f: &mut fmt::Formatter<W>) -> fmt::Result {
         let bytes = self.0;
@@ -129,7 +129,8 @@ impl<'a> TryFrom<Reader<'a>> for &'a str {
     }
 }
 
-/// The text behind a pointer, lent in place, as `PointerReader::get_text` reads it and refuses to.
+/// The text that a pointer leads to, lent in place. It is read and refused like
+/// `PointerReader::get_text`.
 impl<'a, A: ReaderArena> FromPointerReader<'a, A> for Reader<'a> {
     ghost reads = { λ p old result new.
         GetGives (λ text. text.0.now) (read_text p.basis p.levels) p old result new };
@@ -148,7 +149,7 @@ impl<'a, A: ReaderArena> traits::Owned<'a, A> for Owned {
 }
 
 /// A text to write, whose bytes are lent by a message, with a position at which pushes write. The
-/// text has all of its bytes, those behind the position too.
+/// text has all of its bytes, also those after the position.
 #[derive(Drop)]
 pub struct Builder<'a> {
     bytes: &'a mut [u8],
@@ -156,7 +157,7 @@ pub struct Builder<'a> {
 }
 
 impl<'a> Builder<'a> {
-    /// A text to write from its first byte on.
+    /// Makes a text to write from its first byte on.
     pub fn new(bytes: &'a mut [u8]) -> Self
         ensures same { result.bytes.ghost_name ≡ bytes.entry.ghost_name }
         ensures bytes { result.bytes.now ≡ bytes.entry.now }
@@ -165,7 +166,7 @@ impl<'a> Builder<'a> {
         Builder { bytes, pos: 0 }
     }
 
-    /// A text to write from a position on, in bytes.
+    /// Makes a text to write from a position on, in bytes.
     pub fn with_pos(bytes: &'a mut [u8], pos: usize) -> Self
         ensures same { result.bytes.ghost_name ≡ bytes.entry.ghost_name }
         ensures bytes { result.bytes.now ≡ bytes.entry.now }
@@ -174,42 +175,42 @@ impl<'a> Builder<'a> {
         Builder { bytes, pos }
     }
 
-    /// How many bytes the text has, whatever was pushed.
+    /// Returns the number of bytes, whatever was pushed.
     pub fn len(&self) -> usize
         ensures { result ≡ length self.now.bytes.now }
     {
         self.bytes.len()
     }
 
-    /// Whether the text has no byte.
+    /// Returns whether the text is empty.
     pub fn is_empty(&self) -> bool
         ensures { result ≡ (length self.now.bytes.now == 0) }
     {
         self.bytes.is_empty()
     }
 
-    /// The bytes of the text.
+    /// Returns the bytes of the text.
     pub fn as_bytes(self) -> &'a [u8]
         ensures { result.now ≡ self.entry.bytes.now }
     {
         self.into_reader().as_bytes()
     }
 
-    /// The text as a `str`. It is refused where the bytes aren't UTF-8.
+    /// Returns the text as a `str`. It is refused if the bytes aren't UTF-8.
     pub fn to_str(self) -> Result<&'a str, Utf8Error>
         ensures { IsUtf8Text (λ text. text.now) self.entry.bytes.now result }
     {
         self.into_reader().to_str()
     }
 
-    /// The text as a `String`, or `None` where the bytes aren't UTF-8.
+    /// Returns the text as a `String`, or `None` if the bytes aren't UTF-8.
     pub fn to_string(self, alloc: Global) -> Result<Option<String>, AllocError>
         ensures { IfOk result (IsTextIfAny string_bytes self.entry.bytes.now) }
     {
         self.into_reader().to_string(alloc)
     }
 
-    /// The bytes of the text, to write.
+    /// Returns the bytes of the text, to write.
     pub fn as_bytes_mut(self) -> &'a mut [u8]
         ensures same { result.ghost_name ≡ self.entry.bytes.ghost_name }
         ensures bytes { result.now ≡ self.entry.bytes.now }
@@ -218,8 +219,8 @@ impl<'a> Builder<'a> {
         bytes
     }
 
-    /// Writes a character of ASCII at the position, and goes on behind it. There must be a byte
-    /// left for it.
+    /// Writes an ASCII character at the position, and moves the position past it. There must be a
+    /// byte left for the character.
     pub fn push_ascii(&mut self, ascii: u8)
         requires ascii { ascii < 128 }
         requires room { self.old.pos < length self.old.bytes.now }
@@ -231,7 +232,8 @@ impl<'a> Builder<'a> {
         self.pos += 1;
     }
 
-    /// Writes a text at the position, and goes on behind it. There must be bytes left for it.
+    /// Writes a text at the position, and moves the position past it. There must be bytes left for
+    /// it.
     pub fn push_str(&mut self, string: &str)
         requires { self.old.pos + length string.now ≤ length self.old.bytes.now }
         ensures same { self.new.bytes.ghost_name ≡ self.old.bytes.ghost_name }
@@ -245,7 +247,7 @@ impl<'a> Builder<'a> {
         self.pos = end;
     }
 
-    /// Writes zeros over all bytes, and goes back to the first.
+    /// Writes zeros over all bytes, and moves the position to the first.
     pub fn clear(&mut self)
         ensures same { self.new.bytes.ghost_name ≡ self.old.bytes.ghost_name }
         ensures bytes { self.new.bytes.now ≡ replicate (length self.old.bytes.now) 0 }
@@ -255,8 +257,8 @@ impl<'a> Builder<'a> {
         self.pos = 0;
     }
 
-    /// This text and position, lent for a while. What is written stays; where the lent one then
-    /// stands isn't taken over.
+    /// Lends this text and position for a while. Writes to the lent text remain; its position isn't
+    /// taken over.
     pub fn reborrow(&mut self) -> Builder<'_>
         ensures bytes { result.bytes.now ≡ self.old.bytes.now }
         ensures pos { result.pos ≡ self.old.pos }
@@ -266,7 +268,7 @@ impl<'a> Builder<'a> {
         Builder::with_pos(bytes, pos)
     }
 
-    /// The text, to read.
+    /// Returns the text, to read.
     pub fn into_reader(self) -> Reader<'a>
         ensures { result.0.now ≡ self.entry.bytes.now }
     {
@@ -274,7 +276,7 @@ impl<'a> Builder<'a> {
         Reader(bytes)
     }
 
-    /// The text, to read for a while.
+    /// Lends the text, to read for a while.
     pub fn reborrow_as_reader(&self) -> Reader<'_>
         ensures { result.0.now ≡ self.now.bytes.now }
     {
@@ -282,7 +284,7 @@ impl<'a> Builder<'a> {
     }
 }
 
-/// Texts to write compare by their bytes, wherever they go on.
+/// Compares texts by their bytes, whatever their positions are.
 impl PartialEq for Builder<'_> {
     ghost eq = { λ x y. pointwise nat_eq x.bytes.now y.bytes.now };
 

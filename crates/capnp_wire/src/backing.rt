@@ -1,4 +1,4 @@
-//! What readers stand on.
+//! The memory from which readers read.
 ghost use Rattle.std.specs.Prelude.{◌≡◌, ◌+◌, ◌*◌, ◌/◌, ◌≤◌, pos, length, take, drop, slice_get, option_copied};
 ghost use Rattle.capnp_model.specs.Sections.{number_of, section_of};
 ghost use Rattle.capnp_units.specs.Segments.{whole_words, words_in};
@@ -12,9 +12,10 @@ use capnp_units::sizes::{SegmentId, Word, words_as_bytes};
 use capnp_wire_objects::arena::ReaderArena;
 use capnp_wire_objects::place::Place;
 
-/// What a reader stands on: the segments of an arena, or the one segment of a default value.
+/// The memory from which a reader reads: the segments of an arena, or the one segment of a default
+/// value.
 ///
-/// What is followed in an arena is paid for; a default costs nothing.
+/// Pointers that are followed in an arena are paid for; a default costs nothing.
 #[derive_where(Clone, Copy)]
 pub enum Backing<'a, A> {
     Arena(&'a A),
@@ -22,14 +23,14 @@ pub enum Backing<'a, A> {
     Default(&'a [u8]),
 }
 
-/// The default value of these words.
+/// Returns these words as a default value.
 pub fn default_backing<'a, A: ReaderArena>(words: &'a [Word]) -> Backing<'a, A>
     ensures { ground_of A.segments result ≡ default_ground words.now }
 {
     Backing::Default(words_as_bytes(words))
 }
 
-/// n words of bytes, from a position on.
+/// Returns n words of bytes, from a position on.
 #[inline(always)]
 fn words_of(bytes: &[u8], position: usize, words: usize) -> &[u8]
     requires { position + words ≤ length bytes.now / 8 }
@@ -41,7 +42,7 @@ fn words_of(bytes: &[u8], position: usize, words: usize) -> &[u8]
 }
 
 impl<'a, A: ReaderArena> Backing<'a, A> {
-    /// The bytes of a segment, or none past the last.
+    /// Returns the bytes of a segment, or `None` past the last segment.
     #[inline(always)]
     pub fn segment(self, id: SegmentId) -> Option<&'a [u8]>
         ensures { option_copied result ≡ slice_get (backing_bytes A.segments self.entry) id }
@@ -52,7 +53,7 @@ impl<'a, A: ReaderArena> Backing<'a, A> {
         }
     }
 
-    /// The bytes of a segment, and none where it isn't there.
+    /// Returns the bytes of a segment, or no bytes if the segment doesn't exist.
     #[inline(always)]
     pub(crate) fn bytes_of(self, id: SegmentId) -> &'a [u8]
         ensures { result.now ≡ segment_bytes (backing_bytes A.segments self.entry) id }
@@ -63,7 +64,7 @@ impl<'a, A: ReaderArena> Backing<'a, A> {
         }
     }
 
-    /// The bytes of n words from a place on, lent out of those of its segment.
+    /// Returns the bytes of n words from a place on, lent from those of its segment.
     #[inline(always)]
     pub(crate) fn lend_of(self, bytes: &'a [u8], start: Place, words: usize) -> &'a [u8]
         requires bytes { bytes.now
@@ -77,7 +78,7 @@ impl<'a, A: ReaderArena> Backing<'a, A> {
         words_of(bytes, start.position, words)
     }
 
-    /// The bytes of n words from a place on, lent in place.
+    /// Returns the bytes of n words from a place on, lent in place.
     #[inline(always)]
     pub fn lend(self, start: Place, words: usize) -> &'a [u8]
         requires { AreThere (words_in (backing_bytes A.segments self)) (place_view start) words }

@@ -1,4 +1,4 @@
-//! Whether what readers stand at stands as its canonical words.
+//! Tests whether the value of a reader is in canonical form in its segment.
 ghost use Rattle.std.specs.Prelude.{◌≡◌, ◌+◌};
 ghost use Rattle.std.specs.Bool.{OnTrue, OnFalse};
 ghost use Rattle.capnp_units.specs.Segments.{words_in};
@@ -20,15 +20,15 @@ use capnp_wire_objects::arena::ReaderArena;
 use capnp_wire_objects::place::{Place, has_words};
 
 impl<'a, A: ReaderArena> PointerReader<'a, A> {
-    /// Whether the pointer and its value stand as the value's canonical words. At its place is the
-    /// pointer. From the head on, a place behind it in its segment, are the words of what it leads
-    /// to, trimmed. On a yes the head is left behind those words, else where it was. A pointer that
-    /// stands nowhere doesn't. (Encoding, "Canonicalization")
+    /// Returns whether the pointer and its value are laid out as the value's canonical words. The
+    /// pointer is at its place. From the head on, a later place in its segment, are the words of
+    /// its value, trimmed. On a yes the head is moved past those words; otherwise it is unchanged.
+    /// A pointer without a place isn't canonical. (Encoding, "Canonicalization")
     ///
-    /// In an arena pointers are followed, and objects paid for, as by `total_size`, up to the first
-    /// difference; a capability is one, and so is a head that lies elsewhere. It is refused only
-    /// where a walk over the whole value is:
-    /// - at the first fault, by its kind;
+    /// In an arena pointers are followed, and objects paid for, like in `total_size`, up to the
+    /// first difference. A capability is a difference, and so is a head at another place. It is
+    /// refused only if a walk over the whole value is refused:
+    /// - at the first fault, with its kind;
     /// - with `ReadLimitExceeded` at the first object that costs more words than are left;
     /// - with `NestingLimitExceeded` under a negative nesting limit.
     ///
@@ -56,7 +56,7 @@ impl<'a, A: ReaderArena> PointerReader<'a, A> {
 }
 
 impl<'a, A: ReaderArena> StructReader<'a, A> {
-    /// Whether the struct's own words are those from a place on.
+    /// Returns whether the struct's own words are those from a place on.
     fn lies_at(&self, place: Place) -> bool
         ensures lies { let v = seen_struct A.segments self.now in OnTrue result
             (LiesAt v (place_view place)
@@ -76,8 +76,8 @@ impl<'a, A: ReaderArena> StructReader<'a, A> {
         self.first == first && are_equal(self.section, self.backing.lend(place, words))
     }
 
-    /// Whether the struct stands in an arena with the segments that it is read from, its own words
-    /// from a place on.
+    /// Returns whether the struct is in an arena with the segments that it is read from, with its
+    /// own words from a place on.
     fn stands_in<B: ReaderArena>(
         &self,
         arena: &B,
@@ -101,8 +101,8 @@ impl<'a, A: ReaderArena> StructReader<'a, A> {
         is_canonical_struct(arena, limiter, start, size, levels, head)
     }
 
-    /// Whether the struct stands from a place on. The words are paid for in an arena, and free in a
-    /// default.
+    /// Returns whether the struct begins at a place. The words are paid for in an arena, and free
+    /// in a default.
     fn stands_at(
         &self,
         limiter: &mut ReadLimiter,
@@ -123,14 +123,14 @@ impl<'a, A: ReaderArena> StructReader<'a, A> {
         }
     }
 
-    /// Whether the struct and what its pointers lead to stand as canonical words. Its own words
-    /// stand from one head on, where neither the last of its data nor the last of its pointers is a
-    /// word of zeros. From the other head on, behind its pointers in their segment, stand those of
-    /// what they lead to, trimmed, one after the other. On a yes each head is left behind its
-    /// words, else where it was. (Encoding, "Canonicalization")
+    /// Returns whether the struct and the values of its pointers are laid out as canonical words.
+    /// The struct's own words begin at one head; neither the last word of its data nor its last
+    /// pointer is zero. The words of its pointers' values, trimmed, begin at the other head, after
+    /// the pointers in their segment, one value after the other. On a yes each head is moved past
+    /// its words; otherwise it is unchanged. (Encoding, "Canonicalization")
     ///
-    /// It is refused, and exact, as `PointerReader::is_canonical` is. The struct's own words were
-    /// paid for already; where they don't stand no pointer is followed. It takes no memory.
+    /// It is refused, and exact, like `PointerReader::is_canonical`. The struct's own words were
+    /// paid for before; if they are at another place, no pointer is followed. It takes no memory.
     pub fn is_canonical(
         &self,
         limiter: &mut ReadLimiter,

@@ -1,4 +1,4 @@
-//! What elements of lists are read as.
+//! Types as which elements of lists can be read.
 ghost use Rattle.std.specs.Prelude.{◌≡◌, ◌==◌, ℕ, ◌*◌, ◌<◌};
 ghost use Rattle.std.specs.Int.{w8, w16, w32, w64, cast_signed};
 ghost use Rattle.capnp_model.specs.Trees.{size_bits};
@@ -9,22 +9,23 @@ use capnp_units::sizes::ElementSize;
 use capnp_units::units::ElementCount32;
 use capnp_wire_objects::arena::ReaderArena;
 
-/// What an element of a list is read as: a whole number, a truth value, or nothing.
+/// A type as which an element of a list can be read: a whole number, a truth value, or nothing.
 pub trait PrimitiveElement: Copy {
     ghost use Rattle.capnp_wire.specs.Views.{seen_list, element_number};
 
-    /// The bits of such an element.
+    /// The number of bits of such an element.
     ghost width: { ℕ };
 
     /// The value that has these bits.
     ghost of_bits: { ℕ → Self };
 
-    /// The value at the front of an element, its lowest bits; what a narrower element lacks is 0.
+    /// Returns the value at the front of an element, its lowest bits; bits that a narrower element
+    /// lacks are 0.
     fn get<A: ReaderArena>(list: &ListReader<'_, A>, index: ElementCount32) -> Self
         requires { index < (seen_list A.segments list.now).count }
         ensures { result ≡ of_bits (element_number (seen_list A.segments list.now) index width) };
 
-    /// The size of such elements, to ask for a list of them.
+    /// Returns the size of such elements, for requests of a list of them.
     fn element_size() -> ElementSize
         ensures plain { size_number result < 6 }
         ensures bits { size_bits (size_number result) ≡ width };

@@ -1,4 +1,4 @@
-//! How many levels of pointers may still be followed.
+//! The number of levels of pointers that may still be followed.
 ghost use Rattle.std.specs.Prelude.{◌≡◌};
 ghost use Rattle.capnp_model.specs.Answers.{levels};
 ghost use Rattle.capnp_wire_objects.specs.Places.{seen};
@@ -7,7 +7,7 @@ ghost use Rattle.capnp_wire.specs.Levels.{level_below};
 use capnp_units::errors::{Error, Result};
 use capnp_units::kinds::ErrorKind;
 
-/// The levels of a nesting limit. No value keeps a negative one, null included.
+/// Returns the levels of a nesting limit. No value is within a negative limit, not even null.
 pub fn levels_of(nesting_limit: i32) -> Option<u32>
     ensures { result ≡ levels nesting_limit }
 {
@@ -17,8 +17,8 @@ pub fn levels_of(nesting_limit: i32) -> Option<u32>
     Some(nesting_limit as u32)
 }
 
-/// The levels that are left behind the pointers of a struct or a list, which takes one. It is
-/// refused with `NestingLimitExceeded` where there is none.
+/// Returns the levels that are left below the pointers of a struct or a list, which takes one
+/// level. It is refused with `NestingLimitExceeded` if no level is left.
 #[inline(always)]
 pub fn level_below(levels: Option<u32>) -> Result<Option<u32>>
     ensures { seen (λ l. l) result ≡ level_below levels }

@@ -1,11 +1,13 @@
-//! Readers of untrusted segments: what pointers name, and the structs, lists, texts and data behind
-//! them, lent in place.
+//! Readers of untrusted segments: the objects of pointers, and their structs, lists, texts and
+//! data, lent in place.
 //!
-//! Numbers lie in words of eight bytes, the lowest byte first. A reader stands over an arena of
-//! segments or over a default value, and what it follows is paid for from a `ReadLimiter`.
+//! Numbers are in words of eight bytes, the lowest byte first. A reader reads from an arena of
+//! segments or from a default value, and pays for the pointers that it follows from a
+//! `ReadLimiter`.
 //!
-//! Gets are `inline(always)`: their bodies take some ten instructions, and a call would take as
-//! many again to pass readers and answers through memory. What isn't near is followed out of line.
+//! Getters are `inline(always)`: their bodies take some ten instructions, and a call would take as
+//! many again to pass readers and results through memory. Objects that aren't near are followed out
+//! of line.
 #![tactic(auto)]
 
 pub mod backing;

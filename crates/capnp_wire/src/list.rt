@@ -19,8 +19,7 @@ use capnp_wire_objects::object::words_of_elements;
 use capnp_wire_objects::place::Place;
 use std::alloc::AllocError;
 
-/// A list to read. Its plain elements, or the words of its structs, are lent from what it stands
-/// on.
+/// A list to read. Its plain elements, or the words of its structs, are lent from its backing.
 pub struct ListReader<'a, A> {
     pub(crate) backing: Backing<'a, A>,
     pub(crate) bytes: &'a [u8],
@@ -48,7 +47,8 @@ impl<A> Clone for ListReader<'_, A> {
 
 impl<A> Copy for ListReader<'_, A> {}
 
-/// The words from the first of n elements to the end of the last; those of pointers aren't counted.
+/// Returns the number of words from the first of n elements to the end of the last, without those
+/// of pointers.
 fn words_of_steps(size: ElementSize, count: u32, data_words: u16, pointers: u16) -> usize
     ensures { result ≡ words_for (step_bits (size_number size) data_words pointers * count) }
 {
@@ -63,7 +63,7 @@ impl<'a, A: ReaderArena> ListReader<'a, A> {
     ghost use Rattle.capnp_wire_objects.specs.Places.{place_view};
     ghost use Rattle.capnp_wire.specs.Views.{ground_of, seen_pointer, seen_struct, seen_list, list_view, list_at, element_as_struct, element_number, pointer_field};
 
-    /// A list of these parts.
+    /// Makes a list of these parts.
     #[inline(always)]
     pub(crate) fn of_parts(
         backing: Backing<'a, A>,
@@ -95,7 +95,7 @@ impl<'a, A: ReaderArena> ListReader<'a, A> {
         }
     }
 
-    /// The empty list of elements of a size.
+    /// Makes the empty list of elements of a size.
     pub(crate) fn empty(backing: Backing<'a, A>, size: ElementSize, levels: Option<u32>) -> Self
         ensures { seen_list A.segments result
             ≡ list_view (ground_of A.segments backing.entry) size 0 0 root 0 0 levels }
@@ -115,9 +115,9 @@ impl<'a, A: ReaderArena> ListReader<'a, A> {
         }
     }
 
-    /// The list of n elements of a size that begins at a place of an arena, where its words are:
-    /// behind the tag for structs, which have such sections. Its pointers are followed under the
-    /// arena's nesting limit.
+    /// Makes the list of n elements of a size whose words begin at a place of an arena: after the
+    /// tag for structs, which have these sections. Its pointers are followed under the arena's
+    /// nesting limit.
     pub fn at(
         arena: &'a A,
         start: Place,
@@ -143,15 +143,15 @@ impl<'a, A: ReaderArena> ListReader<'a, A> {
         )
     }
 
-    /// What the list stands on, where its pointers are followed.
+    /// Returns the list's backing, in which its pointers are followed.
     pub fn backing(&self) -> Backing<'a, A>
         ensures { ground_of A.segments result ≡ (seen_list A.segments self.now).basis }
     {
         self.backing
     }
 
-    /// The bytes of the elements from the first to the end of the last, lent in place, with those
-    /// of the structs' pointers. Bits behind the last element may be any.
+    /// Returns the bytes from the first element to the end of the last, lent in place, with those
+    /// of the structs' pointers. Bits after the last element are unspecified.
     #[inline(always)]
     pub fn bytes(&self) -> &'a [u8]
         ensures section { let l = seen_list A.segments self.now in
@@ -164,7 +164,7 @@ impl<'a, A: ReaderArena> ListReader<'a, A> {
         self.bytes
     }
 
-    /// Where the first element begins, if there is one.
+    /// Returns the place of the first element, if there is one.
     #[inline(always)]
     pub fn start(&self) -> Place
         ensures place { place_view result ≡ (seen_list A.segments self.now).start }
@@ -175,14 +175,15 @@ impl<'a, A: ReaderArena> ListReader<'a, A> {
         self.start
     }
 
-    /// The size of the elements, as the list has it.
+    /// Returns the size of the elements, as the list has it.
     pub fn element_size(&self) -> ElementSize
         ensures { result ≡ (seen_list A.segments self.now).size }
     {
         self.size
     }
 
-    /// How many data words and pointers each struct has; 0 and 0 where there are no structs.
+    /// Returns the number of data words and pointers of each struct; 0 and 0 if there are no
+    /// structs.
     pub fn struct_size(&self) -> StructSize
         ensures { let l = seen_list A.segments self.now in
             (result.data_words ≡ l.data_words) × (result.pointers ≡ l.pointers) }
@@ -193,15 +194,15 @@ impl<'a, A: ReaderArena> ListReader<'a, A> {
         }
     }
 
-    /// How many levels may be followed from each pointer; `None` where not even the list's own was
-    /// left.
+    /// Returns the number of levels that may be followed from each pointer; `None` if not even a
+    /// level for the list itself was left.
     pub fn levels(&self) -> Option<u32>
         ensures { result ≡ (seen_list A.segments self.now).levels }
     {
         self.levels
     }
 
-    /// How many elements there are.
+    /// Returns the number of elements.
     #[inline(always)]
     pub fn len(&self) -> u32
         ensures { result ≡ (seen_list A.segments self.now).count }
@@ -209,14 +210,14 @@ impl<'a, A: ReaderArena> ListReader<'a, A> {
         self.count
     }
 
-    /// Whether there is no element.
+    /// Returns whether the list is empty.
     pub fn is_empty(&self) -> bool
         ensures { result ≡ ((seen_list A.segments self.now).count == 0) }
     {
         self.len() == 0
     }
 
-    /// The bits from one element to the next; those of pointers aren't counted.
+    /// Returns the number of bits from one element to the next, without those of pointers.
     #[inline(always)]
     fn step_bits(&self) -> usize
         ensures { result ≡ step_bits (size_number self.now.size) self.now.data_words
@@ -230,7 +231,7 @@ impl<'a, A: ReaderArena> ListReader<'a, A> {
         }
     }
 
-    /// The bits of data in an element.
+    /// Returns the number of bits of data in an element.
     #[inline(always)]
     fn element_bits(&self) -> usize
         ensures { result ≡ element_bits (size_number self.now.size) self.now.data_words }
@@ -241,7 +242,7 @@ impl<'a, A: ReaderArena> ListReader<'a, A> {
         }
     }
 
-    /// The words from the pointers of one element to those of the next.
+    /// Returns the number of words from the pointers of one element to those of the next.
     #[inline(always)]
     fn step_words(&self) -> usize
         ensures { result ≡ step_words (size_number self.now.size) self.now.data_words
@@ -253,7 +254,7 @@ impl<'a, A: ReaderArena> ListReader<'a, A> {
         }
     }
 
-    /// The pointers in an element.
+    /// Returns the number of pointers in an element.
     #[inline(always)]
     fn element_pointers(&self) -> u16
         ensures { result ≡ element_pointers (size_number self.now.size) self.now.pointers }
@@ -265,7 +266,7 @@ impl<'a, A: ReaderArena> ListReader<'a, A> {
         }
     }
 
-    /// The bytes of an element's data.
+    /// Returns the bytes of an element's data.
     #[inline(always)]
     fn element_section(&self, index: u32) -> &'a [u8]
         requires index { index < self.now.count }
@@ -283,8 +284,8 @@ impl<'a, A: ReaderArena> ListReader<'a, A> {
         &self.bytes[at..at + width]
     }
 
-    /// An element as a struct: a plain one has exactly its bits, a pointer is its only pointer.
-    /// Elements of one bit can't be read so.
+    /// Returns an element as a struct. A plain element has exactly its bits, and a pointer is the
+    /// struct's only pointer. Elements of one bit can't be read in this way.
     #[inline(always)]
     pub fn get_struct_element(&self, index: u32) -> StructReader<'a, A>
         requires index { index < (seen_list A.segments self.now).count }
@@ -308,7 +309,7 @@ impl<'a, A: ReaderArena> ListReader<'a, A> {
         )
     }
 
-    /// The first pointer of an element; null where it has none.
+    /// Returns the first pointer of an element; null if the element has no pointer.
     #[inline(always)]
     pub fn get_pointer_element(&self, index: u32) -> PointerReader<'a, A>
         requires { index < (seen_list A.segments self.now).count }
@@ -332,7 +333,7 @@ impl<'a, A: ReaderArena> ListReader<'a, A> {
         }
     }
 
-    /// The number at the front of an element, 0 where the element is narrower.
+    /// Returns the number at the front of an element, 0 if the element is narrower.
     pub fn number<T: Primitive + Zero>(&self, index: u32) -> T
         requires { index < (seen_list A.segments self.now).count }
         ensures { result ≡ T.from_bits
@@ -344,7 +345,7 @@ impl<'a, A: ReaderArena> ListReader<'a, A> {
         self.get_struct_element(index).get_data_field::<T>(0)
     }
 
-    /// The lowest bit of an element, false where it has none.
+    /// Returns the lowest bit of an element, false if it has no bits.
     pub fn bit(&self, index: u32) -> bool
         requires { index < (seen_list A.segments self.now).count }
         ensures { result ≡ (element_number (seen_list A.segments self.now) index 1 == 1) }

@@ -1,4 +1,4 @@
-//! Lists behind pointers, whose elements are read as ones of an expected size.
+//! Lists that pointers lead to, whose elements are read as elements of an expected size.
 ghost use Rattle.std.specs.Prelude.{◌≡◌, ◌≢◌, ◌+◌, ◌*◌, ◌<◌, ◌≤◌, ◌^◌, length, IfOk, option_copied};
 ghost use Rattle.capnp_wire.specs.Views.{ground_of, seen_pointer, seen_list, list_view};
 ghost use Rattle.capnp_wire.specs.Reads.{with_default, GetGives, read_list, read_elements, list_head};
@@ -20,8 +20,8 @@ use capnp_wire_objects::object::{Object, words_of_elements};
 use capnp_wire_objects::place::Place;
 
 impl<'a, A: ReaderArena> PointerReader<'a, A> {
-    /// A list whose bytes are lent, where a level is left and its elements can be read as ones of
-    /// the expected size.
+    /// Returns a list whose bytes are lent, if a level is left and its elements can be read as
+    /// elements of the expected size.
     #[inline(always)]
     fn list_of(
         &self,
@@ -61,7 +61,7 @@ impl<'a, A: ReaderArena> PointerReader<'a, A> {
         ))
     }
 
-    /// The list behind the pointer; null is the empty list of the expected size.
+    /// Returns the list that the pointer leads to; null is the empty list of the expected size.
     #[inline(never)]
     fn list_here(
         &self,
@@ -103,13 +103,13 @@ impl<'a, A: ReaderArena> PointerReader<'a, A> {
         }
     }
 
-    /// The list behind the pointer, its elements lent in place, which can be read as ones of the
-    /// expected size. A null pointer reads as the default's root, and without one as the empty list
-    /// of that size.
+    /// Returns the list that the pointer leads to, whose elements can be read as elements of the
+    /// expected size. The elements are lent in place. A null pointer reads as the default's root,
+    /// or without a default as the empty list of that size.
     ///
-    /// It is refused as a struct is, and with `WrongElementSize` where its elements are too narrow.
-    /// Single bits are read as single bits alone, and never from structs. Any other element has to
-    /// have the bits and the pointers of the expected one, which for `InlineComposite` are none.
+    /// It is refused like a struct, and with `WrongElementSize` if its elements are too narrow.
+    /// Single bits are only read as single bits, and never from structs. Any other element needs
+    /// the bits and the pointers of the expected element; for `InlineComposite` it needs none.
     #[inline(always)]
     pub fn get_list(
         &self,
@@ -133,8 +133,8 @@ impl<'a, A: ReaderArena> PointerReader<'a, A> {
     }
 }
 
-/// Whether elements of a size can be read as ones of an expected size. Structs have n data words
-/// and pointers.
+/// Returns whether elements of a size can be read as elements of an expected size. Structs have n
+/// data words and pointers.
 #[inline(always)]
 fn is_accepted(expected: ElementSize, size: ElementSize, data_words: u16, pointers: u16) -> bool
     ensures { result ≡ is_accepted_as (size_number expected) (list_head size data_words pointers) }

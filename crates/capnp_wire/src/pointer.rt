@@ -28,7 +28,7 @@ use capnp_wire_objects::object::{Object, object_at};
 use capnp_wire_objects::place::{Place, has_words, segment_bytes, word_at};
 use capnp_wire_objects::size::{NOTHING, size_at};
 
-/// A pointer to read: at a place, or null. What it leads to is lent from what it stands on.
+/// A pointer to read: at a place, or null. Its value is lent from its backing.
 #[derive_where(Clone, Copy)]
 pub struct PointerReader<'a, A> {
     pub(crate) backing: Backing<'a, A>,
@@ -37,8 +37,8 @@ pub struct PointerReader<'a, A> {
 }
 
 impl<'a, A: ReaderArena> PointerReader<'a, A> {
-    /// The root pointer of an arena, the first word of its first segment. It is refused with
-    /// `OutOfBounds` where that isn't there.
+    /// Returns the root pointer of an arena, the first word of its first segment. It is refused
+    /// with `OutOfBounds` if that word doesn't exist.
     pub fn get_root_from_arena(arena: &'a A) -> Result<Self>
         ensures { seen (seen_pointer A.segments) result
             ≡ root_of (A.segments arena.now) (A.nesting arena.now) }
@@ -53,8 +53,8 @@ impl<'a, A: ReaderArena> PointerReader<'a, A> {
         Ok(PointerReader::at(arena, place))
     }
 
-    /// The pointer at a place of an arena, under the arena's nesting limit. Whether its word is
-    /// there is seen when it is read.
+    /// Returns the pointer at a place of an arena, under the arena's nesting limit. Whether its
+    /// word exists is only checked when the pointer is read.
     pub fn at(arena: &'a A, place: Place) -> Self
         ensures { seen_pointer A.segments result
             ≡ pointer_at (A.segments arena.now) (A.nesting arena.now) (place_view place) }
@@ -66,14 +66,14 @@ impl<'a, A: ReaderArena> PointerReader<'a, A> {
         }
     }
 
-    /// The pointer again, lent for a shorter time.
+    /// Returns the pointer again, lent for a shorter time.
     pub fn reborrow(&self) -> Self
         ensures { result ≡ self.now }
     {
         *self
     }
 
-    /// Whether there is no pointer here, or a word of zeros.
+    /// Returns whether there is no pointer here, or a word of zeros.
     #[inline(always)]
     pub fn is_null(&self) -> bool
         ensures { result ≡ is_null_pointer (seen_pointer A.segments self.now) }
@@ -84,9 +84,9 @@ impl<'a, A: ReaderArena> PointerReader<'a, A> {
         }
     }
 
-    /// The root of a default, read in place, with the levels that are left here. It is the pointer
-    /// itself where it isn't null, where there is no default, or where the default's root is null.
-    /// Nothing is followed or paid for.
+    /// Returns the root of a default, read in place, with the levels that are left here. It returns
+    /// the pointer itself if the pointer isn't null, if there is no default, or if the default's
+    /// root is null. Nothing is followed or paid for.
     #[inline(always)]
     pub fn with_default(&self, default: Option<&'a [Word]>) -> Self
         ensures { seen_pointer A.segments result
@@ -109,7 +109,8 @@ impl<'a, A: ReaderArena> PointerReader<'a, A> {
         if root.is_null() { *self } else { root }
     }
 
-    /// What the pointer names, paid for; null is followed to nothing, and a default costs nothing.
+    /// Returns the object that the pointer names, paid for. Null is followed to no object, and a
+    /// default costs nothing.
     #[inline(always)]
     fn object_here(&self, limiter: &mut ReadLimiter) -> Result<Object>
         ensures object { GetGives (λ o. o) (λ o. Ok o) (seen_pointer A.segments self.now)
@@ -132,8 +133,8 @@ impl<'a, A: ReaderArena> PointerReader<'a, A> {
         }
     }
 
-    /// What the pointer names, paid for, with the bytes of its segment; null is followed to
-    /// nothing, and a default costs nothing.
+    /// Returns the object that the pointer names, paid for, with the bytes of its segment. Null is
+    /// followed to no object, and a default costs nothing.
     #[inline(always)]
     pub(crate) fn reach(&self, limiter: &mut ReadLimiter) -> Result<Reached<'a>>
         ensures object { GetGives (λ r. r.object) (λ o. Ok o) (seen_pointer A.segments self.now)
@@ -155,10 +156,10 @@ impl<'a, A: ReaderArena> PointerReader<'a, A> {
         Ok(Reached { object, bytes })
     }
 
-    /// The struct behind the pointer; null is the empty struct.
+    /// Returns the struct that the pointer leads to; null is the empty struct.
     ///
-    /// It stands out of line, as the other gets of what lies behind a pointer. So a get without a
-    /// default hands on where its pointer lies, and copies none.
+    /// It is out of line, like the other functions that read an object. So a getter without a
+    /// default passes on the place of its pointer, and copies no pointer.
     #[inline(never)]
     fn struct_here(&self, limiter: &mut ReadLimiter) -> Result<StructReader<'a, A>>
         ensures { GetGives (seen_struct A.segments)
@@ -187,7 +188,7 @@ impl<'a, A: ReaderArena> PointerReader<'a, A> {
         }
     }
 
-    /// The bytes of the byte list behind the pointer, and none of null.
+    /// Returns the bytes of the byte list that the pointer leads to, or `None` for null.
     #[inline(always)]
     fn bytes_here(&self, limiter: &mut ReadLimiter) -> Result<Option<&'a [u8]>>
         ensures { GetGives option_copied
@@ -216,7 +217,7 @@ impl<'a, A: ReaderArena> PointerReader<'a, A> {
         }
     }
 
-    /// The data behind the pointer; null is none.
+    /// Returns the data that the pointer leads to; null is empty data.
     #[inline(never)]
     fn data_here(&self, limiter: &mut ReadLimiter) -> Result<&'a [u8]>
         ensures { GetGives (λ r. r.now)
@@ -229,7 +230,7 @@ impl<'a, A: ReaderArena> PointerReader<'a, A> {
         }
     }
 
-    /// The text behind the pointer without its zero byte; null is the empty text.
+    /// Returns the text that the pointer leads to without its zero byte; null is the empty text.
     #[inline(never)]
     fn text_here(&self, limiter: &mut ReadLimiter) -> Result<&'a [u8]>
         ensures { GetGives (λ r. r.now)
@@ -247,18 +248,19 @@ impl<'a, A: ReaderArena> PointerReader<'a, A> {
         }
     }
 
-    /// The struct behind the pointer, its sections lent in place. A null pointer reads as the
-    /// default's root, which costs nothing and takes the same levels, and without one as the empty
-    /// struct.
+    /// Returns the struct that the pointer leads to, its sections lent in place. A null pointer
+    /// reads as the default's root, which costs nothing and takes the same levels, or without a
+    /// default as the empty struct.
     ///
     /// It is refused
-    /// - by the kind of the fault there;
-    /// - with `ReadLimitExceeded` exactly where the pads and the struct's words pass what is left;
-    /// - with `WrongPointerKind` where something else is there;
-    /// - with `NestingLimitExceeded` where no level is left.
+    /// - with the kind of the fault there;
+    /// - with `ReadLimitExceeded` exactly if the pads and the struct's words exceed the words that
+    ///   are left;
+    /// - with `WrongPointerKind` if the pointer leads to something else;
+    /// - with `NestingLimitExceeded` if no level is left.
     ///
-    /// The words are granted where they don't pass what is left, also where the get is refused
-    /// then.
+    /// If the words don't exceed those that are left, they are granted, even if the getter is
+    /// refused afterwards.
     #[inline(always)]
     pub fn get_struct(
         &self,
@@ -276,11 +278,11 @@ impl<'a, A: ReaderArena> PointerReader<'a, A> {
         }
     }
 
-    /// The data behind the pointer, lent in place. A null pointer reads as the default's root, and
-    /// without one as no byte.
+    /// Returns the data that the pointer leads to, lent in place. A null pointer reads as the
+    /// default's root, or without a default as no bytes.
     ///
-    /// It is refused as a struct is; with `WrongElementSize` where a list of other elements than
-    /// bytes is there.
+    /// It is refused like a struct, and with `WrongElementSize` if the pointer leads to a list of
+    /// elements other than bytes.
     #[inline(always)]
     pub fn get_data(
         &self,
@@ -297,11 +299,12 @@ impl<'a, A: ReaderArena> PointerReader<'a, A> {
         }
     }
 
-    /// The text behind the pointer, lent in place without the zero byte at its end; it may be no
-    /// UTF-8. A null pointer reads as the default's root, and without one as the empty text.
+    /// Returns the text that the pointer leads to, lent in place without the zero byte at its end.
+    /// The text may not be UTF-8. A null pointer reads as the default's root, or without a default
+    /// as the empty text.
     ///
-    /// It is refused as data are, and with `TextWithoutZeroByte` where the last byte isn't zero or
-    /// there is none.
+    /// It is refused like data, and with `TextWithoutZeroByte` if the last byte isn't zero or there
+    /// is no byte.
     #[inline(always)]
     pub fn get_text(
         &self,
@@ -318,14 +321,14 @@ impl<'a, A: ReaderArena> PointerReader<'a, A> {
         }
     }
 
-    /// The sort of object that the pointer names, where it begins inside its segment; its words
-    /// needn't be there, and none is looked at. It costs nothing.
+    /// Returns the sort of object that the pointer names, if the object begins inside its segment.
+    /// The object's words may be missing, and aren't looked at. It costs nothing.
     ///
     /// It is refused with
-    /// - `OutOfBounds`: the pointer or a pad isn't there, or the object would begin in front of its
-    ///   segment or behind its last word;
+    /// - `OutOfBounds`: the pointer or a pad doesn't exist, or the object would begin before its
+    ///   segment or after its last word;
     /// - `MalformedFarPointer`: a pad describes its object by a far pointer;
-    /// - `UnknownPointerType`: a pointer of the fourth form is no capability.
+    /// - `UnknownPointerType`: a pointer of the fourth form is not a capability.
     pub fn get_pointer_type(&self) -> Result<PointerType>
         ensures { seen (λ t. t) result ≡ type_behind (seen_pointer A.segments self.now) }
     {
@@ -341,7 +344,7 @@ impl<'a, A: ReaderArena> PointerReader<'a, A> {
         }
     }
 
-    /// The sort of an object that begins at a place, where that is inside its segment.
+    /// Returns the sort of an object that begins at a place, if the place is inside its segment.
     fn type_inside(&self, start: Place, sort: PointerType) -> Result<PointerType>
         ensures { seen (λ t. t) result
             ≡ (guard (is_some
@@ -354,21 +357,22 @@ impl<'a, A: ReaderArena> PointerReader<'a, A> {
         Ok(sort)
     }
 
-    /// The size of the pointer's value: the words of its objects at every depth, without pads and
-    /// without the pointer itself, and its capabilities. Each count stops at the greatest number of
-    /// its type. In an arena all of it is followed and paid for.
+    /// Returns the size of the pointer's value: the words of its objects at every depth, without
+    /// pads and without the pointer itself, and its capabilities. Each count stops at the greatest
+    /// number of its type. In an arena all of the value is followed and paid for.
     ///
     /// Pointers are followed in the order of reading, nulls too. It is refused
     /// - with `NestingLimitExceeded` under a negative nesting limit, whatever the value;
-    /// - at the first fault within the levels that are left, by its kind;
-    /// - with `ReadLimitExceeded` at the first object that is there and costs more words than are
+    /// - at the first fault within the levels that are left, with its kind;
+    /// - with `ReadLimitExceeded` at the first object that exists and costs more words than are
     ///   left.
     ///
-    /// Then the objects before it are paid for, and it counts as followed. On success exactly the
-    /// value's pointers count as followed, and else no more than words are granted, and one.
+    /// Then the earlier objects are paid for, and this object counts as followed. On success
+    /// exactly the value's pointers count as followed. Otherwise at most one more pointer is
+    /// followed than words are granted.
     ///
-    /// What bounds its time and its stack stands at `size_at`; a default has the words that it has,
-    /// and no limit.
+    /// `size_at` describes the bounds of its time and its stack. A default has a fixed number of
+    /// words, and no limit.
     pub fn total_size(&self, limiter: &mut ReadLimiter) -> Result<MessageSize>
         ensures { PointerSize (seen_pointer A.segments self.now) limiter.old result limiter.new }
     {

@@ -1,4 +1,4 @@
-//! What pointers lead to, told in one look at their segment where that suffices.
+//! The objects of pointers, found with one look at their segment if that suffices.
 ghost use Rattle.std.specs.Prelude.{◌≡◌, ℕ, List, IfSome, IfOk};
 ghost use Rattle.capnp_units.specs.Segments.{words_in};
 ghost use Rattle.capnp_wire_objects.specs.Arenas.{segment_bytes};
@@ -16,15 +16,16 @@ use capnp_wire_objects::object::Object;
 use capnp_wire_objects::place::Place;
 use capnp_wire_objects::structs::NearStruct;
 
-/// What a pointer leads to.
+/// The object that a pointer leads to.
 #[derive(Clone, Copy)]
 pub(crate) struct Reached<'a> {
     pub object: Object,
-    /// The bytes of the segment in which the object begins, of the first where it has no place.
+    /// The bytes of the segment in which the object begins, of the first segment if it has no
+    /// place.
     pub bytes: &'a [u8],
 }
 
-/// The number of the segment in which an object begins, 0 where it has no place.
+/// Returns the number of the segment in which an object begins, 0 if it has no place.
 #[inline(always)]
 pub(crate) fn segment_of(object: Object) -> u32
     ensures { result ≡ begins_in object }
@@ -38,8 +39,8 @@ pub(crate) fn segment_of(object: Object) -> u32
     }
 }
 
-/// The struct or the list, but for one of pointers, that the pointer at a place names in its own
-/// segment, the one of these bytes. `None` has no meaning.
+/// Returns the struct or the list that the pointer at a place names in its own segment, which has
+/// these bytes. It finds no lists of pointers. `None` has no meaning.
 #[inline(always)]
 pub(crate) fn near_object_in(bytes: &[u8], place: Place) -> Option<Object>
     ensures near { (segments : List (List ℕ)) → bytes.now ≡ segment_bytes segments place.segment
@@ -71,8 +72,8 @@ pub(crate) fn near_object_in(bytes: &[u8], place: Place) -> Option<Object>
     })
 }
 
-/// Counts a pointer as followed to an object that lies in its own segment, and grants its words, as
-/// `follow` does.
+/// Counts a pointer as followed to an object in its own segment, and grants the object's words,
+/// like `follow`.
 #[inline(always)]
 pub(crate) fn follow_near<A: ReaderArena>(
     arena: &A,
@@ -90,7 +91,7 @@ pub(crate) fn follow_near<A: ReaderArena>(
     Ok(object)
 }
 
-/// As `follow`, out of line, so that few instructions stand where readers ask for what is near.
+/// Does what `follow` does, out of line, so that readers of near objects have few instructions.
 #[inline(never)]
 pub(crate) fn follow_any<A: ReaderArena>(
     arena: &A,

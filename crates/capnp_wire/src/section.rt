@@ -3,8 +3,8 @@ ghost use Rattle.std.specs.Prelude.{◌≡◌, ◌+◌, ◌*◌, ◌/◌, ◌<�
 ghost use Rattle.std.specs.Bool.{OnTrue, OnFalse};
 ghost use Rattle.capnp_model.specs.Sections.{bits_at, number_of, numbers_in};
 
-/// The bytes from a number of n bytes on, which stands behind others of its width, where it lies
-/// wholly in the section.
+/// Returns the bytes from a number of n bytes on, at an index in units of its width, if the number
+/// is wholly in the section.
 #[inline(always)]
 pub(crate) fn bytes_from(section: &[u8], index: usize, width: usize) -> Option<&[u8]>
     ensures within { MatchOption result
@@ -23,7 +23,7 @@ pub(crate) fn bytes_from(section: &[u8], index: usize, width: usize) -> Option<&
     Some(&section[start..])
 }
 
-/// A bit of bytes, from the lowest of the first byte on.
+/// Returns a bit of bytes, counted from the lowest of the first byte.
 #[inline(always)]
 pub(crate) fn bit_of(bytes: &[u8], index: usize) -> bool
     requires { index < 8 * length bytes.now }
@@ -32,7 +32,7 @@ pub(crate) fn bit_of(bytes: &[u8], index: usize) -> bool
     bytes[index / 8] / (1 << (index % 8)) % 2 == 1
 }
 
-/// n bytes at the front of others.
+/// Returns the first n bytes.
 #[inline(always)]
 pub(crate) fn front_of(bytes: &[u8], count: usize) -> &[u8]
     requires { count ≤ length bytes.now }
@@ -46,7 +46,7 @@ fn are_bytes(bytes: &[u8])
     ensures { (i : ℕ) → slice_index bytes.now i < 256 }
 {}
 
-/// Whether bytes are as many others, as they are exactly where their numbers are equal.
+/// Returns whether bytes are equal to others, which they are exactly if their numbers are equal.
 pub(crate) fn are_equal(bytes: &[u8], others: &[u8]) -> bool
     requires { length bytes.now ≡ length others.now }
     ensures same { OnTrue result (number_of 8 bytes.now ≡ number_of 8 others.now) }

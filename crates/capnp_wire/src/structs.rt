@@ -20,8 +20,8 @@ use capnp_wire_objects::place::Place;
 use capnp_wire_objects::size::{size_of_row, with_words};
 use std::alloc::AllocError;
 
-/// A struct to read. Its data section is lent from what it stands on; outside the sections there
-/// are zeros and nulls.
+/// A struct to read. Its data section is lent from its backing; outside the sections there are
+/// zeros and nulls.
 pub struct StructReader<'a, A> {
     pub(crate) backing: Backing<'a, A>,
     pub(crate) section: &'a [u8],
@@ -54,7 +54,7 @@ impl<'a, A: ReaderArena> StructReader<'a, A> {
     ghost use Rattle.capnp_model.specs.Visits.{visits};
     ghost use Rattle.capnp_model.specs.Sizes.{each_object_words, each_capability_count};
 
-    /// A struct of these parts.
+    /// Makes a struct of these parts.
     #[inline(always)]
     pub(crate) fn of_parts(
         backing: Backing<'a, A>,
@@ -78,8 +78,8 @@ impl<'a, A: ReaderArena> StructReader<'a, A> {
         }
     }
 
-    /// The struct without sections, as which a null pointer reads: each field has its default. Its
-    /// pointers are null.
+    /// Makes the struct without sections, as which a null pointer reads: each field has its
+    /// default. Its pointers are null.
     pub fn empty(backing: Backing<'a, A>, levels: Option<u32>) -> Self
         ensures { seen_struct A.segments result
             ≡ struct_of_null (ground_of A.segments backing.entry) levels }
@@ -96,7 +96,7 @@ impl<'a, A: ReaderArena> StructReader<'a, A> {
         }
     }
 
-    /// What the struct stands on, where its pointers are followed.
+    /// Returns the struct's backing, in which its pointers are followed.
     #[inline(always)]
     pub fn backing(&self) -> Backing<'a, A>
         ensures { ground_of A.segments result ≡ (seen_struct A.segments self.now).basis }
@@ -104,8 +104,8 @@ impl<'a, A: ReaderArena> StructReader<'a, A> {
         self.backing
     }
 
-    /// The bytes of the data section, lent in place: whole words, but for an element of a plain
-    /// list, which has exactly its own.
+    /// Returns the bytes of the data section, lent in place. They are whole words, except for an
+    /// element of a plain list, which has exactly its own bytes.
     #[inline(always)]
     pub fn section(&self) -> &'a [u8]
         ensures section { number_of 8 result.now ≡ (seen_struct A.segments self.now).section }
@@ -115,7 +115,7 @@ impl<'a, A: ReaderArena> StructReader<'a, A> {
         self.section
     }
 
-    /// Where the first pointer stands, if there is one; the others follow it.
+    /// Returns the place of the first pointer, if there is one; the others follow it.
     #[inline(always)]
     pub fn first_pointer(&self) -> Place
         ensures place { place_view result ≡ (seen_struct A.segments self.now).first }
@@ -124,7 +124,7 @@ impl<'a, A: ReaderArena> StructReader<'a, A> {
         self.first
     }
 
-    /// How many pointers there are.
+    /// Returns the number of pointers.
     #[inline(always)]
     pub fn pointers(&self) -> u16
         ensures { result ≡ (seen_struct A.segments self.now).pointers }
@@ -132,8 +132,8 @@ impl<'a, A: ReaderArena> StructReader<'a, A> {
         self.pointers
     }
 
-    /// How many levels may be followed from each pointer; `None` where not even the struct's own
-    /// was left.
+    /// Returns the number of levels that may be followed from each pointer; `None` if not even a
+    /// level for the struct itself was left.
     #[inline(always)]
     pub fn levels(&self) -> Option<u32>
         ensures { result ≡ (seen_struct A.segments self.now).levels }
@@ -141,8 +141,8 @@ impl<'a, A: ReaderArena> StructReader<'a, A> {
         self.levels
     }
 
-    /// The struct at a place of an arena, of n data words and pointers, which are there. Its
-    /// pointers are followed under the arena's nesting limit.
+    /// Makes the struct at a place of an arena, of n data words and pointers, which exist there.
+    /// Its pointers are followed under the arena's nesting limit.
     pub fn at(arena: &'a A, start: Place, data_words: u16, pointers: u16) -> Self
         requires there { AreThere (words_in (A.segments arena.now)) (place_view start) data_words }
         requires near { start.position + (data_words + pointers) < 2 ^ 62 }
@@ -160,8 +160,8 @@ impl<'a, A: ReaderArena> StructReader<'a, A> {
         StructReader::of_parts(backing, section, first, pointers, levels)
     }
 
-    /// A number of the data section, counted in its own width; 0 where it doesn't lie wholly in the
-    /// section.
+    /// Returns a number of the data section, at an offset in units of its width; 0 if the number
+    /// isn't wholly in the section.
     #[inline(always)]
     pub fn get_data_field<T: Primitive + Zero>(&self, offset: ElementCount) -> T
         ensures { let s = seen_struct A.segments self.now in
@@ -174,7 +174,8 @@ impl<'a, A: ReaderArena> StructReader<'a, A> {
         }
     }
 
-    /// As the getter without a mask, of the bits exclusive or those of the field's default.
+    /// Returns a number like the getter without a mask, with its bits exclusive-or'ed with those of
+    /// the field's default.
     #[inline(always)]
     pub fn get_data_field_mask<T: Primitive + Zero + Mask>(
         &self,
@@ -189,7 +190,8 @@ impl<'a, A: ReaderArena> StructReader<'a, A> {
         T::mask(self.get_data_field::<T>(offset), mask)
     }
 
-    /// A bit of the data section, counted in bits; false where it doesn't lie in the section.
+    /// Returns a bit of the data section, at an offset in bits; false if the bit isn't in the
+    /// section.
     #[inline(always)]
     pub fn get_bool_field(&self, offset: ElementCount) -> bool
         ensures { let s = seen_struct A.segments self.now in
@@ -198,7 +200,7 @@ impl<'a, A: ReaderArena> StructReader<'a, A> {
         offset / 8 < self.section.len() && bit_of(self.section, offset)
     }
 
-    /// As the getter without a mask, of the bits exclusive or those of the field's default.
+    /// Returns a bit like the getter without a mask, exclusive-or'ed with the field's default.
     #[inline(always)]
     pub fn get_bool_field_mask(&self, offset: ElementCount, mask: bool) -> bool
         ensures { let s = seen_struct A.segments self.now in
@@ -208,7 +210,7 @@ impl<'a, A: ReaderArena> StructReader<'a, A> {
         self.get_bool_field(offset) != mask
     }
 
-    /// A pointer of the pointer section, null past its end.
+    /// Returns a pointer of the pointer section, null past its end.
     #[inline(always)]
     pub fn get_pointer_field(&self, ptr_index: WirePointerCount) -> PointerReader<'a, A>
         ensures { seen_pointer A.segments result
@@ -229,7 +231,7 @@ impl<'a, A: ReaderArena> StructReader<'a, A> {
         }
     }
 
-    /// Whether a pointer of the pointer section is null, as it is past its end.
+    /// Returns whether a pointer of the pointer section is null; past its end pointers are null.
     #[inline(always)]
     pub fn is_pointer_field_null(&self, ptr_index: WirePointerCount) -> bool
         ensures { result
@@ -238,11 +240,12 @@ impl<'a, A: ReaderArena> StructReader<'a, A> {
         self.get_pointer_field(ptr_index).is_null()
     }
 
-    /// The size of the struct: its sections in whole words, the words of the objects behind its
-    /// pointers, and their capabilities. Each count stops at the greatest number of its type. In an
-    /// arena the pointers are followed and paid for; the struct's own words were paid for already.
+    /// Returns the size of the struct: its sections in whole words, the words of the objects that
+    /// its pointers lead to, and their capabilities. Each count stops at the greatest number of its
+    /// type. In an arena the pointers are followed and paid for; the struct's own words were paid
+    /// for before.
     ///
-    /// It is refused, and bounded in time and stack, as the size of a pointer's value is.
+    /// It is refused, and bounded in time and stack, like the size of a pointer's value.
     pub fn total_size(&self, limiter: &mut ReadLimiter) -> Result<MessageSize>
         ensures { StructSizeOf (seen_struct A.segments self.now) limiter.old result limiter.new }
     {
@@ -254,7 +257,7 @@ impl<'a, A: ReaderArena> StructReader<'a, A> {
         Ok(with_words(rows, words + self.pointers as u64))
     }
 
-    /// The size of what the struct's pointers lead to.
+    /// Returns the size of the values of the struct's pointers.
     fn size_of_pointers(&self, limiter: &mut ReadLimiter, levels: u32) -> Result<MessageSize>
         ensures { let v = seen_struct A.segments self.now in let s = v.basis.segments in
             SizeOn v.basis.paid each_object_words each_capability_count

@@ -1,4 +1,4 @@
-//! What callers' types say about themselves.
+//! Traits of callers' types: their sizes, their ids, and how they are read.
 ghost use Rattle.std.specs.Prelude.{◌≡◌, option_copied, Result};
 ghost use Rattle.capnp_units.specs.declared.errors.Error.{Error};
 ghost use Rattle.capnp_units.specs.declared.limiter.ReadLimiter.{ReadLimiter};
@@ -27,12 +27,12 @@ pub trait HasTypeId {
     const TYPE_ID: u64;
 }
 
-/// What a pointer can be read as.
+/// A type as which a pointer can be read.
 pub trait FromPointerReader<'a, A: ReaderArena>: Sized {
-    /// What reading a pointer gives, and what it takes of the budget.
+    /// The result of reading a pointer, and the words that reading takes of the budget.
     ghost reads: { PointerView → ReadLimiter → Result Self Error → ReadLimiter → Type 0 };
 
-    /// Reads a pointer, or the default's root in place of a null pointer.
+    /// Reads a pointer, or the default's root instead of a null pointer.
     fn get_from_pointer(
         reader: &PointerReader<'a, A>,
         limiter: &mut ReadLimiter,
@@ -56,16 +56,17 @@ impl<'a, A: ReaderArena> FromPointerReader<'a, A> for &'a [u8] {
     }
 }
 
-/// A caller's type that is a struct to read, made from one and given up again.
+/// A caller's type that is a struct to read: it is made from the struct and can be turned back into
+/// it.
 pub trait IntoInternalStructReader<'a, A: 'a>: From<StructReader<'a, A>> {
     /// The struct.
     ghost inner_struct: { Self → StructReader A };
 
-    /// Gives the struct up.
+    /// Turns the value back into the struct.
     fn into_internal_struct_reader(self) -> StructReader<'a, A>
         ensures { result ≡ inner_struct self };
 
-    /// What is made from a struct has exactly that one.
+    /// A value that is made from a struct has exactly that struct.
     ghost made: { (s : StructReader A) (r : Self) → Self.from_gives s r → inner_struct r ≡ s };
 }
 
@@ -74,19 +75,19 @@ pub trait IntoInternalListReader<'a, A> {
     /// The list.
     ghost inner_list: { Self → ListReader A };
 
-    /// Gives the list up.
+    /// Turns the value back into the list.
     fn into_internal_list_reader(self) -> ListReader<'a, A>
         ensures { result ≡ inner_list self };
 }
 
-/// A type of pointers' values. What it is built as comes with the builders.
+/// A type of pointers' values. The type as which they are built comes with the builders.
 pub trait Owned<'a, A: ReaderArena> {
-    /// What its values are read as.
+    /// The type as which its values are read.
     type Reader: FromPointerReader<'a, A>;
 }
 
-/// A type of structs. What it is built as comes with the builders.
+/// A type of structs. The type as which they are built comes with the builders.
 pub trait OwnedStruct<'a, A: ReaderArena + 'a> {
-    /// What its structs are read as.
+    /// The type as which its structs are read.
     type Reader: IntoInternalStructReader<'a, A>;
 }
