@@ -1,4 +1,4 @@
-//! Where the segments of a message that is built come from.
+//! The source of the segments of a message that is built.
 ghost use Rattle.std.specs.Prelude.{◌≡◌, ◌≢◌, ◌+◌, ◌*◌, ◌≤◌, ◌++◌, ◌∷◌, [], ℕ, List, length, replicate, IfOk, IfErr, OnErr};
 ghost use Rattle.capnp_copy_arenas.specs.Memory.{AllZero, ZeroFrom, overwritten};
 ghost use Rattle.capnp_units.specs.declared.kinds.ErrorKind.{ErrorKind};
@@ -8,8 +8,7 @@ use capnp_units::errors::Result;
 
 /// The bytes of a segment: owned, or a slice that is lent.
 ///
-/// A lent slice is known by its name in clauses, so that who lent it learns what is in it in the
-/// end.
+/// In clauses a lent slice has a name, so that its lender knows the final bytes of the slice.
 pub trait SegmentBytes {
     /// The bytes.
     ghost bytes: { Self → List ℕ };
@@ -21,13 +20,13 @@ pub trait SegmentBytes {
     fn as_bytes(&self) -> &[u8]
         ensures { result.now ≡ bytes self.now };
 
-    /// Puts bytes in place of as many from a position on.
+    /// Writes bytes over as many bytes from a position on.
     fn write(&mut self, at: usize, from: &[u8])
         requires { at + length from.now ≤ length (bytes self.old) }
         ensures bytes { bytes self.new ≡ overwritten at from.now (bytes self.old) }
         ensures loans { loans self.new ≡ loans self.old };
 
-    /// Puts n zero bytes in place of those from a position on.
+    /// Writes n zero bytes from a position on.
     fn zero(&mut self, at: usize, count: usize)
         requires { at + count ≤ length (bytes self.old) }
         ensures bytes { bytes self.new ≡ overwritten at (replicate count 0) (bytes self.old) }
@@ -41,14 +40,14 @@ pub trait Allocator {
     /// The names of the lent slices that it holds now.
     ghost loans: { Self → List ℕ };
 
-    /// The names of what it borrows and never hands out.
+    /// The names of the memory that it borrows and never hands out.
     ghost place: { Self → List ℕ };
 
-    /// In this state, asked for a segment of n words, it may be refused with this kind.
+    /// The kinds with which, in this state, a request for a segment of n words may be refused.
     ghost refuses: { Self → ℕ → ErrorKind → Type 0 };
 
-    /// A segment of at least n words, all zero. A refusal is as the allocator says, of any kind but
-    /// `SizeOverflow`, and leaves the allocator what it holds.
+    /// Returns a segment of at least n words, all zero. A refusal has a kind that the allocator
+    /// allows, which is any kind except `SizeOverflow`, and leaves the allocator what it holds.
     fn allocate_segment(&mut self, minimum: u32) -> Result<Self::Segment>
         ensures zeros { IfOk result (λ s. AllZero (Self.Segment.bytes s)) }
         ensures room { IfOk result (λ s. 8 * minimum ≤ length (Self.Segment.bytes s)) }
@@ -58,8 +57,8 @@ pub trait Allocator {
         ensures kept { OnErr result (loans self.new ≡ loans self.old) }
         ensures place { place self.new ≡ place self.old };
 
-    /// Takes a segment back, of which n words were used. There is one lent slice at most between
-    /// the two, and the words behind those used are zero.
+    /// Takes a segment back whose first n words were used. The segment and the allocator together
+    /// have at most one lent slice, and the words after the used ones are zero.
     fn deallocate_segment(&mut self, segment: Self::Segment, words_used: u32)
         requires one { length (Self.Segment.loans segment) + length (loans self.old) ≤ 1 }
         requires rest { ZeroFrom (8 * words_used) (Self.Segment.bytes segment) }
@@ -85,7 +84,7 @@ impl<L: Allocator> Allocator for &mut L {
     }
 }
 
-/// Puts bytes into a slice.
+/// Writes bytes into a slice.
 pub fn write_in(to: &mut [u8], at: usize, from: &[u8])
     requires { at + length from.now ≤ length to.old }
     ensures { to.new ≡ overwritten at from.now to.old }
@@ -93,7 +92,7 @@ pub fn write_in(to: &mut [u8], at: usize, from: &[u8])
     to[at..at + from.len()].copy_from_slice(from);
 }
 
-/// Puts zeros into a slice.
+/// Writes zeros into a slice.
 pub fn zero_in(to: &mut [u8], at: usize, count: usize)
     requires { at + count ≤ length to.old }
     ensures { to.new ≡ overwritten at (replicate count 0) to.old }

@@ -18,19 +18,19 @@ use capnp_wire_objects::place::Place;
 /// Segments that can be read and written, and in which words are allocated. All words allocated in
 /// a message are at most 2^29 - 1.
 pub trait BuilderArena: ReaderArena {
-    /// The names of what it borrows: those that stay, then the lent slices.
+    /// The names of the memory that it borrows: those that stay, then the lent slices.
     ghost books: { Self → List (List ℕ) };
 
-    /// The words of each segment that are free, behind those that were allocated.
+    /// The free words of each segment, after the allocated words.
     ghost room: { Self → List ℕ };
 
-    /// In this state, where the last segment has no room for n words, a new one may be refused with
-    /// this kind.
+    /// The kinds with which, in this state, a new segment may be refused if the last segment has no
+    /// room for n words.
     ghost refuses: { Self → ℕ → ErrorKind → Type 0 };
 
-    /// Allocates zero words at the end of a segment, and returns the first one's position. `None`
-    /// exactly where the segment isn't there, has fewer free ones, or the message's words would
-    /// pass 2^29 - 1.
+    /// Allocates zero words at the end of a segment, and returns the position of the first word. It
+    /// returns `None` exactly if the segment doesn't exist, has fewer free words, or the message's
+    /// words would exceed 2^29 - 1.
     fn allocate(&mut self, segment: SegmentId, words: u32) -> Option<u32>
         ensures some { IfSome result
             (AllocatesIn (Self.segments self.old) (Self.segments self.new) segment words) }
@@ -45,9 +45,9 @@ pub trait BuilderArena: ReaderArena {
             ((n : ℕ) (kind : ErrorKind) → refuses self.new n kind → refuses self.old n kind) }
         ensures books { books self.new ≡ books self.old };
 
-    /// Allocates zero words in any segment, which is a new one only where the last has no room. It
-    /// is refused with `SizeOverflow` exactly where the message's words would pass 2^29 - 1, else
-    /// as the allocator refuses; then nothing is allocated.
+    /// Allocates zero words in any segment, which is a new segment only if the last has no room. It
+    /// is refused with `SizeOverflow` exactly if the message's words would exceed 2^29 - 1,
+    /// otherwise with the allocator's error; then nothing is allocated.
     fn allocate_anywhere(&mut self, words: u32) -> Result<(SegmentId, u32)>
         ensures last { IfOk result (λ p.
             IsThereOrNew (Self.segments self.old) (room self.old) words p.0) }
@@ -62,7 +62,7 @@ pub trait BuilderArena: ReaderArena {
             (PassesOrRefused (Self.segments self.old) (refuses self.old) words) }
         ensures books { books self.new ≡ books self.old };
 
-    /// Writes a word in place of the one at a place.
+    /// Writes a word at a place.
     fn write_word(&mut self, place: Place, word: u64)
         requires { is_some (words_at (words_in (Self.segments self.old)) (place_view place) 1)
             ≡ true }
@@ -71,7 +71,7 @@ pub trait BuilderArena: ReaderArena {
         ensures room { room self.new ≡ room self.old }
         ensures books { books self.new ≡ books self.old };
 
-    /// Writes whole words in place of as many from a place on.
+    /// Writes whole words from a place on.
     fn write_words(&mut self, place: Place, words: &[u8])
         requires whole { 8 * (length words.now / 8) ≡ length words.now }
         requires there { is_some (words_at (words_in (Self.segments self.old)) (place_view place)
@@ -82,7 +82,7 @@ pub trait BuilderArena: ReaderArena {
         ensures room { room self.new ≡ room self.old }
         ensures books { books self.new ≡ books self.old };
 
-    /// Writes zeros in place of n words from a place on.
+    /// Writes n words of zeros from a place on.
     fn zero_words(&mut self, place: Place, count: usize)
         requires { is_some (words_at (words_in (Self.segments self.old)) (place_view place) count)
             ≡ true }
@@ -93,7 +93,7 @@ pub trait BuilderArena: ReaderArena {
         ensures books { books self.new ≡ books self.old };
 }
 
-/// What lends itself to every builder handle: a wrapper around an arena.
+/// A wrapper around an arena, which lends itself to every builder handle.
 #[derive(Drop)]
 pub struct Memory<A> {
     pub arena: A,

@@ -5,7 +5,7 @@ ghost use Rattle.capnp_wire.specs.Views.{bit_of_bool};
 
 use capnp_units::primitive::Primitive;
 
-/// The number in n bits of a word.
+/// Returns the number in n bits of a word.
 pub fn bits_in(word: u64, at: u32, width: u32) -> u64
     requires { (at + width ≤ 64) × (0 < width) }
     ensures { result ≡ bits_at at width word }
@@ -16,7 +16,7 @@ pub fn bits_in(word: u64, at: u32, width: u32) -> u64
     (word >> at) % (1 << width)
 }
 
-/// The word after a number is written into n of its bits.
+/// Returns a word after a number is written into n of its bits.
 pub fn word_with(word: u64, at: u32, width: u32, value: u64) -> u64
     requires within { (at + width ≤ 64) × (0 < width) }
     requires fits { value < 2 ^ width }
@@ -31,14 +31,14 @@ pub fn word_with(word: u64, at: u32, width: u32, value: u64) -> u64
     (((high << width) + value) << at) + low
 }
 
-/// The bit of a truth value.
+/// Returns the bit of a truth value.
 pub fn bit_of(value: bool) -> u64
     ensures { result ≡ bit_of_bool value }
 {
     if value { 1 } else { 0 }
 }
 
-/// The bits of a number, as a word.
+/// Returns the bits of a number, as a word.
 pub fn bits_of<T: Primitive>(value: T) -> u64
     ensures bits { result ≡ T.bits value }
     ensures fits { result < 2 ^ (8 * T.BYTES) }
@@ -49,7 +49,7 @@ pub fn bits_of<T: Primitive>(value: T) -> u64
     u64::get(&bytes)
 }
 
-/// The number that has the lowest bits of a word.
+/// Returns the number that has the lowest bits of a word.
 pub fn number_in<T: Primitive>(word: u64) -> T
     ensures { result ≡ T.from_bits (bits_at 0 (8 * T.BYTES) word) }
 {

@@ -1,4 +1,4 @@
-//! Texts and data in place of other values.
+//! Texts and data that replace other values.
 ghost use Rattle.std.specs.Prelude.{◌≡◌, ◌+◌, ◌*◌, ◌/◌, ◌<◌, ◌≤◌, ◌^◌, true, length};
 ghost use Rattle.std.specs.Option.{is_some};
 ghost use Rattle.capnp_model.specs.Sections.{number_of};
@@ -20,7 +20,7 @@ use capnp_units::primitive::Primitive;
 use capnp_units::sizes::ElementSize;
 use capnp_wire_objects::place::Place;
 
-/// The word of fewer than eight bytes; what they lack is zero.
+/// Returns the word of fewer than eight bytes; the missing bytes are zero.
 fn last_word(rest: &[u8]) -> u64
     requires { length rest.now < 8 }
     ensures { result ≡ number_of 8 rest.now }
@@ -30,7 +30,7 @@ fn last_word(rest: &[u8]) -> u64
     u64::get(&last)
 }
 
-/// Writes bytes in place of n words, which they fill but for the last; what they lack of that one
+/// Writes bytes over n words, which they fill except for the last; the rest of the last word
 /// becomes zero.
 #[inline(always)]
 pub fn write_bytes<A: BuilderArena>(arena: &mut A, start: Place, words: usize, bytes: &[u8])
@@ -54,8 +54,8 @@ pub fn write_bytes<A: BuilderArena>(arena: &mut A, start: Place, words: usize, b
     }
 }
 
-/// Puts a list of n bytes in place of the value of the pointer at a place, which is cleared: these,
-/// and at most one zero byte behind them.
+/// Replaces the value of the pointer at a place, which is cleared, by a list of n bytes: these
+/// bytes, and at most one zero byte after them.
 #[inline(always)]
 fn set_bytes<A: BuilderArena>(arena: &mut A, slot: Place, bytes: &[u8], count: u32) -> Result<()>
     requires there { is_some (words_at (words_in (A.segments arena.old)) (place_view slot) 1)
@@ -72,12 +72,12 @@ fn set_bytes<A: BuilderArena>(arena: &mut A, slot: Place, bytes: &[u8], count: u
     Ok(())
 }
 
-/// Puts data in place of the value of the pointer at a place, which is cleared.
+/// Replaces the value of the pointer at a place, which is cleared, by data.
 ///
-/// It is refused, and all stands as it was,
-/// - with `SizeOverflow` exactly where the bytes or the message's words, a pad counted, would pass
+/// It is refused, and everything is unchanged,
+/// - with `SizeOverflow` exactly if the bytes or the message's words, including a pad, would exceed
 ///   2^29 - 1;
-/// - else as the allocator refuses.
+/// - otherwise with the allocator's error.
 pub fn set_data<A: BuilderArena>(arena: &mut A, slot: Place, bytes: &[u8]) -> Result<()>
     requires there { is_some (words_at (words_in (A.segments arena.old)) (place_view slot) 1)
         ≡ true }
@@ -92,13 +92,13 @@ pub fn set_data<A: BuilderArena>(arena: &mut A, slot: Place, bytes: &[u8]) -> Re
     set_bytes(arena, slot, bytes, bytes.len() as u32)
 }
 
-/// Puts a text in place of the value of the pointer at a place, which is cleared: its bytes, and a
-/// zero byte behind them.
+/// Replaces the value of the pointer at a place, which is cleared, by a text: its bytes, followed
+/// by a zero byte.
 ///
-/// It is refused, and all stands as it was,
-/// - with `SizeOverflow` exactly where the bytes with the zero byte or the message's words, a pad
-///   counted, would pass 2^29 - 1;
-/// - else as the allocator refuses.
+/// It is refused, and everything is unchanged,
+/// - with `SizeOverflow` exactly if the bytes with the zero byte, or the message's words, including
+///   a pad, would exceed 2^29 - 1;
+/// - otherwise with the allocator's error.
 #[inline(always)]
 pub fn set_text<A: BuilderArena>(arena: &mut A, slot: Place, text: &[u8]) -> Result<()>
     requires there { is_some (words_at (words_in (A.segments arena.old)) (place_view slot) 1)

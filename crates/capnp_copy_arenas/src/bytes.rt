@@ -12,15 +12,15 @@ use capnp_wire::backing::Backing;
 use capnp_wire_objects::arena::ReaderArena;
 use capnp_wire_objects::place::{Place, has_words, word_at};
 
-/// Where the bytes of a text or of data lie: their first word, and how many there are, a text's
-/// zero byte not counted.
+/// The place of the bytes of a text or of data: their first word and their number, without a text's
+/// zero byte.
 #[derive(Clone, Copy, Debug, PartialEq, Eq)]
 pub struct BlobPlace {
     pub start: Place,
     pub count: u32,
 }
 
-/// n bytes at the front of others.
+/// Returns the first n bytes.
 fn front_of(bytes: &[u8], count: usize) -> &[u8]
     requires { count ≤ length bytes.now }
     ensures { result.now ≡ numbers_in 8 count (number_of 8 bytes.now) }
@@ -28,7 +28,7 @@ fn front_of(bytes: &[u8], count: usize) -> &[u8]
     &bytes[..count]
 }
 
-/// The bytes there, lent in place; `None` where their words aren't there.
+/// Returns the bytes at a place, lent in place; `None` if their words don't exist.
 pub fn get_bytes<A: ReaderArena>(arena: &A, blob: BlobPlace) -> &[u8]
     ensures has { HasBytes (words_in (A.segments arena.now)) blob result.now }
     ensures lent { result.now ≡ bytes_lent (words_in (A.segments arena.now)) blob }
@@ -41,7 +41,7 @@ pub fn get_bytes<A: ReaderArena>(arena: &A, blob: BlobPlace) -> &[u8]
     front_of(bytes, blob.count as usize)
 }
 
-/// The number of eight bytes at most, the first the lowest.
+/// Returns the number of at most eight bytes, the lowest byte first.
 fn number_in_bytes(bytes: &[u8]) -> u64
     requires { length bytes.now ≤ 8 }
     ensures { result ≡ number_of 8 bytes.now }
@@ -51,7 +51,7 @@ fn number_in_bytes(bytes: &[u8]) -> u64
     u64::get(&all)
 }
 
-/// Writes bytes in place of as many from one on, which lie in one word.
+/// Writes bytes over as many bytes from an index on, which are in one word.
 fn set_in_word<A: BuilderArena>(arena: &mut A, start: Place, at: usize, bytes: &[u8])
     requires near { start.position < 2 ^ 61 }
     requires few { at < 2 ^ 61 }
@@ -76,7 +76,7 @@ fn set_in_word<A: BuilderArena>(arena: &mut A, start: Place, at: usize, bytes: &
     }
 }
 
-/// Writes the bytes of whole words in place of as many.
+/// Writes the bytes of whole words over as many bytes.
 fn set_words<A: BuilderArena>(arena: &mut A, start: Place, at: usize, bytes: &[u8])
     requires near { start.position < 2 ^ 61 }
     requires few { at < 2 ^ 61 }
@@ -96,7 +96,7 @@ fn set_words<A: BuilderArena>(arena: &mut A, start: Place, at: usize, bytes: &[u
     }
 }
 
-/// Writes bytes in place of as many from the front of a word on.
+/// Writes bytes over as many bytes from the front of a word on.
 fn set_from_word<A: BuilderArena>(arena: &mut A, start: Place, at: usize, bytes: &[u8])
     requires near { start.position < 2 ^ 61 }
     requires few { at + length bytes.now < 2 ^ 61 }
@@ -112,8 +112,8 @@ fn set_from_word<A: BuilderArena>(arena: &mut A, start: Place, at: usize, bytes:
     set_in_word(arena, start, at + whole, &bytes[whole..]);
 }
 
-/// Writes bytes in place of as many of those there, from one on, and returns where they end. The
-/// bytes of whole words are written at once.
+/// Writes bytes over as many of those at the place, from an index on, and returns the index after
+/// them. The bytes of whole words are written at once.
 pub fn set_bytes<A: BuilderArena>(arena: &mut A, blob: BlobPlace, at: usize, bytes: &[u8]) -> usize
     requires near { blob.start.position < 2 ^ 61 }
     requires inside { at + length bytes.now ≤ blob.count }
@@ -136,7 +136,7 @@ pub fn set_bytes<A: BuilderArena>(arena: &mut A, blob: BlobPlace, at: usize, byt
     end
 }
 
-/// Writes zeros in place of the bytes of n words, the first.
+/// Writes zeros over the bytes of the first n words.
 fn zero_front<A: BuilderArena>(arena: &mut A, start: Place, words: usize)
     ensures sets { SetsBytes (words_in (A.segments arena.old)) (words_in (A.segments arena.new))
         start 0 (replicate (8 * words) 0) }
@@ -149,7 +149,7 @@ fn zero_front<A: BuilderArena>(arena: &mut A, start: Place, words: usize)
     }
 }
 
-/// Writes zeros in place of the bytes there.
+/// Writes zeros over the bytes at the place.
 pub fn zero_bytes<A: BuilderArena>(arena: &mut A, blob: BlobPlace)
     requires { blob.start.position < 2 ^ 61 }
     ensures sets { SetsBytes (words_in (A.segments arena.old)) (words_in (A.segments arena.new))

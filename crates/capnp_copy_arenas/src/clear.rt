@@ -1,4 +1,4 @@
-//! Values that are cleared: their pointer becomes null, and all words that they took become zero.
+//! Clearing of values: their pointer becomes null, and all words that they took become zero.
 ghost use Rattle.std.specs.Prelude.{◌≡◌, ◌+◌, ◌*◌, ◌<◌, ◌≤◌, ◌^◌, ◌∷◌, [], ℕ, length, map, unwrap_or};
 ghost use Rattle.capnp_model.specs.Segments.{word_at};
 ghost use Rattle.capnp_model.specs.Pointers.{a_list};
@@ -15,7 +15,7 @@ use capnp_wire_objects::named::{NamedObject, found_at};
 use capnp_wire_objects::object::{Object, whole, words_of_elements};
 use capnp_wire_objects::place::{Place, has_words, place_in_word, word_at};
 
-/// Writes zeros over n words from a place on, where they are there.
+/// Writes zeros over n words from a place on, if the words exist.
 fn zero_there<A: BuilderArena>(arena: &mut A, place: Place, count: usize)
     ensures words { words_in (A.segments arena.new)
         ≡ zeroed_there (words_in (A.segments arena.old)) (place_view place) count }
@@ -47,7 +47,7 @@ fn clear_plain<A: BuilderArena>(arena: &mut A, start: Place, size: ElementSize, 
     zero_there(arena, start, words);
 }
 
-/// Writes null over a pointer that isn't.
+/// Writes null over a pointer that isn't null.
 fn write_null<A: BuilderArena>(arena: &mut A, slot: Place)
     requires { 0 < unwrap_or (word_at (words_in (A.segments arena.old)) (place_view slot)) 0 }
     ensures words { words_in (A.segments arena.new)
@@ -62,12 +62,13 @@ fn write_null<A: BuilderArena>(arena: &mut A, slot: Place)
     arena.write_word(slot, 0);
 }
 
-/// Clears the pointer at a place: it becomes null, and all words of its value become zero, with
-/// those of its pads and of all values in it. Nothing else changes, and nothing is allocated.
+/// Clears the pointer at a place: the pointer becomes null, and all words of its value become zero,
+/// including those of its pads and of all values in it. Nothing else changes, and nothing is
+/// allocated.
 ///
 /// It takes a step for each pointer that isn't null, and for each pointer of the objects on the
-/// way. Lists of plain elements and of structs without pointers take one, whatever they count. Each
-/// level of pointers takes stack.
+/// way. A list of plain elements or of structs without pointers takes one step, whatever its
+/// length. Each level of pointers takes stack.
 #[cycle(clear)]
 #[inline(always)]
 pub fn clear<A: BuilderArena>(arena: &mut A, slot: Place)
@@ -110,8 +111,8 @@ fn clear_there<A: BuilderArena>(arena: &mut A, slot: Place, word: u64)
     }
 }
 
-/// Clears what an object's pointers name, and then the object's own words. No pointer needs to name
-/// the object.
+/// Clears the values of an object's pointers, and then the object's own words. The object may have
+/// no pointer that names it.
 #[cycle(clear)]
 pub fn clear_object<A: BuilderArena>(arena: &mut A, object: NamedObject)
     ensures clears { ClearsObject (words_in (A.segments arena.old))
@@ -138,7 +139,7 @@ pub fn clear_object<A: BuilderArena>(arena: &mut A, object: NamedObject)
     }
 }
 
-/// Clears what a list's pointers name, and then the list's own words.
+/// Clears the values of a list's pointers, and then the list's own words.
 #[cycle(clear)]
 fn clear_list<A: BuilderArena>(arena: &mut A, start: Place, size: ElementSize, count: u32)
     ensures clears { ClearsObject (words_in (A.segments arena.old))
@@ -168,7 +169,7 @@ fn clear_list<A: BuilderArena>(arena: &mut A, start: Place, size: ElementSize, c
     }
 }
 
-/// Clears the pointers of a struct, where its words are there.
+/// Clears the pointers of a struct, if its words exist.
 #[cycle(clear)]
 fn clear_kids<A: BuilderArena>(arena: &mut A, start: Place, data_words: u16, pointers: u32)
     ensures clears { ClearsKids (words_in (A.segments arena.old))
@@ -195,8 +196,8 @@ fn clear_kids<A: BuilderArena>(arena: &mut A, start: Place, data_words: u16, poi
     }
 }
 
-/// Clears the pointers of a list's structs, where the list is there. The list begins at its tag,
-/// and its pointer claims n words behind it.
+/// Clears the pointers of a list's structs, if the list exists. The list begins at its tag, and its
+/// pointer claims n words after the tag.
 #[cycle(clear)]
 fn clear_elements<A: BuilderArena>(arena: &mut A, start: Place, words: u32)
     ensures clears { ClearsElements (words_in (A.segments arena.old))

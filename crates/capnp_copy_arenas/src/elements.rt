@@ -13,7 +13,7 @@ use capnp_units::sizes::{ElementSize, data_bits_per_element};
 use capnp_wire_objects::arena::ReaderArena;
 use capnp_wire_objects::place::{Place, word_at};
 
-/// Where the first element of a list begins: behind the tag, where the elements are structs.
+/// Returns the place of the first element of a list: after the tag if the elements are structs.
 pub fn first_element(list: ListPlace) -> Place
     requires { list.start.position < 2 ^ 61 }
     ensures { place_view result ≡ first_element list }
@@ -28,7 +28,7 @@ pub fn first_element(list: ListPlace) -> Place
     }
 }
 
-/// The first bit of an element of a list of plain elements.
+/// Returns the first bit of an element of a list of plain elements.
 fn bit_of_element(list: ListPlace, index: u32, width: u32) -> usize
     requires inside { IsInElement list index width }
     ensures at { result ≡ size_bits (size_number list.size) * index }
@@ -39,7 +39,8 @@ fn bit_of_element(list: ListPlace, index: u32, width: u32) -> usize
     data_bits_per_element(list.size) as usize * index as usize
 }
 
-/// n bits at the front of an element of a list of plain elements. The element has as many.
+/// Returns n bits at the front of an element of a list of plain elements. The element has at least
+/// n bits.
 pub fn get_element<A: ReaderArena>(arena: &A, list: ListPlace, index: u32, width: u32) -> u64
     requires near { list.start.position < 2 ^ 61 }
     requires inside { IsInElement list index width }
@@ -60,7 +61,8 @@ pub fn get_element<A: ReaderArena>(arena: &A, list: ListPlace, index: u32, width
     }
 }
 
-/// Writes n bits at the front of an element of a list of plain elements. The element has as many.
+/// Writes n bits at the front of an element of a list of plain elements. The element has at least n
+/// bits.
 pub fn set_element<A: BuilderArena>(
     arena: &mut A,
     list: ListPlace,

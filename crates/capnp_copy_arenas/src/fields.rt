@@ -11,7 +11,7 @@ use crate::bits::{bits_in, word_with};
 use capnp_wire_objects::arena::ReaderArena;
 use capnp_wire_objects::place::{Place, word_at};
 
-/// Where a struct lies: its first word, its data words, and its pointers behind them.
+/// The place of a struct: its first word, its data words, and the pointers after them.
 #[derive(Clone, Copy, Debug, PartialEq, Eq)]
 pub struct StructPlace {
     pub start: Place,
@@ -19,8 +19,8 @@ pub struct StructPlace {
     pub pointers: u16,
 }
 
-/// The first bit of a number that is counted in its own width, where it lies in a data section of n
-/// words.
+/// Returns the first bit of a number at an offset in units of its width, if the number is in a data
+/// section of n words.
 pub fn bit_at(bytes: usize, offset: usize, data_words: u16) -> usize
     requires { bytes * offset + bytes ≤ 8 * data_words }
     ensures { result ≡ 8 * (bytes * offset) }
@@ -28,7 +28,7 @@ pub fn bit_at(bytes: usize, offset: usize, data_words: u16) -> usize
     8 * (bytes * offset)
 }
 
-/// n bits of a struct's data section, which lie in one word of it.
+/// Returns n bits of a struct's data section, which are in one of its words.
 pub fn get_bits<A: ReaderArena>(arena: &A, object: StructPlace, at: usize, width: u32) -> u64
     requires near { object.start.position < 2 ^ 61 }
     requires inside { AreInWord object at width }
@@ -44,7 +44,7 @@ pub fn get_bits<A: ReaderArena>(arena: &A, object: StructPlace, at: usize, width
     }
 }
 
-/// Writes n bits of a struct's data section, which lie in one word of it.
+/// Writes n bits of a struct's data section, which are in one of its words.
 pub fn set_bits<A: BuilderArena>(
     arena: &mut A,
     object: StructPlace,

@@ -1,4 +1,4 @@
-//! Words used and written in one of the segments that are held.
+//! Using and writing of words in one of the segments that are held.
 ghost use Rattle.std.specs.Prelude.{◌≡◌, ◌+◌, ◌-◌, ◌*◌, ◌/◌, ◌<◌, ◌≤◌, length, map, take, get_or, slice_get, option_copied, replicate, true, OnSome, IfSome, IfNone};
 ghost use Rattle.std.specs.Option.{is_some};
 ghost use Rattle.capnp_model.specs.Bytes.{words_in_bytes};
@@ -13,7 +13,7 @@ use crate::held::Held;
 use capnp_units::sizes::SegmentId;
 use capnp_wire_objects::place::Place;
 
-/// Uses n words more of a segment, where it is there and has as many, and returns the position of
+/// Uses n more words of a segment, if it exists and has as many free, and returns the position of
 /// the first.
 #[tactic(auto, using(crate::proofs::HeldWords::flat_map_set_same))]
 pub(crate) fn grow_in<S: SegmentBytes>(all: &mut [Held<S>], index: usize, words: u32) -> Option<u32>
@@ -35,7 +35,7 @@ pub(crate) fn grow_in<S: SegmentBytes>(all: &mut [Held<S>], index: usize, words:
     all[index].grow(words)
 }
 
-/// Writes whole words in place of used ones.
+/// Writes whole words over used words.
 #[tactic(auto, using(crate::proofs::HeldWords::flat_map_set_same))]
 pub(crate) fn write_in_segment<S: SegmentBytes>(all: &mut [Held<S>], place: Place, from: &[u8])
     requires whole { 8 * (length from.now / 8) ≡ length from.now }
@@ -55,7 +55,7 @@ pub(crate) fn write_in_segment<S: SegmentBytes>(all: &mut [Held<S>], place: Plac
     }
 }
 
-/// Writes zeros in place of used words.
+/// Writes zeros over used words.
 #[tactic(auto, using(crate::proofs::HeldWords::flat_map_set_same))]
 pub(crate) fn zero_in_segment<S: SegmentBytes>(all: &mut [Held<S>], place: Place, count: usize)
     requires there { is_some (words_at (held_words all.old)
@@ -74,7 +74,7 @@ pub(crate) fn zero_in_segment<S: SegmentBytes>(all: &mut [Held<S>], place: Place
     }
 }
 
-/// The used bytes of a segment, or none past the last.
+/// Returns the used bytes of a segment, or `None` past the last segment.
 pub(crate) fn used_bytes_at<S: SegmentBytes>(all: &[Held<S>], id: SegmentId) -> Option<&[u8]>
     ensures { option_copied result
         ≡ slice_get (map (λ h. take (8 * h.used) (S.bytes h.segment)) all.now) id }

@@ -1,10 +1,10 @@
-//! Segments that an arena holds, and how much of each is used.
+//! Segments that an arena holds, with the number of used words of each.
 ghost use Rattle.std.specs.Prelude.{◌≡◌, ◌⊎◌, ◌+◌, ◌*◌, ◌/◌, ◌<◌, ◌≤◌, ◌^◌, ℕ, List, length, take, replicate, IfSome, IfNone};
 ghost use Rattle.capnp_copy_arenas.specs.Memory.{AllZero, ZeroFrom, overwritten};
 
 use crate::allocator::SegmentBytes;
 
-/// A segment, of whose words n are used, from the first on. Behind them all is zero.
+/// A segment whose first n words are used. All later words are zero.
 #[derive(Drop)]
 pub struct Held<S: SegmentBytes> {
     pub segment: S,
@@ -14,7 +14,7 @@ pub struct Held<S: SegmentBytes> {
 }
 
 impl<S: SegmentBytes> Held<S> {
-    /// A segment whose first words are used; all its bytes are zero.
+    /// Makes a segment whose first words are used; all its bytes are zero.
     #[tactic(auto, using(crate::proofs::Zeros::zero_from_all))]
     pub fn new(segment: S, used: u32) -> Self
         requires inside { 8 * used ≤ length (S.bytes segment) }
@@ -25,7 +25,7 @@ impl<S: SegmentBytes> Held<S> {
         Held { segment, used }
     }
 
-    /// The used bytes.
+    /// Returns the used bytes.
     pub fn used_bytes(&self) -> &[u8]
         ensures { result.now ≡ take (8 * self.now.used) (S.bytes self.now.segment) }
     {
@@ -34,7 +34,7 @@ impl<S: SegmentBytes> Held<S> {
         &segment.as_bytes()[..used]
     }
 
-    /// Uses n words more, where there are as many, and returns the position of the first.
+    /// Uses n more words, if as many are free, and returns the position of the first.
     #[tactic(auto, using(crate::proofs::Zeros::zero_from_more))]
     pub fn grow(&mut self, words: u32) -> Option<u32>
         ensures some { IfSome result (λ at.
@@ -60,7 +60,7 @@ impl<S: SegmentBytes> Held<S> {
         Some(used)
     }
 
-    /// Writes whole words in place of used ones, from a position on.
+    /// Writes whole words over used words, from a position on.
     #[tactic(auto, using(crate::proofs::Zeros::zero_behind, crate::proofs::Zeros::overwritten_length))]
     pub fn write(&mut self, position: usize, from: &[u8])
         requires { 8 * position + length from.now ≤ 8 * self.old.used }
@@ -73,7 +73,7 @@ impl<S: SegmentBytes> Held<S> {
         segment.write(8 * position, from);
     }
 
-    /// Writes zeros in place of n used words.
+    /// Writes zeros over n used words.
     #[tactic(auto, using(crate::proofs::Zeros::zero_behind, crate::proofs::Zeros::overwritten_length))]
     pub fn zero(&mut self, position: usize, count: usize)
         requires { position + count ≤ self.old.used }

@@ -1,4 +1,4 @@
-//! New values of zeros and nulls in place of others.
+//! New values of zeros and nulls that replace others.
 ghost use Rattle.std.specs.Prelude.{◌≡◌, ◌+◌, ◌-◌, ◌<◌, ◌≤◌, ◌^◌, true};
 ghost use Rattle.std.specs.Option.{is_some};
 ghost use Rattle.capnp_model.specs.Segments.{words_at};
@@ -21,11 +21,11 @@ use capnp_units::sizes::{ElementSize, StructSize};
 use capnp_wire_objects::object::words_of_elements;
 use capnp_wire_objects::place::Place;
 
-/// Where a list lies.
+/// The place of a list.
 /// - `start`: its first element, or the tag of structs;
 /// - `size`: the size of an element;
-/// - `claimed`: what the pointer counts, which is the elements, or the words of structs;
-/// - `count`: how many elements there are;
+/// - `claimed`: the count in the pointer, which is of the elements, or of the words of structs;
+/// - `count`: the number of elements;
 /// - `data_words`, `pointers`: the two sections of each struct, in words.
 #[derive(Clone, Copy, Debug, PartialEq, Eq)]
 pub struct ListPlace {
@@ -37,14 +37,15 @@ pub struct ListPlace {
     pub pointers: u16,
 }
 
-/// Puts an object of n zero words in place of the value of the pointer at a place, which is
-/// cleared, and returns where the object begins. The new pointer's word is told with offset 0.
+/// Replaces the value of the pointer at a place, which is cleared, by an object of n zero words,
+/// and returns the place at which the object begins. The caller gives the new pointer's word with
+/// offset 0.
 ///
-/// It is inlined, with the functions of `room`: a caller's sizes are constants most often.
+/// It is inlined, like the functions of `room`: the sizes of a caller are mostly constants.
 ///
-/// It is refused, and all stands as it was,
-/// - with `SizeOverflow` exactly where the message's words would pass 2^29 - 1 with a pad counted;
-/// - else as the allocator refuses.
+/// It is refused, and everything is unchanged,
+/// - with `SizeOverflow` exactly if the message's words, including a pad, would exceed 2^29 - 1;
+/// - otherwise with the allocator's error.
 #[inline(always)]
 fn init_zeros<A: BuilderArena>(
     arena: &mut A,
@@ -67,12 +68,11 @@ fn init_zeros<A: BuilderArena>(
     Ok(begin_of(slot, room))
 }
 
-/// Puts a struct of zeros and nulls in place of the value of the pointer at a place, which is
-/// cleared.
+/// Replaces the value of the pointer at a place, which is cleared, by a struct of zeros and nulls.
 ///
-/// It is refused, and all stands as it was,
-/// - with `SizeOverflow` exactly where the message's words would pass 2^29 - 1 with a pad counted;
-/// - else as the allocator refuses.
+/// It is refused, and everything is unchanged,
+/// - with `SizeOverflow` exactly if the message's words, including a pad, would exceed 2^29 - 1;
+/// - otherwise with the allocator's error.
 #[inline(always)]
 pub fn init_struct<A: BuilderArena>(
     arena: &mut A,
@@ -94,7 +94,7 @@ pub fn init_struct<A: BuilderArena>(
     })
 }
 
-/// The words of n elements, plain ones or pointers.
+/// Returns the number of words of n elements, which are plain or pointers.
 fn words_of(size: ElementSize, count: u32) -> u32
     requires plain { size_number size < 7 }
     requires few { count < 2 ^ 29 }
@@ -108,13 +108,13 @@ fn words_of(size: ElementSize, count: u32) -> u32
     }
 }
 
-/// Puts a list of zeros, or of nulls, in place of the value of the pointer at a place, which is
-/// cleared. The elements are plain ones or pointers.
+/// Replaces the value of the pointer at a place, which is cleared, by a list of zeros or of nulls.
+/// The elements are plain or pointers.
 ///
-/// It is refused, and all stands as it was,
-/// - with `SizeOverflow` exactly where the count or the message's words, a pad counted, would pass
+/// It is refused, and everything is unchanged,
+/// - with `SizeOverflow` exactly if the count or the message's words, including a pad, would exceed
 ///   2^29 - 1;
-/// - else as the allocator refuses.
+/// - otherwise with the allocator's error.
 #[inline(always)]
 pub fn init_list<A: BuilderArena>(
     arena: &mut A,

@@ -9,8 +9,8 @@ ghost use Rattle.capnp_model_writes.specs.Changes.{Replaces, ReplacesObject};
 
 use capnp_model_writes::laws::{children_of_structs, objects_of_pointers};
 
-/// What is done to the object of a struct's pointer is done to the value that the pointer to the
-/// struct has, whether near or far.
+/// A change to the object of a struct's pointer is the same change to the value of the pointer to
+/// the struct, whether that pointer is near or far.
 pub fn changes_two_pointers_deep()
     ensures { (n : ℕ) (s u : Segments) (p q : Place) (pads d k i w section : ℕ) (kids : Trees)
         (inner : Found) (v : Tree)
@@ -23,13 +23,13 @@ pub fn changes_two_pointers_deep()
     children_of_structs();
 }
 
-/// What is there stays there where no segment changes its length.
+/// Words that exist remain if no segment changes its length.
 pub fn words_that_stay()
     ensures { (s u : Segments) (p : Place) (n : ℕ) → map length u ≡ map length s
         → is_some (words_at s p n) ≡ true → is_some (words_at u p n) ≡ true }
 {}
 
-/// Where words are there, those of a part are.
+/// If words exist, those of a part exist.
 pub fn words_in_part()
     ensures behind { (s : Segments) (p : Place) (i n m : ℕ) → i + n ≤ m
         → is_some (words_at s p m) ≡ true → is_some (words_at s (after p i) n) ≡ true }

@@ -1,5 +1,5 @@
-//! What builders stand on: segments that an allocator hands out and takes back, arenas in which
-//! words are allocated and written, and places where values are made and cleared.
+//! The foundation of builders: segments that an allocator hands out and takes back, arenas in which
+//! words are allocated and written, and places at which values are made and cleared.
 #![tactic(auto)]
 
 pub mod allocator;

@@ -14,33 +14,33 @@ use capnp_units::errors::Result;
 use capnp_units::sizes::{ElementSize, StructSize};
 use capnp_wire_objects::place::Place;
 
-/// Where the upper half of a pointer word begins, 32 bits up.
+/// The beginning of the upper half of a pointer word, 32 bits up.
 const UPPER_HALF: u64 = 0x1_0000_0000;
-/// Where the pointers of a struct are counted, 48 bits up.
+/// The unit of a struct pointer's count of pointers, 48 bits up.
 const POINTERS: u64 = 0x1_0000_0000_0000;
-/// Where the elements of a list are counted, 35 bits up.
+/// The unit of a list pointer's count of elements, 35 bits up.
 const ELEMENTS: u64 = 0x8_0000_0000;
-/// The offset -1, by thirty bits.
+/// The offset -1, in thirty bits.
 const IN_FRONT: u64 = 0x3fff_ffff;
-/// What an offset counts in: it stands two bits up.
+/// The unit of an offset, two bits up.
 const OFFSET: u64 = 4;
 /// The kind of a far pointer to a pad of one word.
 const FAR: u64 = 2;
-/// Where a pad's position stands, three bits up.
+/// The unit of a pad's position, three bits up.
 const PAD_POSITION: u64 = 8;
 
-/// Where an object lies that a pointer will name.
+/// The place of an object that a pointer will name, relative to the pointer.
 #[derive(Clone, Copy, Debug, PartialEq, Eq)]
 pub enum Room {
     /// At the pointer itself: the object has no words.
     Here,
-    /// In the pointer's segment, n words behind the pointer's end.
+    /// In the pointer's segment, n words after the pointer's end.
     Near { offset: u32 },
-    /// Behind a pad of one word, in any segment.
+    /// After a pad of one word, in any segment.
     Far { pad: Place },
 }
 
-/// The word of a pointer to a struct of a size, with offset 0.
+/// Returns the word of a pointer to a struct of a size, with offset 0.
 pub fn struct_word(size: StructSize) -> u64
     ensures word { result ≡ struct_pointer 0 size.data_words size.pointers }
     ensures offset { result < 2 ^ 64 - 2 ^ 32 + 4 }
@@ -49,7 +49,7 @@ pub fn struct_word(size: StructSize) -> u64
     size.data_words as u64 * UPPER_HALF + size.pointers as u64 * POINTERS
 }
 
-/// The word of a pointer to a list, with offset 0.
+/// Returns the word of a pointer to a list, with offset 0.
 pub fn list_word(size: ElementSize, count: u32) -> u64
     requires { count < 2 ^ 29 }
     ensures word { result ≡ list_pointer 0 (size_number size) count }
@@ -58,14 +58,14 @@ pub fn list_word(size: ElementSize, count: u32) -> u64
     1 + size.number() * UPPER_HALF + count as u64 * ELEMENTS
 }
 
-/// Allocates words for an object that the pointer at a place will name. They lie in the pointer's
-/// segment where that has room for them, else behind a pad of one word in any segment, which may be
-/// a new one. An object without words takes none. Nothing is written.
+/// Allocates words for an object that the pointer at a place will name. The words are in the
+/// pointer's segment if it has room for them, otherwise after a pad of one word in any segment,
+/// which may be new. An object without words takes no words. Nothing is written.
 ///
-/// It is refused with `SizeOverflow` exactly where the message's words would pass 2^29 - 1, the pad
-/// counted, else as the allocator refuses the words and a pad. The allocator is asked only where
-/// neither the pointer's segment has room for the words nor the last for these and a pad. After a
-/// refusal nothing is allocated.
+/// It is refused with `SizeOverflow` exactly if the message's words, including the pad, would
+/// exceed 2^29 - 1, otherwise with the allocator's error for the words and a pad. The allocator is
+/// only asked if the pointer's segment has no room for the words and the last segment has no room
+/// for the words and a pad. After a refusal nothing is allocated.
 #[inline(always)]
 pub fn allocate_near<A: BuilderArena>(arena: &mut A, slot: Place, words: u32) -> Result<Room>
     requires there { is_some (word_at (words_in (A.segments arena.old)) (place_view slot)) ≡ true }
@@ -96,7 +96,7 @@ pub fn allocate_near<A: BuilderArena>(arena: &mut A, slot: Place, words: u32) ->
     Ok(Room::Far { pad })
 }
 
-/// Where the object begins that the pointer at a place names.
+/// Returns the place at which the object begins that the pointer at a place names.
 #[inline(always)]
 pub fn begin_of(slot: Place, room: Room) -> Place
     requires slot { slot.position < 2 ^ 61 }
@@ -116,7 +116,7 @@ pub fn begin_of(slot: Place, room: Room) -> Place
     }
 }
 
-/// The word of a pointer in its slot: that of a far pointer where the object lies behind a pad.
+/// Returns the word of a pointer in its slot: a far pointer if the object is after a pad.
 #[inline(always)]
 fn slot_word(room: Room, pointer: u64) -> u64
     requires room { IsAddressed room }
@@ -132,7 +132,7 @@ fn slot_word(room: Room, pointer: u64) -> u64
     }
 }
 
-/// Writes the pad, where there is one.
+/// Writes the pad, if there is one.
 fn write_pad<A: BuilderArena>(arena: &mut A, room: Room, pointer: u64)
     requires { HasPad (words_in (A.segments arena.old)) room }
     ensures words { words_in (A.segments arena.new)
@@ -145,7 +145,8 @@ fn write_pad<A: BuilderArena>(arena: &mut A, room: Room, pointer: u64)
     }
 }
 
-/// Writes the pad, where there is one, and then the pointer, whose word is told with offset 0.
+/// Writes the pad, if there is one, and then the pointer, whose word the caller gives with offset
+/// 0.
 #[inline(always)]
 pub fn link<A: BuilderArena>(arena: &mut A, slot: Place, room: Room, pointer: u64)
     requires slot { is_some (words_at (words_in (A.segments arena.old)) (place_view slot) 1)

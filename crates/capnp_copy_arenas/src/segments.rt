@@ -18,10 +18,11 @@ use capnp_wire_objects::arena::ReaderArena;
 use capnp_wire_objects::place::Place;
 use std::alloc::Global;
 
-/// Segments that an allocator handed out. Words are allocated one behind the other in each; those
-/// alone are read.
+/// Segments that an allocator handed out. In each segment words are allocated one after the other,
+/// and only allocated words are read.
 ///
-/// It is no value that may be dropped: it ends by `into_allocator`, which gives every segment back.
+/// It must not be dropped: it ends by `into_allocator`, which returns every segment to the
+/// allocator.
 pub struct BuilderArenaImpl<A: Allocator> {
     pub allocator: A,
     pub segments: Vec<Held<A::Segment>>,
@@ -35,8 +36,8 @@ impl<A: Allocator> BuilderArenaImpl<A> {
     ghost use Rattle.capnp_copy_arenas.specs.Refusals.{arena_refuses};
     ghost use Rattle.capnp_copy_arenas.specs.Arenas.{arena_loans};
 
-    /// An arena without segments. Memory for the list of its segments comes from `alloc`, their
-    /// bytes come from the allocator.
+    /// Makes an arena without segments. Memory for the list of its segments comes from `alloc`,
+    /// their bytes come from the allocator.
     pub fn new(alloc: Global, allocator: A) -> Self
         ensures allocator { result.allocator ≡ allocator }
         ensures empty { result.segments.items ≡ [] }
@@ -48,14 +49,14 @@ impl<A: Allocator> BuilderArenaImpl<A> {
         }
     }
 
-    /// How many segments there are.
+    /// Returns the number of segments.
     pub fn len(&self) -> usize
         ensures { result ≡ length self.now.segments.items }
     {
         self.segments.len()
     }
 
-    /// Takes a segment of at least n words from the allocator, of which m are used at once.
+    /// Takes a segment of at least n words from the allocator; m of them are used at once.
     fn add_segment(&mut self, minimum: u32, used: u32) -> Result<()>
         requires fits { used ≤ minimum }
         requires few { self.old.words + used < 2 ^ 29 }
@@ -96,9 +97,9 @@ impl<A: Allocator> BuilderArenaImpl<A> {
     ghost use Rattle.capnp_copy_arenas.specs.Refusals.{arena_refuses};
     ghost use Rattle.capnp_copy_arenas.specs.Arenas.{arena_loans, UsesInArena};
 
-    /// Takes a segment of at least n words from the allocator, of which none is used yet. It is
-    /// refused with `OutOfMemory` where the list of segments can't grow, else as the allocator
-    /// refuses; then the arena is as it was.
+    /// Takes a segment of at least n words from the allocator, with no word used yet. It is refused
+    /// with `OutOfMemory` if the list of segments can't grow, otherwise with the allocator's error;
+    /// then the arena is unchanged.
     pub fn allocate_segment(&mut self, minimum: u32) -> Result<()>
         ensures words { OnOk result (UsesMore self.old.segments.items self.new.segments.items
             (length self.old.segments.items) 0) }
@@ -113,11 +114,11 @@ impl<A: Allocator> BuilderArenaImpl<A> {
         self.add_segment(minimum, 0)
     }
 
-    /// Takes a segment of which n words are used already, from the first on, as the one segment;
-    /// those behind them are zero. There is one lent slice at most in it and in the allocator.
+    /// Takes a segment whose first n words are used already as the only segment; the later words
+    /// are zero. The segment and the allocator together have at most one lent slice.
     ///
-    /// It is refused with `OutOfMemory` where the list of segments can't grow; then the segment was
-    /// given back to the allocator.
+    /// It is refused with `OutOfMemory` if the list of segments can't grow; then the segment was
+    /// returned to the allocator.
     pub fn hold_segment(&mut self, segment: A::Segment, used: u32) -> Result<()>
         requires empty { self.old.segments.items ≡ [] }
         requires inside { 8 * used ≤ length (A.Segment.bytes segment) }
@@ -148,7 +149,7 @@ impl<A: Allocator> BuilderArenaImpl<A> {
         }
     }
 
-    /// Uses n words more of a segment, where it is there and has as many.
+    /// Uses n more words of a segment, if it exists and has as many free.
     fn use_in(&mut self, segment: SegmentId, words: u32) -> Option<u32>
         requires { self.old.words + words < 2 ^ 29 }
         ensures at { IfSome result (λ at. EndsAt self.old.segments.items segment at) }
@@ -168,7 +169,7 @@ impl<A: Allocator> BuilderArenaImpl<A> {
         Some(at)
     }
 
-    /// Uses n words more of the last segment, where it has as many.
+    /// Uses n more words of the last segment, if it has as many free.
     fn use_in_last(&mut self, words: u32) -> Option<(SegmentId, u32)>
         requires { self.old.words + words < 2 ^ 29 }
         ensures at { IfSome result (λ p. EndsAt self.old.segments.items p.0 p.1) }
@@ -208,7 +209,7 @@ impl<A: Allocator> BuilderArenaImpl<A> {
         Ok((count as SegmentId, 0))
     }
 
-    /// Gives every segment back to the allocator.
+    /// Returns every segment to the allocator.
     #[tactic(auto, using(crate::proofs::HeldWords::total_popped))]
     fn release(&mut self)
         requires { length (held_loans self.old.segments.items ++ A.loans self.old.allocator) ≤ 1 }
@@ -224,8 +225,8 @@ impl<A: Allocator> BuilderArenaImpl<A> {
         }
     }
 
-    /// The allocator, to which every segment was given back. There is one lent slice at most among
-    /// them and in the allocator.
+    /// Returns the allocator, after every segment was returned to it. The segments and the
+    /// allocator together have at most one lent slice.
     pub fn into_allocator(mut self) -> A
         requires { length (held_loans self.segments.items ++ A.loans self.allocator) ≤ 1 }
         ensures place { A.place result ≡ A.place self.allocator }
@@ -303,8 +304,8 @@ impl<A: Allocator> BuilderArena for BuilderArenaImpl<A> {
 }
 
 impl<A: Allocator> BuilderArenaImpl<A> {
-    /// The used bytes of each segment, in order, for output. Memory for the list alone comes from
-    /// `alloc`.
+    /// Returns the used bytes of each segment, in order, for output. `alloc` provides memory only
+    /// for the list.
     pub fn get_segments_for_output(&self, alloc: Global) -> Result<Vec<&[u8]>>
         ensures segments { IfOk result (λ v.
             map (λ b. b.now) v.items

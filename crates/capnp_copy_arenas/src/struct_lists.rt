@@ -1,4 +1,4 @@
-//! New lists of structs in place of other values.
+//! New lists of structs that replace other values.
 ghost use Rattle.std.specs.Prelude.{◌≡◌, ◌+◌, ◌*◌, ◌<◌, ◌≤◌, ◌^◌, ◌⊎◌, true, IfOk, IfErr};
 ghost use Rattle.std.specs.Option.{is_some};
 ghost use Rattle.capnp_model.specs.Segments.{words_at};
@@ -20,7 +20,8 @@ use capnp_units::limits::MOST_WORDS;
 use capnp_units::sizes::{ElementSize, StructSize};
 use capnp_wire_objects::place::Place;
 
-/// The words of n structs of a size, where neither they nor the count pass 2^29 - 1.
+/// Returns the number of words of n structs of a size, if the words and the count are at most 2^29
+/// - 1.
 pub fn words_of_structs(count: u32, size: StructSize) -> Result<u32>
     ensures words { IfOk result (λ n. n ≡ count * (size.data_words + size.pointers)) }
     ensures few { IfOk result (λ n. (n < 2 ^ 29) × (count < 2 ^ 29)) }
@@ -35,7 +36,7 @@ pub fn words_of_structs(count: u32, size: StructSize) -> Result<u32>
     Ok(words as u32)
 }
 
-/// The tag of a list of n structs of a size.
+/// Returns the tag of a list of n structs of a size.
 pub fn tag_word(count: u32, size: StructSize) -> u64
     requires { count < 2 ^ 29 }
     ensures word { result ≡ struct_pointer count size.data_words size.pointers }
@@ -44,13 +45,13 @@ pub fn tag_word(count: u32, size: StructSize) -> u64
     struct_word(size) + 4 * count as u64
 }
 
-/// Puts a list of structs of zeros and nulls in place of the value of the pointer at a place, which
-/// is cleared.
+/// Replaces the value of the pointer at a place, which is cleared, by a list of structs of zeros
+/// and nulls.
 ///
-/// It is refused, and all stands as it was,
-/// - with `SizeOverflow` exactly where the count, the structs' words or the message's words, with
-///   the tag and a pad counted, would pass 2^29 - 1;
-/// - else as the allocator refuses.
+/// It is refused, and everything is unchanged,
+/// - with `SizeOverflow` exactly if the count, the structs' words or the message's words, including
+///   the tag and a pad, would exceed 2^29 - 1;
+/// - otherwise with the allocator's error.
 #[inline(always)]
 pub fn init_struct_list<A: BuilderArena>(
     arena: &mut A,

@@ -1,4 +1,4 @@
-//! Texts and data that are made where a pointer names them, and got there.
+//! Texts and data that a pointer leads to: made and read in place.
 ghost use Rattle.std.specs.Prelude.{◌≡◌, ◌⊎◌, ◌+◌, ◌*◌, ◌<◌, ◌^◌, Some, option_copied, Ok, Err, IfOk, IfErr, IfSome, IfNone};
 ghost use Rattle.std.specs.Borrow.{sem, RestsIfErr};
 ghost use Rattle.capnp_model.specs.Sections.{words_for};
@@ -34,7 +34,7 @@ use capnp_wire_objects::named::found_at;
 use capnp_wire_objects::object::{Object, whole};
 use capnp_wire_objects::place::{Place, word_at};
 
-/// Puts a list of n zero bytes in place of the value of the pointer at a place.
+/// Replaces the value of the pointer at a place by a list of n zero bytes.
 fn init_bytes<A: BuilderArena>(arena: &mut A, slot: Place, count: u32) -> Result<Place>
     requires there { HasWords (A.segments arena.old) slot 1 }
     requires near { slot.position < 2 ^ 61 }
@@ -48,7 +48,7 @@ fn init_bytes<A: BuilderArena>(arena: &mut A, slot: Place, count: u32) -> Result
     Ok(list.start)
 }
 
-/// The bytes of the list of bytes that the pointer at a place names, and none of null.
+/// Returns the bytes of the list of bytes that the pointer at a place names, or `None` for null.
 #[tactic(auto, unfolding(capnp_wire_objects::specs::Objects::object_at))]
 fn bytes_here<A: ReaderArena>(arena: &A, slot: Place) -> Result<Option<BlobPlace>>
     ensures bytes { seen (λ o. o) result
@@ -81,7 +81,7 @@ fn bytes_here<A: ReaderArena>(arena: &A, slot: Place) -> Result<Option<BlobPlace
     }
 }
 
-/// Whether there is a last byte, and it is zero.
+/// Returns whether there is a last byte, and it is zero.
 fn ends_in_zero<A: ReaderArena>(arena: &A, blob: BlobPlace) -> bool
     requires { AreThere (words_in (A.segments arena.now)) (place_view blob.start)
         (words_for (8 * blob.count)) }
@@ -101,7 +101,7 @@ fn ends_in_zero<A: ReaderArena>(arena: &A, blob: BlobPlace) -> bool
     }
 }
 
-/// The data that the pointer at a place names.
+/// Returns the data that the pointer at a place names.
 fn data_at<A: ReaderArena>(arena: &A, slot: Place) -> Result<BlobPlace>
     requires { slot.position < 2 ^ 61 }
     ensures data { seen (λ o. o) result ≡ data_named (words_in (A.segments arena.now)) slot }
@@ -120,7 +120,7 @@ fn data_at<A: ReaderArena>(arena: &A, slot: Place) -> Result<BlobPlace>
     }
 }
 
-/// The text that the pointer at a place names.
+/// Returns the text that the pointer at a place names.
 fn text_at<A: ReaderArena>(arena: &A, slot: Place) -> Result<BlobPlace>
     requires { slot.position < 2 ^ 61 }
     ensures text { seen (λ o. o) result ≡ text_named (words_in (A.segments arena.now)) slot }
@@ -147,7 +147,7 @@ fn text_at<A: ReaderArena>(arena: &A, slot: Place) -> Result<BlobPlace>
     }
 }
 
-/// The data at a place, with a default in place of null.
+/// Returns the data at a place, with a default instead of null.
 fn data_here<A: BuilderArena>(
     arena: &mut A,
     slot: Place,
@@ -164,7 +164,7 @@ fn data_here<A: BuilderArena>(
     data_at(arena, slot)
 }
 
-/// The text at a place, with a default in place of null.
+/// Returns the text at a place, with a default instead of null.
 fn text_here<A: BuilderArena>(
     arena: &mut A,
     slot: Place,
@@ -181,8 +181,8 @@ fn text_here<A: BuilderArena>(
     text_at(arena, slot)
 }
 
-/// Puts a text of n zero bytes, and one behind them, in place of the value of the pointer at a
-/// place.
+/// Replaces the value of the pointer at a place by a text of n zero bytes, followed by its zero
+/// byte.
 fn init_text_bytes<A: BuilderArena>(arena: &mut A, slot: Place, count: u32) -> Result<Place>
     requires there { HasWords (A.segments arena.old) slot 1 }
     requires near { slot.position < 2 ^ 61 }
@@ -199,12 +199,13 @@ fn init_text_bytes<A: BuilderArena>(arena: &mut A, slot: Place, count: u32) -> R
 }
 
 impl<'a, A: BuilderArena> PointerBuilder<'a, A> {
-    /// Puts data of n zero bytes in place of the value, which is cleared, and gives them to write.
+    /// Replaces the value, which is cleared, by data of n zero bytes, and returns the data to
+    /// write.
     ///
-    /// It is refused, and all stands as it was,
-    /// - with `SizeOverflow` exactly where the bytes or the message's words, a pad counted, would
-    ///   pass 2^29 - 1;
-    /// - else as the allocator refuses.
+    /// It is refused, and everything is unchanged,
+    /// - with `SizeOverflow` exactly if the bytes or the message's words, including a pad, would
+    ///   exceed 2^29 - 1;
+    /// - otherwise with the allocator's error.
     pub fn init_data(self, size: ElementCount32) -> Result<DataBuilder<'a, A>>
         requires there { HasWords (A.segments self.memory.now.arena) self.place 1 }
         requires near { self.place.position < 2 ^ 61 }
@@ -224,13 +225,13 @@ impl<'a, A: BuilderArena> PointerBuilder<'a, A> {
         Ok(DataBuilder { memory, place })
     }
 
-    /// Puts a text of n zero bytes in place of the value, which is cleared, and gives it to write,
-    /// from its first byte on. The zero byte behind the text is none of them.
+    /// Replaces the value, which is cleared, by a text of n zero bytes, and returns the text to
+    /// write, from its first byte on. The zero byte after the text isn't part of it.
     ///
-    /// It is refused, and all stands as it was,
-    /// - with `SizeOverflow` exactly where the bytes with the zero byte or the message's words, a
-    ///   pad counted, would pass 2^29 - 1;
-    /// - else as the allocator refuses.
+    /// It is refused, and everything is unchanged,
+    /// - with `SizeOverflow` exactly if the bytes with the zero byte, or the message's words,
+    ///   including a pad, would exceed 2^29 - 1;
+    /// - otherwise with the allocator's error.
     pub fn init_text(self, size: ElementCount32) -> Result<TextBuilder<'a, A>>
         requires there { HasWords (A.segments self.memory.now.arena) self.place 1 }
         requires near { self.place.position < 2 ^ 61 }
@@ -254,17 +255,17 @@ impl<'a, A: BuilderArena> PointerBuilder<'a, A> {
         })
     }
 
-    /// The data that the pointer names, to write. In place of null the default is written, where
-    /// there is one and its root isn't null; else there is no byte, and null stays.
+    /// Returns the data that the pointer names, to write. Null is replaced by the default, if there
+    /// is a default and its root isn't null; otherwise the data are empty, and null stays.
     ///
     /// It is refused
-    /// - as `write_default` is;
-    /// - then by the fault of what is there;
-    /// - with `WrongPointerKind` where it isn't a list;
-    /// - with `WrongElementSize` where its elements aren't bytes.
+    /// - like `write_default`;
+    /// - then with the fault of the value there;
+    /// - with `WrongPointerKind` if the value isn't a list;
+    /// - with `WrongElementSize` if its elements aren't bytes.
     ///
-    /// Then all words stand as they were, and new ones are zero. Only where the default was
-    /// written, and isn't data, it stands.
+    /// Then all words are unchanged, and new words are zero. The only exception: if the default was
+    /// written, and isn't data, the default remains.
     pub fn get_data(self, default: Option<&[Word]>) -> Result<DataBuilder<'a, A>>
         requires there { HasWords (A.segments self.memory.now.arena) self.place 1 }
         requires near { self.place.position < 2 ^ 61 }
@@ -282,12 +283,12 @@ impl<'a, A: BuilderArena> PointerBuilder<'a, A> {
         Ok(DataBuilder { memory, place })
     }
 
-    /// The text that the pointer names, to write, from its end on; the zero byte behind it is none
-    /// of its bytes. In place of null the default is written, where there is one and its root isn't
-    /// null; else the text is empty, and null stays.
+    /// Returns the text that the pointer names, to write, from its end on; the zero byte after the
+    /// text isn't part of it. Null is replaced by the default, if there is a default and its root
+    /// isn't null; otherwise the text is empty, and null stays.
     ///
-    /// It is refused as data are, and with `TextWithoutZeroByte` where the last byte isn't zero or
-    /// there is none.
+    /// It is refused like data, and with `TextWithoutZeroByte` if the last byte isn't zero or there
+    /// is no byte.
     pub fn get_text(self, default: Option<&[Word]>) -> Result<TextBuilder<'a, A>>
         requires there { HasWords (A.segments self.memory.now.arena) self.place 1 }
         requires near { self.place.position < 2 ^ 61 }

@@ -1,4 +1,4 @@
-//! Copies of what readers stand at.
+//! Copies of the values of readers.
 ghost use Rattle.std.specs.Prelude.{◌≡◌, ◌+◌, ◌<◌, ◌^◌};
 ghost use Rattle.capnp_units.specs.Segments.{words_in};
 ghost use Rattle.capnp_wire_objects.specs.Places.{place_view};
@@ -28,7 +28,7 @@ use capnp_wire::structs::StructReader;
 use capnp_wire_objects::arena::ReaderArena;
 use capnp_wire_objects::place::Place;
 
-/// Puts a copy of a pointer's value that is read in place of the value of the pointer at a place.
+/// Replaces the value of the pointer at a place by a copy of a reader's value.
 fn copy_pointer<A: BuilderArena, B: ReaderArena>(
     arena: &mut A,
     slot: Place,
@@ -61,7 +61,7 @@ fn copy_pointer<A: BuilderArena, B: ReaderArena>(
     }
 }
 
-/// Puts a copy of a struct that is read in place of the value of the pointer at a place.
+/// Replaces the value of the pointer at a place by a copy of a reader's struct.
 fn copy_struct<A: BuilderArena, B: ReaderArena>(
     arena: &mut A,
     slot: Place,
@@ -106,7 +106,7 @@ fn copy_struct<A: BuilderArena, B: ReaderArena>(
     }
 }
 
-/// Puts a copy of a list that is read in place of the value of the pointer at a place.
+/// Replaces the value of the pointer at a place by a copy of a reader's list.
 fn copy_list<A: BuilderArena, B: ReaderArena>(
     arena: &mut A,
     slot: Place,
@@ -144,7 +144,7 @@ fn copy_list<A: BuilderArena, B: ReaderArena>(
     }
 }
 
-/// Puts the content of a struct that is read into one that lies in an arena.
+/// Copies the content of a reader's struct into a struct of an arena.
 fn copy_content<A: BuilderArena, B: ReaderArena>(
     arena: &mut A,
     object: StructPlace,
@@ -192,13 +192,12 @@ fn copy_content<A: BuilderArena, B: ReaderArena>(
 }
 
 impl<'a, A: BuilderArena> PointerBuilder<'a, A> {
-    /// Puts a copy of a pointer's value that is read in place of the value, which is cleared: the
-    /// whole tree, with its capabilities' indices as they are. A pointer past a struct's pointers
-    /// is null.
+    /// Replaces the value, which is cleared, by a copy of a reader's value: the whole tree, with
+    /// the indices of its capabilities unchanged. A pointer past a struct's pointers is null.
     ///
-    /// It is refused as `capnp_copy_values::copy::copy_from`, and under a negative nesting limit
-    /// with `NestingLimitExceeded`; what stands in a default is read without a limit of words, and
-    /// costs nothing. After a refusal all words stand as they were, and those that were allocated
+    /// It is refused like `capnp_copy_values::copy::copy_from`, and with `NestingLimitExceeded`
+    /// under a negative nesting limit. A value in a default is read without a limit of words, and
+    /// costs nothing. After a refusal all words are unchanged, and the words that were allocated
     /// are zero.
     pub fn copy_from<B: ReaderArena>(
         &mut self,
@@ -221,13 +220,13 @@ impl<'a, A: BuilderArena> PointerBuilder<'a, A> {
         copy_pointer(&mut self.memory.arena, place, limiter, other)
     }
 
-    /// Puts a copy of a struct that is read in place of the value, which is cleared: its data in
-    /// whole words, and the values of its pointers.
+    /// Replaces the value, which is cleared, by a copy of a reader's struct: its data in whole
+    /// words, and the values of its pointers.
     ///
-    /// It is refused as `capnp_copy_values::structs::set_struct`, and under a negative nesting
-    /// limit with `NestingLimitExceeded`; what stands in a default is read without a limit of
-    /// words, and costs nothing. After a refusal all words stand as they were, and those that were
-    /// allocated are zero.
+    /// It is refused like `capnp_copy_values::structs::set_struct`, and with `NestingLimitExceeded`
+    /// under a negative nesting limit. A value in a default is read without a limit of words, and
+    /// costs nothing. After a refusal all words are unchanged, and the words that were allocated
+    /// are zero.
     pub fn set_struct<B: ReaderArena>(
         &mut self,
         limiter: &mut ReadLimiter,
@@ -249,12 +248,12 @@ impl<'a, A: BuilderArena> PointerBuilder<'a, A> {
         copy_struct(&mut self.memory.arena, place, limiter, value)
     }
 
-    /// Puts a copy of a list that is read in place of the value, which is cleared. A list of
-    /// structs is copied whole, however it was got.
+    /// Replaces the value, which is cleared, by a copy of a reader's list. A list of structs is
+    /// copied whole, as whatever list it was read.
     ///
-    /// It is refused as `capnp_copy_values::lists::set_list`, and under a negative nesting limit
-    /// with `NestingLimitExceeded`; what stands in a default is read without a limit of words, and
-    /// costs nothing. After a refusal all words stand as they were, and those that were allocated
+    /// It is refused like `capnp_copy_values::lists::set_list`, and with `NestingLimitExceeded`
+    /// under a negative nesting limit. A value in a default is read without a limit of words, and
+    /// costs nothing. After a refusal all words are unchanged, and the words that were allocated
     /// are zero.
     pub fn set_list<B: ReaderArena>(
         &mut self,
@@ -279,15 +278,15 @@ impl<'a, A: BuilderArena> PointerBuilder<'a, A> {
 }
 
 impl<'a, A: BuilderArena> StructBuilder<'a, A> {
-    /// Puts the content of a struct that is read into this one: as much of its data as fits, with
-    /// zeros behind it. Copies of the values of as many pointers as this one has follow, with nulls
-    /// behind. What the source has past this struct's sections is dropped.
+    /// Copies the content of a reader's struct into this struct: as much of its data as fits,
+    /// followed by zeros. Then come copies of the values of as many pointers as this struct has,
+    /// followed by nulls. Anything that the source has past this struct's sections is dropped.
     ///
-    /// It is refused as `capnp_copy_values::contents::copy_content_from`, and under a negative
-    /// nesting limit with `NestingLimitExceeded`. After a refusal the data are the source's, and of
-    /// the pointers the first ones have the copies and the others their old values; under a
-    /// negative limit all have their old ones. What stands in a default is read without a limit of
-    /// words, and costs nothing.
+    /// It is refused like `capnp_copy_values::contents::copy_content_from`, and with
+    /// `NestingLimitExceeded` under a negative nesting limit. After a refusal the data are the
+    /// source's. The first pointers have the copies, and the others their old values; under a
+    /// negative limit all pointers have their old values. A value in a default is read without a
+    /// limit of words, and costs nothing.
     pub fn copy_content_from<B: ReaderArena>(
         &mut self,
         limiter: &mut ReadLimiter,

@@ -11,7 +11,7 @@ use capnp_copy_arenas::arena::{BuilderArena, Memory};
 use capnp_copy_arenas::bytes::{BlobPlace, get_bytes, set_bytes};
 use std::fmt;
 
-/// Data that are built, where their bytes lie in an arena.
+/// Data that are built, with the place of their bytes in an arena.
 #[derive(Drop)]
 pub struct DataBuilder<'a, A> {
     pub memory: &'a mut Memory<A>,
@@ -21,7 +21,7 @@ pub struct DataBuilder<'a, A> {
 impl<'a, A: BuilderArena> DataBuilder<'a, A> {
     ghost use Rattle.capnp_layout_builders.specs.Lending.{LendsData};
 
-    /// These data, lent.
+    /// Lends these data.
     pub fn reborrow(&mut self) -> DataBuilder<'_, A>
         ensures* lends { sem 𝓛 (LendsData A.row self.entry result) }
         ensures now { result.memory.now ≡ self.old.memory.now }
@@ -32,21 +32,21 @@ impl<'a, A: BuilderArena> DataBuilder<'a, A> {
         DataBuilder { memory, place }
     }
 
-    /// How many bytes there are.
+    /// Returns the number of bytes.
     pub fn len(&self) -> usize
         ensures { result ≡ self.now.place.count }
     {
         self.place.count as usize
     }
 
-    /// Whether there is no byte.
+    /// Returns whether the data are empty.
     pub fn is_empty(&self) -> bool
         ensures { result ≡ (self.now.place.count == 0) }
     {
         self.place.count == 0
     }
 
-    /// The bytes, lent in place.
+    /// Returns the bytes, lent in place.
     pub fn as_bytes(&self) -> &[u8]
         ensures has { HasBytes (words_in (A.segments self.now.memory.now.arena)) self.now.place
             result.now }
@@ -55,7 +55,7 @@ impl<'a, A: BuilderArena> DataBuilder<'a, A> {
         get_bytes(&self.memory.arena, self.place)
     }
 
-    /// The bytes, lent in place, of which no handle to write is left.
+    /// Returns the bytes, lent in place, and uses up the handle for writing.
     pub fn into_reader(self) -> &'a [u8]
         ensures { HasBytes (words_in (A.segments self.entry.memory.now.arena)) self.entry.place
             result.now }
@@ -64,8 +64,8 @@ impl<'a, A: BuilderArena> DataBuilder<'a, A> {
         get_bytes(&memory.arena, place)
     }
 
-    /// Writes bytes in place of as many from one on, counted from 0. They lie among the data; all
-    /// others stay.
+    /// Writes bytes over as many bytes from an index on, counted from 0. They are within the data;
+    /// all other bytes stay.
     pub fn write(&mut self, at: usize, bytes: &[u8])
         requires near { self.old.place.start.position < 2 ^ 61 }
         requires inside { at + length bytes.now ≤ self.old.place.count }
@@ -81,7 +81,7 @@ impl<'a, A: BuilderArena> DataBuilder<'a, A> {
         set_bytes(&mut self.memory.arena, place, at, bytes);
     }
 
-    /// Writes one byte, counted from 0. It is one of the data; all others stay.
+    /// Writes one byte, whose index counts from 0 and is within the data; all other bytes stay.
     pub fn set(&mut self, index: usize, byte: u8)
         requires near { self.old.place.start.position < 2 ^ 61 }
         requires inside { index < self.old.place.count }
@@ -99,8 +99,8 @@ impl<'a, A: BuilderArena> DataBuilder<'a, A> {
     }
 }
 
-/// Data that are built compare by their bytes, wherever they lie. Such whose words aren't there
-/// have none.
+/// Compares data that are built by their bytes, wherever they are. Data whose words don't exist
+/// have no bytes.
 impl<A: BuilderArena> PartialEq for DataBuilder<'_, A> {
     ghost eq = { λ x y. pointwise nat_eq (data_lent A.segments x) (data_lent A.segments y) };
 
@@ -111,7 +111,7 @@ impl<A: BuilderArena> PartialEq for DataBuilder<'_, A> {
     }
 }
 
-/// Writes the bytes as Rust does those of a slice.
+/// Writes the bytes as Rust writes those of a slice.
 impl<A: BuilderArena> fmt::Debug for DataBuilder<'_, A> {
     fn fmt<W: fmt::Write>(&self, f: &mut fmt::Formatter<W>) -> fmt::Result {
         let bytes = self.as_bytes();

@@ -1,5 +1,6 @@
-//! Data sections apart from a message: the fields of a struct are set in one, and all are written at
-//! once. Each function is inlined, so that a field at a constant offset takes a few instructions.
+//! Data sections apart from a message: fields of a struct are set in a section, and all are written
+//! at once. Each function is inlined, so that a field at a constant offset takes a few
+//! instructions.
 ghost use Rattle.std.specs.Prelude.{◌≡◌, ◌+◌, ◌*◌, ◌%◌, ◌^◌, ◌<◌, ◌≤◌, ◌==◌, bit_xor, length};
 ghost use Rattle.capnp_model.specs.Bytes.{words_in_bytes};
 ghost use Rattle.capnp_model.specs.Sections.{bits_at, with_bits};
@@ -11,7 +12,7 @@ use capnp_units::primitive::{Mask, Primitive};
 use capnp_units::sizes::{Word, words_as_bytes};
 use capnp_units::units::ElementCount;
 
-/// The bytes of words, lent in place.
+/// Returns the bytes of words, lent in place.
 #[inline(always)]
 fn bytes_of(words: &[Word]) -> &[u8]
     ensures len { length result.now ≡ 8 * length words.now }
@@ -31,7 +32,7 @@ pub struct DataSection<const N: usize> {
 impl<const N: usize> DataSection<N> {
     ghost use Rattle.capnp_layout_builders.specs.DataSections.{section_number};
 
-    /// A section of zeros, as a new struct has.
+    /// Makes a section of zeros, like that of a new struct.
     pub fn new() -> Self
         requires { N < 2 ^ 16 }
         ensures { section_number result ≡ 0 }
@@ -39,7 +40,7 @@ impl<const N: usize> DataSection<N> {
         DataSection { words: [[0; 8]; N] }
     }
 
-    /// n bits of the section, which lie in one word of it.
+    /// Returns n bits of the section, which are in one of its words.
     #[inline(always)]
     fn get_bits(&self, at: usize, width: u32) -> u64
         requires inside { at + width ≤ 64 * N }
@@ -50,7 +51,7 @@ impl<const N: usize> DataSection<N> {
         bits_in(word, (at % 64) as u32, width)
     }
 
-    /// Sets n bits of the section, which lie in one word of it.
+    /// Sets n bits of the section, which are in one of its words.
     #[inline(always)]
     fn set_bits(&mut self, at: usize, width: u32, value: u64)
         requires inside { at + width ≤ 64 * N }
@@ -63,7 +64,8 @@ impl<const N: usize> DataSection<N> {
         self.words[at / 64] = word.to_le_bytes();
     }
 
-    /// A number of the section, counted in its own width. The field lies in the section.
+    /// Returns a number of the section, at an offset in units of its width. The field is in the
+    /// section.
     #[inline(always)]
     pub fn get_data_field<T: Primitive>(&self, offset: ElementCount) -> T
         requires inside { T.BYTES * offset + T.BYTES ≤ 8 * N }
@@ -74,7 +76,8 @@ impl<const N: usize> DataSection<N> {
         number_in(bits)
     }
 
-    /// As the getter without a mask, of the bits exclusive or those of the field's default.
+    /// Returns a number like the getter without a mask, with its bits exclusive-or'ed with those of
+    /// the field's default.
     #[inline(always)]
     pub fn get_data_field_mask<T: Primitive + Mask>(&self, offset: ElementCount, mask: T::T) -> T
         requires inside { T.BYTES * offset + T.BYTES ≤ 8 * N }
@@ -84,8 +87,8 @@ impl<const N: usize> DataSection<N> {
         T::mask(self.get_data_field::<T>(offset), mask)
     }
 
-    /// Sets a number of the section, counted in its own width. The field lies in the section; its
-    /// neighbours keep their bits.
+    /// Sets a number of the section, at an offset in units of its width. The field is in the
+    /// section; its neighbours keep their bits.
     #[inline(always)]
     pub fn set_data_field<T: Primitive>(&mut self, offset: ElementCount, value: T)
         requires inside { T.BYTES * offset + T.BYTES ≤ 8 * N }
@@ -96,8 +99,8 @@ impl<const N: usize> DataSection<N> {
         self.set_bits(8 * (T::BYTES * offset), 8 * T::BYTES as u32, bits);
     }
 
-    /// As the setter without a mask, of the value's bits exclusive or those of the field's default:
-    /// read with this mask, the field is the value.
+    /// Sets a number like the setter without a mask, with the value's bits exclusive-or'ed with
+    /// those of the field's default: read with this mask, the field is the value.
     #[inline(always)]
     pub fn set_data_field_mask<T: Primitive + Mask>(
         &mut self,
@@ -112,7 +115,7 @@ impl<const N: usize> DataSection<N> {
         self.set_data_field(offset, T::mask(value, mask));
     }
 
-    /// A bit of the section, counted in bits. The field lies in the section.
+    /// Returns a bit of the section, at an offset in bits. The field is in the section.
     #[inline(always)]
     pub fn get_bool_field(&self, offset: ElementCount) -> bool
         requires inside { offset < 64 * N }
@@ -121,7 +124,7 @@ impl<const N: usize> DataSection<N> {
         self.get_bits(offset, 1) == 1
     }
 
-    /// As the getter without a mask, of the bits exclusive or those of the field's default.
+    /// Returns a bit like the getter without a mask, exclusive-or'ed with the field's default.
     #[inline(always)]
     pub fn get_bool_field_mask(&self, offset: ElementCount, mask: bool) -> bool
         requires inside { offset < 64 * N }
@@ -131,7 +134,7 @@ impl<const N: usize> DataSection<N> {
         self.get_bool_field(offset) != mask
     }
 
-    /// Sets a bit of the section, counted in bits. The field lies in the section; its neighbours
+    /// Sets a bit of the section, at an offset in bits. The field is in the section; its neighbours
     /// keep their bits.
     #[inline(always)]
     pub fn set_bool_field(&mut self, offset: ElementCount, value: bool)
@@ -142,7 +145,8 @@ impl<const N: usize> DataSection<N> {
         self.set_bits(offset, 1, bit_of(value));
     }
 
-    /// As the setter without a mask, of the bits exclusive or those of the field's default.
+    /// Sets a bit like the setter without a mask, with the value exclusive-or'ed with the field's
+    /// default.
     #[inline(always)]
     pub fn set_bool_field_mask(&mut self, offset: ElementCount, value: bool, mask: bool)
         requires inside { offset < 64 * N }
@@ -152,7 +156,7 @@ impl<const N: usize> DataSection<N> {
         self.set_bool_field(offset, value != mask);
     }
 
-    /// The bytes of the section, lent in place.
+    /// Returns the bytes of the section, lent in place.
     #[inline(always)]
     pub fn as_bytes(&self) -> &[u8]
         ensures len { length result.now ≡ 8 * N }

@@ -1,4 +1,4 @@
-//! What elements of lists are written as.
+//! Types as which elements of lists can be written.
 ghost use Rattle.std.specs.Prelude.{◌≡◌, ◌*◌, ◌<◌, ◌^◌, ◌==◌, ℕ};
 ghost use Rattle.std.specs.Int.{w8, w16, w32, w64, cast_unsigned};
 ghost use Rattle.capnp_model.specs.Sections.{bits_at};
@@ -7,18 +7,18 @@ ghost use Rattle.capnp_wire.specs.Views.{bit_of_bool};
 use capnp_copy_arenas::bits::{bit_of, bits_of, number_in};
 use capnp_wire::element::PrimitiveElement;
 
-/// What an element of a list is written as: a whole number, a truth value, or nothing.
+/// A type as which an element of a list can be written: a whole number, a truth value, or nothing.
 pub trait BuilderElement: PrimitiveElement {
     /// The bits of a value; those of a negative number are its two's complement.
     ghost bits: { Self → ℕ };
 
-    /// The bits of a value, of which it is made again.
+    /// Returns the bits of a value, from which the value can be made again.
     fn bits_of_element(value: Self) -> u64
         ensures bits { result ≡ bits value }
         ensures fits { result < 2 ^ Self.width }
         ensures back { Self.of_bits result ≡ value };
 
-    /// The value that has the lowest bits of a word.
+    /// Returns the value that has the lowest bits of a word.
     fn element_of_bits(word: u64) -> Self
         ensures { result ≡ Self.of_bits (bits_at 0 Self.width word) };
 }

@@ -1,4 +1,4 @@
-//! Elements of lists where they lie: as structs, as pointers, and the numbers at their front.
+//! Elements of lists in place: as structs, as pointers, and the numbers at their front.
 ghost use Rattle.std.specs.Prelude.{◌≡◌, ◌*◌, ◌%◌, ◌<◌, ◌≤◌, ◌^◌, length, map};
 ghost use Rattle.capnp_units.specs.Segments.{words_in};
 ghost use Rattle.capnp_units.specs.Sizes.{size_number};
@@ -15,7 +15,7 @@ use capnp_units::sizes::{ElementSize, StructSize};
 use capnp_wire_objects::arena::ReaderArena;
 use capnp_wire_objects::place::{Place, word_at};
 
-/// The sections of an element whose data are whole words.
+/// Returns the sections of an element whose data are whole words.
 fn sections_of(list: ListPlace) -> StructSize
     requires { element_bits (size_number list.size) list.data_words % 64 ≡ 0 }
     ensures data_words { 64 * result.data_words
@@ -42,7 +42,7 @@ fn sections_of(list: ListPlace) -> StructSize
     }
 }
 
-/// The struct that an element is: a struct, a number of 64 bits, a pointer or nothing.
+/// Returns the struct of an element, which is a struct, a number of 64 bits, a pointer or nothing.
 pub fn struct_of(list: ListPlace, index: u32) -> StructPlace
     requires { IsWholeElement list index }
     ensures { IsStructElement list index result }
@@ -60,7 +60,7 @@ pub fn struct_of(list: ListPlace, index: u32) -> StructPlace
     }
 }
 
-/// The pointer that an element is, or the first one of the struct that it is.
+/// Returns the pointer of an element: the element itself, or the first pointer of its struct.
 pub fn pointer_of(list: ListPlace, index: u32) -> Place
     requires { IsWithPointer list index }
     ensures place { IsPointerElement list index result }
@@ -82,7 +82,7 @@ pub fn pointer_of(list: ListPlace, index: u32) -> Place
     }
 }
 
-/// n bits at the front of an element. It has as many.
+/// Returns n bits at the front of an element, which has at least n bits.
 pub fn get_front<A: ReaderArena>(arena: &A, list: ListPlace, index: u32, width: u32) -> u64
     requires inside { IsAtFront list index width }
     requires few { width ≤ 64 }
@@ -97,7 +97,7 @@ pub fn get_front<A: ReaderArena>(arena: &A, list: ListPlace, index: u32, width: 
     }
 }
 
-/// Writes n bits at the front of a struct's data, which has as many.
+/// Writes n bits at the front of a struct's data, which have at least n bits.
 fn set_struct_front<A: BuilderArena>(arena: &mut A, object: StructPlace, width: u32, value: u64)
     requires inside { AreInWord object 0 width }
     requires fits { value < 2 ^ width }
@@ -113,7 +113,7 @@ fn set_struct_front<A: BuilderArena>(arena: &mut A, object: StructPlace, width: 
     }
 }
 
-/// Writes n bits at the front of an element. It has as many.
+/// Writes n bits at the front of an element, which has at least n bits.
 pub fn set_front<A: BuilderArena>(
     arena: &mut A,
     list: ListPlace,

@@ -1,4 +1,4 @@
-//! Values that are got where a pointer names them, with a default in place of null.
+//! Reading of values that a pointer names for writing, with a default instead of null.
 ghost use Rattle.std.specs.Prelude.{◌≡◌, ◌<◌, ◌^◌, option_copied, Ok, Err, IfOk, IfErr};
 ghost use Rattle.std.specs.Borrow.{sem, RestsIfErr};
 ghost use Rattle.capnp_units.specs.Segments.{words_in};
@@ -24,11 +24,11 @@ use capnp_units::errors::Result;
 use capnp_units::sizes::{ElementSize, StructSize, Word};
 use capnp_wire_objects::place::Place;
 
-/// Puts a copy of a default, where there is one, in place of null, as `write_default`; for gets
+/// Replaces null by a copy of a default, if there is a default, like `write_default`; for getters
 /// over places.
 ///
-/// With no default nothing happens. It is refused as `write_default` is; then all words stand as
-/// they were, and new ones are zero.
+/// Without a default nothing happens. It is refused like `write_default`; then all words are
+/// unchanged, and new words are zero.
 pub fn begin<A: BuilderArena>(arena: &mut A, slot: Place, default: Option<&[Word]>) -> Result<()>
     requires there { HasWords (A.segments arena.old) slot 1 }
     requires near { slot.position < 2 ^ 61 }
@@ -45,8 +45,8 @@ pub fn begin<A: BuilderArena>(arena: &mut A, slot: Place, default: Option<&[Word
     }
 }
 
-/// The struct that the pointer at a place names, with at least these sections, as
-/// `PointerBuilder::get_struct` gives it; for callers' types that are built over structs.
+/// Returns the struct that the pointer at a place names, with at least these sections, like
+/// `PointerBuilder::get_struct`; for callers' types that are built over structs.
 pub fn struct_or_default<A: BuilderArena>(
     arena: &mut A,
     slot: Place,
@@ -65,7 +65,7 @@ pub fn struct_or_default<A: BuilderArena>(
     get_struct(arena, slot, size)
 }
 
-/// The list at a place, with a default in place of null.
+/// Returns the list at a place, with a default instead of null.
 fn list_here<A: BuilderArena>(
     arena: &mut A,
     slot: Place,
@@ -84,7 +84,7 @@ fn list_here<A: BuilderArena>(
     get_list(arena, slot, expected, Taker::Builder)
 }
 
-/// The list of structs at a place, with a default in place of null.
+/// Returns the list of structs at a place, with a default instead of null.
 fn struct_list_here<A: BuilderArena>(
     arena: &mut A,
     slot: Place,
@@ -104,17 +104,17 @@ fn struct_list_here<A: BuilderArena>(
 }
 
 impl<'a, A: BuilderArena> PointerBuilder<'a, A> {
-    /// The struct that the pointer names, with at least these sections. In place of null the
-    /// default is written, where there is one and its root isn't null, else a struct of zeros and
-    /// nulls. A struct with a smaller section is widened: it keeps all that it holds and gets zeros
-    /// and nulls, and what it leaves behind becomes zero. One that is wide enough stays where it
-    /// is.
+    /// Returns the struct that the pointer names, with at least these sections. Null is replaced by
+    /// the default, if there is a default and its root isn't null, otherwise by a struct of zeros
+    /// and nulls. A struct with a smaller section is widened: it keeps everything that it holds and
+    /// gets zeros and nulls, and the words that it leaves become zero. A struct that is wide enough
+    /// stays at its place.
     ///
-    /// It is refused as `write_default` is, then as `capnp_copy_widening::structs::get_struct`: by
-    /// the fault of what is there, with `WrongPointerKind` where it isn't a struct, with
-    /// `SizeOverflow` where the message's words would pass 2^29 - 1, or as the allocator refuses.
-    /// Then all words stand as they were, and new ones are zero; only where the default was
-    /// written, and is refused as a struct or can't be widened, the default stands.
+    /// It is refused like `write_default`, then like `capnp_copy_widening::structs::get_struct`:
+    /// with the fault of the value there, with `WrongPointerKind` if the value isn't a struct, with
+    /// `SizeOverflow` if the message's words would exceed 2^29 - 1, or with the allocator's error.
+    /// Then all words are unchanged, and new words are zero. The only exception: if the default was
+    /// written, and is refused as a struct or can't be widened, the default remains.
     pub fn get_struct(
         self,
         size: StructSize,
@@ -138,19 +138,19 @@ impl<'a, A: BuilderArena> PointerBuilder<'a, A> {
         Ok(StructBuilder { memory, place })
     }
 
-    /// The list that the pointer names, near or far, with elements that can be read as ones of the
-    /// size, as readers take them, or bits as voids, which readers refuse. In place of null the
-    /// default is written, where there is one and its root isn't null. Else the list is empty, of
-    /// that size, at the pointer itself.
+    /// Returns the list that the pointer names, near or far. Its elements can be read as elements
+    /// of the size, by the rules of readers; bits can also be read as voids, which readers refuse.
+    /// Null is replaced by the default, if there is a default and its root isn't null. Otherwise
+    /// the list is empty, of that size, at the pointer itself.
     ///
     /// It is refused
-    /// - as `write_default` is;
-    /// - then by the fault of what is there;
-    /// - with `WrongPointerKind` where it isn't a list;
-    /// - with `WrongElementSize` where the elements can't be read so.
+    /// - like `write_default`;
+    /// - then with the fault of the value there;
+    /// - with `WrongPointerKind` if the value isn't a list;
+    /// - with `WrongElementSize` if the elements can't be read in this way.
     ///
-    /// Then all words stand as they were, and new ones are zero. Only where the default was
-    /// written, and is refused as a list, it stands.
+    /// Then all words are unchanged, and new words are zero. The only exception: if the default was
+    /// written, and is refused as a list, the default remains.
     pub fn get_list(
         self,
         element_size: ElementSize,
@@ -174,19 +174,24 @@ impl<'a, A: BuilderArena> PointerBuilder<'a, A> {
         Ok(ListBuilder { memory, place })
     }
 
-    /// The list that the pointer names, as one of structs with at least these sections. In place of
-    /// null the default is written, where there is one and its root isn't null, else the list is
-    /// empty, at the pointer itself. A list of narrower structs, of numbers, of pointers or of
-    /// voids is widened. Each element becomes a struct with the greater of both sizes and keeps all
-    /// that it holds, and what it leaves behind becomes zero. One that is wide enough stays where
-    /// it is.
+    /// Returns the list that the pointer names, as a list of structs with at least these sections.
+    /// Null is replaced by the default, if there is a default and its root isn't null; otherwise
+    /// the list is empty, at the pointer itself. A list of narrower structs, of numbers, of
+    /// pointers or of voids is widened. Each element becomes a struct with the greater of both
+    /// sizes and keeps everything that it holds, and the words that it leaves become zero. A list
+    /// that is wide enough stays at its place.
     ///
-    /// It is refused as `write_default` is, then as
-    /// `capnp_copy_widening::struct_lists::get_struct_list`: by the fault of what is there, with
-    /// `WrongPointerKind` where it isn't a list, with `WrongElementSize` where it is one of bits,
-    /// with `SizeOverflow` where the message's words would pass 2^29 - 1, or as the allocator
-    /// refuses. Then all words stand as they were, and new ones are zero; only where the default
-    /// was written, and is refused as a list of structs or can't be widened, the default stands.
+    /// It is refused
+    /// - like `write_default`;
+    /// - then with the fault of the value there;
+    /// - with `WrongPointerKind` if the value isn't a list;
+    /// - with `WrongElementSize` if it is a list of bits;
+    /// - with `SizeOverflow` if the message's words would exceed 2^29 - 1;
+    /// - with the allocator's error.
+    ///
+    /// After `write_default` it is refused like `capnp_copy_widening::struct_lists::get_struct_list`.
+    /// Then all words are unchanged, and new words are zero. The only exception: if the default was written,
+    /// and is refused as a list of structs or can't be widened, the default remains.
     pub fn get_struct_list(
         self,
         element_size: StructSize,

@@ -18,7 +18,7 @@ use capnp_units::sizes::{ElementSize, data_bits_per_element};
 use capnp_units::units::ElementCount32;
 use capnp_wire::list::ListReader;
 
-/// The list at a place, to read.
+/// Returns the list at a place, to read.
 fn read_at<'a, A: BuilderArena>(arena: &'a A, place: ListPlace) -> ListReader<'a, A>
     requires { HasElements (words_in (A.segments arena.now)) place }
     ensures { seen_list A.segments result
@@ -35,7 +35,7 @@ fn read_at<'a, A: BuilderArena>(arena: &'a A, place: ListPlace) -> ListReader<'a
     )
 }
 
-/// A list that is built, where it lies in an arena. Its words are there.
+/// A list that is built, with its place in an arena. Its words exist there.
 #[derive(Drop)]
 pub struct ListBuilder<'a, A> {
     pub memory: &'a mut Memory<A>,
@@ -45,7 +45,7 @@ pub struct ListBuilder<'a, A> {
 impl<'a, A: BuilderArena> ListBuilder<'a, A> {
     ghost use Rattle.capnp_layout_builders.specs.Lending.{LendsList};
 
-    /// This list, lent.
+    /// Lends this list.
     pub fn reborrow(&mut self) -> ListBuilder<'_, A>
         ensures* lends { sem 𝓛 (LendsList A.row self.entry result) }
         ensures now { result.memory.now ≡ self.old.memory.now }
@@ -56,7 +56,7 @@ impl<'a, A: BuilderArena> ListBuilder<'a, A> {
         ListBuilder { memory, place }
     }
 
-    /// The list to read. Its pointers are followed under the arena's nesting limit.
+    /// Returns the list to read. Its pointers are followed under the arena's nesting limit.
     pub fn as_reader(&self) -> ListReader<'_, A>
         requires { HasElements (words_in (A.segments self.now.memory.now.arena)) self.now.place }
         ensures { let o = self.now.place in
@@ -67,7 +67,7 @@ impl<'a, A: BuilderArena> ListBuilder<'a, A> {
         read_at(&self.memory.arena, self.place)
     }
 
-    /// The list to read, of which no handle to write is left.
+    /// Returns the list to read, and uses up the handle for writing.
     pub fn into_reader(self) -> ListReader<'a, A>
         requires { HasElements (words_in (A.segments self.memory.now.arena)) self.place }
         ensures { seen_list A.segments result
@@ -80,29 +80,30 @@ impl<'a, A: BuilderArena> ListBuilder<'a, A> {
         read_at(&memory.arena, place)
     }
 
-    /// How many elements there are.
+    /// Returns the number of elements.
     pub fn len(&self) -> ElementCount32
         ensures { result ≡ self.now.place.count }
     {
         self.place.count
     }
 
-    /// Whether there is no element.
+    /// Returns whether the list is empty.
     pub fn is_empty(&self) -> bool
         ensures { result ≡ (self.now.place.count == 0) }
     {
         self.place.count == 0
     }
 
-    /// The size of the elements: `InlineComposite` for a list of structs.
+    /// Returns the size of the elements: `InlineComposite` for a list of structs.
     pub fn element_size(&self) -> ElementSize
         ensures { result ≡ self.now.place.size }
     {
         self.place.size
     }
 
-    /// The value at the front of an element, by its index: in the lowest bits of a plain one, or
-    /// of a struct's data. The element is one of the list's, and has as many bits.
+    /// Returns the value at the front of an element, by its index: the lowest bits of a plain
+    /// element, or of a struct's data. The index is within the list, and the element has at least
+    /// as many bits.
     pub fn get<T: BuilderElement>(&self, index: ElementCount32) -> T
         requires { IsAtFront self.now.place index T.width }
         ensures { HasFront (words_in (A.segments self.now.memory.now.arena)) self.now.place
@@ -115,8 +116,8 @@ impl<'a, A: BuilderArena> ListBuilder<'a, A> {
     }
 
     /// Writes a value at the front of an element, by its index: into the lowest bits of a plain
-    /// one, or of a struct's data. The element is one of the list's, and has as many bits; its
-    /// other bits and its neighbours stay.
+    /// element, or of a struct's data. The index is within the list, and the element has at least
+    /// as many bits; its other bits and its neighbours stay.
     pub fn set<T: BuilderElement>(&mut self, index: ElementCount32, value: T)
         requires { IsAtFront self.old.place index T.width }
         ensures same { self.new.memory.ghost_name ≡ self.old.memory.ghost_name }
@@ -134,8 +135,8 @@ impl<'a, A: BuilderArena> ListBuilder<'a, A> {
         set_front(&mut self.memory.arena, place, index, width, bits);
     }
 
-    /// An element as a pointer, by its index: the element itself, or the first pointer of a struct.
-    /// The element is one of the list's, and has a pointer.
+    /// Returns an element as a pointer, by its index: the element itself, or the first pointer of a
+    /// struct. The index is within the list, and the element has a pointer.
     pub fn get_pointer_element(self, index: ElementCount32) -> PointerBuilder<'a, A>
         requires { IsWithPointer self.place index }
         ensures same { result.memory.ghost_name ≡ self.entry.memory.ghost_name }
@@ -150,9 +151,9 @@ impl<'a, A: BuilderArena> ListBuilder<'a, A> {
         PointerBuilder { memory, place }
     }
 
-    /// An element as a struct, by its index, where its data are whole words: a struct has its own
-    /// sections, a number of 64 bits is a struct's only data, and a pointer its only pointer. The
-    /// element is one of the list's.
+    /// Returns an element as a struct, by its index, if its data are whole words: a struct has its
+    /// own sections, a number of 64 bits is a struct's only data, and a pointer its only pointer.
+    /// The index is within the list.
     pub fn get_struct_element(self, index: ElementCount32) -> StructBuilder<'a, A>
         requires { IsWholeElement self.place index }
         ensures same { result.memory.ghost_name ≡ self.entry.memory.ghost_name }

@@ -1,4 +1,4 @@
-//! What callers' types are built as.
+//! Traits of callers' types that are built.
 ghost use Rattle.std.specs.Prelude.{◌≡◌, ◌+◌, ◌<◌, ◌^◌, ◌↔◌, ℕ, List, Option, Ok, Err, option_copied, IfOk, IfErr};
 ghost use Rattle.std.specs.Borrow.{sem, MutBor, RestsIfErr};
 ghost use Rattle.capnp_model.specs.Segments.{Segments};
@@ -29,29 +29,29 @@ use capnp_units::errors::Result;
 use capnp_units::sizes::Word;
 use capnp_wire::traits::{FromPointerReader, HasStructSize, IntoInternalStructReader};
 
-/// What a pointer can be built as: a handle that holds the pointer's memory.
+/// A type as which a pointer can be built: a handle that holds the pointer's memory.
 pub trait FromPointerBuilder<'a, A: BuilderArena>: Sized {
     /// The memory of a handle.
     ghost memory_of: { Self → MutBor (Memory A) };
 
-    /// From the segments before to those then, what is made in place of the value at a place, with
-    /// a count, and the handle.
+    /// The relation between the segments before and after, the count, and the handle, if a new
+    /// value replaces the value at a place.
     ghost is_made: { Segments → Segments → Place → ℕ → Self → Type 0 };
 
-    /// Why it isn't made, by the segments and the count.
+    /// The errors with which making it is refused, by the segments and the count.
     ghost is_not_made: { Segments → ℕ → Error → Type 0 };
 
-    /// From the segments before to those then, what is got at a place, with a default in place of
-    /// null, and the handle.
+    /// The relation between the segments before and after, and the handle, if the value at a place
+    /// is read, with a default instead of null.
     ghost is_got: { Option (List (List ℕ)) → Segments → Segments → Place → Self → Type 0 };
 
-    /// Why it isn't got, and what stands then.
+    /// The errors with which reading it is refused, and the segments then.
     ghost is_not_got: { Option (List (List ℕ)) → Segments → Segments → Place → Error → Type 0 };
 
-    /// Puts a new value in place of the pointer's, which is cleared, with n bytes or elements;
-    /// types that count none don't look at the length.
+    /// Replaces the pointer's value, which is cleared, by a new value with n bytes or elements;
+    /// types without a count ignore the length.
     ///
-    /// It is refused as the type says; then all stands as it was.
+    /// It is refused by the rules of the type; then everything is unchanged.
     fn init_pointer(builder: PointerBuilder<'a, A>, length: u32) -> Result<Self>
         requires there { HasWords (A.segments builder.memory.now.arena) builder.place 1 }
         requires near { builder.place.position < 2 ^ 61 }
@@ -65,10 +65,10 @@ pub trait FromPointerBuilder<'a, A: BuilderArena>: Sized {
         ensures* refused { let b = builder.entry in sem 𝓛 (RestsIfErr (the_row A.row) b.memory
             (λ o. (memory_of o).ghost_name) result (StaysAt A.segments A.books b.memory.now)) };
 
-    /// The value that the pointer names, to write. In place of null the default is written, where
-    /// there is one and its root isn't null.
+    /// Returns the value that the pointer names, to write. Null is replaced by the default, if
+    /// there is a default and its root isn't null.
     ///
-    /// It is refused as the type says.
+    /// It is refused by the rules of the type.
     fn get_from_pointer(builder: PointerBuilder<'a, A>, default: Option<&[Word]>) -> Result<Self>
         requires there { HasWords (A.segments builder.memory.now.arena) builder.place 1 }
         requires near { builder.place.position < 2 ^ 61 }
@@ -184,8 +184,8 @@ impl<'a, A: BuilderArena> FromPointerBuilder<'a, A> for TextBuilder<'a, A> {
     }
 }
 
-/// An untyped pointer is made null, which is never refused, and got as what is there, whatever its
-/// kind.
+/// An untyped pointer is made null, which is never refused, and read as the value there, whatever
+/// its kind.
 impl<'a, A: BuilderArena> FromPointerBuilder<'a, A> for PointerBuilder<'a, A> {
     ghost memory_of = { λ o. o.memory };
 
@@ -239,11 +239,11 @@ impl<'a, A: BuilderArena> FromPointerBuilder<'a, A> for PointerBuilder<'a, A> {
     }
 }
 
-/// A type of pointers' values, with what they are read and built as.
+/// A type of pointers' values, with the types as which they are read and built.
 pub trait Owned<'a, A: BuilderArena> {
-    /// What its values are read as.
+    /// The type as which its values are read.
     type Reader: FromPointerReader<'a, A>;
-    /// What its values are built as.
+    /// The type as which its values are built.
     type Builder: FromPointerBuilder<'a, A>;
 }
 
@@ -261,10 +261,10 @@ impl<'a, A: BuilderArena + 'a> Owned<'a, A> for text::Owned {
     type Builder = TextBuilder<'a, A>;
 }
 
-/// A type of structs, with what they are read and built as.
+/// A type of structs, with the types as which they are read and built.
 pub trait OwnedStruct<'a, A: BuilderArena + 'a> {
-    /// What its structs are read as.
+    /// The type as which its structs are read.
     type Reader: IntoInternalStructReader<'a, A>;
-    /// What its structs are built as: handles with the sizes of the type.
+    /// The type as which its structs are built: handles with the sizes of the type.
     type Builder: From<StructBuilder<'a, A>> + HasStructSize;
 }

@@ -28,9 +28,9 @@ use capnp_units::units::ElementCount32;
 use capnp_wire::pointer::PointerReader;
 use capnp_wire_objects::place::{Place, word_at};
 
-/// The pointer at a place of a memory, to read, under the arena's nesting limit. The memory is as
-/// it was once the reader is gone. This is told of the memory of a handle that is taken apart, and
-/// not of one that `into_reader` takes.
+/// Returns the pointer at a place of a memory, to read, under the arena's nesting limit. When the
+/// reader is gone, the memory is unchanged. This is stated for the memory of a handle that is taken
+/// apart, and not for a memory that `into_reader` takes.
 pub fn read_at<'a, A: BuilderArena>(memory: &'a mut Memory<A>, place: Place) -> PointerReader<'a, A>
     ensures shows { seen_pointer A.segments result
         ≡ pointer_at (A.segments memory.old.arena)
@@ -41,7 +41,7 @@ pub fn read_at<'a, A: BuilderArena>(memory: &'a mut Memory<A>, place: Place) -> 
     PointerReader::at(arena, place)
 }
 
-/// A pointer that is built, where it lies in an arena.
+/// A pointer that is built, with its place in an arena.
 #[derive(Drop)]
 pub struct PointerBuilder<'a, A> {
     pub memory: &'a mut Memory<A>,
@@ -51,7 +51,7 @@ pub struct PointerBuilder<'a, A> {
 impl<'a, A: BuilderArena> PointerBuilder<'a, A> {
     ghost use Rattle.capnp_layout_builders.specs.Lending.{LendsPointer};
 
-    /// The root pointer, the first word of the first segment.
+    /// Returns the root pointer, the first word of the first segment.
     pub fn get_root(memory: &'a mut Memory<A>) -> Self
         ensures same { result.memory.ghost_name ≡ memory.entry.ghost_name }
         ensures now { result.memory.now ≡ memory.old }
@@ -66,7 +66,7 @@ impl<'a, A: BuilderArena> PointerBuilder<'a, A> {
         }
     }
 
-    /// This pointer, lent.
+    /// Lends this pointer.
     pub fn reborrow(&mut self) -> PointerBuilder<'_, A>
         ensures* lends { sem 𝓛 (LendsPointer A.row self.entry result) }
         ensures now { result.memory.now ≡ self.old.memory.now }
@@ -77,7 +77,7 @@ impl<'a, A: BuilderArena> PointerBuilder<'a, A> {
         PointerBuilder { memory, place }
     }
 
-    /// The pointer to read, under the arena's nesting limit.
+    /// Returns the pointer to read, under the arena's nesting limit.
     pub fn as_reader(&self) -> PointerReader<'_, A>
         ensures { seen_pointer A.segments result
             ≡ pointer_at (A.segments self.now.memory.now.arena)
@@ -86,8 +86,8 @@ impl<'a, A: BuilderArena> PointerBuilder<'a, A> {
         PointerReader::at(&self.memory.arena, self.place)
     }
 
-    /// The pointer to read, of which no handle to write is left. What stands in the memory
-    /// afterwards is told by `read_at`.
+    /// Returns the pointer to read, and uses up the handle for writing. `read_at` states the
+    /// contents of the memory afterwards.
     pub fn into_reader(self) -> PointerReader<'a, A>
         ensures { seen_pointer A.segments result
             ≡ pointer_at (A.segments self.entry.memory.now.arena)
@@ -97,7 +97,7 @@ impl<'a, A: BuilderArena> PointerBuilder<'a, A> {
         read_at(memory, place)
     }
 
-    /// Whether it is null, a word of zeros.
+    /// Returns whether the pointer is null, a word of zeros.
     pub fn is_null(&self) -> bool
         ensures { result ≡ (unwrap_or
             (word_at (words_in (A.segments self.now.memory.now.arena))
@@ -121,12 +121,12 @@ impl<'a, A: BuilderArena> PointerBuilder<'a, A> {
         clear(&mut self.memory.arena, place);
     }
 
-    /// Puts a struct of zeros and nulls in place of the value, which is cleared.
+    /// Replaces the value, which is cleared, by a struct of zeros and nulls.
     ///
-    /// It is refused, and all stands as it was,
-    /// - with `SizeOverflow` exactly where the message's words would pass 2^29 - 1 with a pad
-    ///   counted;
-    /// - else as the allocator refuses.
+    /// It is refused, and everything is unchanged,
+    /// - with `SizeOverflow` exactly if the message's words, including a pad, would exceed 2^29 -
+    ///   1;
+    /// - otherwise with the allocator's error.
     #[inline(always)]
     pub fn init_struct(self, size: StructSize) -> Result<StructBuilder<'a, A>>
         requires there { HasWords (A.segments self.memory.now.arena) self.place 1 }
@@ -146,13 +146,13 @@ impl<'a, A: BuilderArena> PointerBuilder<'a, A> {
         Ok(StructBuilder { memory, place })
     }
 
-    /// Puts a list of zeros, or of nulls, in place of the value, which is cleared. The elements are
-    /// plain ones or pointers.
+    /// Replaces the value, which is cleared, by a list of zeros or of nulls. The elements are plain
+    /// or pointers.
     ///
-    /// It is refused, and all stands as it was,
-    /// - with `SizeOverflow` exactly where the count or the message's words, a pad counted, would
-    ///   pass 2^29 - 1;
-    /// - else as the allocator refuses.
+    /// It is refused, and everything is unchanged,
+    /// - with `SizeOverflow` exactly if the count or the message's words, including a pad, would
+    ///   exceed 2^29 - 1;
+    /// - otherwise with the allocator's error.
     pub fn init_list(
         self,
         element_size: ElementSize,
@@ -176,12 +176,12 @@ impl<'a, A: BuilderArena> PointerBuilder<'a, A> {
         Ok(ListBuilder { memory, place })
     }
 
-    /// Puts a list of structs of zeros and nulls in place of the value, which is cleared.
+    /// Replaces the value, which is cleared, by a list of structs of zeros and nulls.
     ///
-    /// It is refused, and all stands as it was,
-    /// - with `SizeOverflow` exactly where the count, the structs' words or the message's words,
-    ///   with the tag and a pad counted, would pass 2^29 - 1;
-    /// - else as the allocator refuses.
+    /// It is refused, and everything is unchanged,
+    /// - with `SizeOverflow` exactly if the count, the structs' words or the message's words,
+    ///   including the tag and a pad, would exceed 2^29 - 1;
+    /// - otherwise with the allocator's error.
     #[inline(always)]
     pub fn init_struct_list(
         self,
@@ -205,12 +205,12 @@ impl<'a, A: BuilderArena> PointerBuilder<'a, A> {
         Ok(ListBuilder { memory, place })
     }
 
-    /// Puts data in place of the value, which is cleared.
+    /// Replaces the value, which is cleared, by data.
     ///
-    /// It is refused, and all stands as it was,
-    /// - with `SizeOverflow` exactly where the bytes or the message's words, a pad counted, would
-    ///   pass 2^29 - 1;
-    /// - else as the allocator refuses.
+    /// It is refused, and everything is unchanged,
+    /// - with `SizeOverflow` exactly if the bytes or the message's words, including a pad, would
+    ///   exceed 2^29 - 1;
+    /// - otherwise with the allocator's error.
     pub fn set_data(&mut self, value: &[u8]) -> Result<()>
         requires there { HasWords (A.segments self.old.memory.now.arena) self.old.place 1 }
         requires near { self.old.place.position < 2 ^ 61 }
@@ -229,12 +229,12 @@ impl<'a, A: BuilderArena> PointerBuilder<'a, A> {
         set_data(&mut self.memory.arena, place, value)
     }
 
-    /// Puts a text in place of the value, which is cleared: its bytes, and a zero byte behind them.
+    /// Replaces the value, which is cleared, by a text: its bytes, followed by a zero byte.
     ///
-    /// It is refused, and all stands as it was,
-    /// - with `SizeOverflow` exactly where the bytes with the zero byte or the message's words, a
-    ///   pad counted, would pass 2^29 - 1;
-    /// - else as the allocator refuses.
+    /// It is refused, and everything is unchanged,
+    /// - with `SizeOverflow` exactly if the bytes with the zero byte, or the message's words,
+    ///   including a pad, would exceed 2^29 - 1;
+    /// - otherwise with the allocator's error.
     #[inline(always)]
     pub fn set_text(&mut self, value: &[u8]) -> Result<()>
         requires there { HasWords (A.segments self.old.memory.now.arena) self.old.place 1 }

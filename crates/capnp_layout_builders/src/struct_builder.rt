@@ -19,7 +19,7 @@ use capnp_units::units::{ElementCount, WirePointerCount};
 use capnp_wire::structs::StructReader;
 use capnp_wire_objects::place::{Place, word_at};
 
-/// The struct at a place, to read.
+/// Returns the struct at a place, to read.
 fn read_at<'a, A: BuilderArena>(arena: &'a A, place: StructPlace) -> StructReader<'a, A>
     requires there { HasWords (A.segments arena.now) place.start place.data_words }
     requires near { place.start.position + (place.data_words + place.pointers) < 2 ^ 61 }
@@ -30,7 +30,7 @@ fn read_at<'a, A: BuilderArena>(arena: &'a A, place: StructPlace) -> StructReade
     StructReader::at(arena, place.start, place.data_words, place.pointers)
 }
 
-/// A struct that is built, where it lies in an arena. Its words are there.
+/// A struct that is built, with its place in an arena. Its words exist there.
 #[derive(Drop)]
 pub struct StructBuilder<'a, A> {
     pub memory: &'a mut Memory<A>,
@@ -40,7 +40,7 @@ pub struct StructBuilder<'a, A> {
 impl<'a, A: BuilderArena> StructBuilder<'a, A> {
     ghost use Rattle.capnp_layout_builders.specs.Lending.{LendsStruct};
 
-    /// This struct, lent.
+    /// Lends this struct.
     pub fn reborrow(&mut self) -> StructBuilder<'_, A>
         ensures* lends { sem 𝓛 (LendsStruct A.row self.entry result) }
         ensures now { result.memory.now ≡ self.old.memory.now }
@@ -51,7 +51,7 @@ impl<'a, A: BuilderArena> StructBuilder<'a, A> {
         StructBuilder { memory, place }
     }
 
-    /// The struct to read. Its pointers are followed under the arena's nesting limit.
+    /// Returns the struct to read. Its pointers are followed under the arena's nesting limit.
     pub fn as_reader(&self) -> StructReader<'_, A>
         requires there { HasWords (A.segments self.now.memory.now.arena)
             self.now.place.start self.now.place.data_words }
@@ -65,7 +65,7 @@ impl<'a, A: BuilderArena> StructBuilder<'a, A> {
         read_at(&self.memory.arena, self.place)
     }
 
-    /// The struct to read, of which no handle to write is left.
+    /// Returns the struct to read, and uses up the handle for writing.
     pub fn into_reader(self) -> StructReader<'a, A>
         requires there { HasWords (A.segments self.memory.now.arena)
             self.place.start self.place.data_words }
@@ -80,7 +80,7 @@ impl<'a, A: BuilderArena> StructBuilder<'a, A> {
         read_at(&memory.arena, place)
     }
 
-    /// A pointer of the struct, by its index. It is one of the struct's.
+    /// Returns a pointer of the struct, by its index, which is within the struct.
     pub fn get_pointer_field(self, ptr_index: WirePointerCount) -> PointerBuilder<'a, A>
         requires near { self.place.start.position + (self.place.data_words + self.place.pointers)
             < 2 ^ 61 }
@@ -103,8 +103,8 @@ impl<'a, A: BuilderArena> StructBuilder<'a, A> {
         PointerBuilder { memory, place }
     }
 
-    /// Whether a pointer of the struct is null, a word of zeros, by its index. It is one of the
-    /// struct's.
+    /// Returns whether a pointer of the struct is null, a word of zeros, by its index, which is
+    /// within the struct.
     pub fn is_pointer_field_null(&self, ptr_index: WirePointerCount) -> bool
         requires near { self.now.place.start.position +
             (self.now.place.data_words + self.now.place.pointers) < 2 ^ 61 }
@@ -121,7 +121,8 @@ impl<'a, A: BuilderArena> StructBuilder<'a, A> {
         word_at(&self.memory.arena, place).unwrap_or(0) == 0
     }
 
-    /// A number of the data section, counted in its own width. The field lies in the section.
+    /// Returns a number of the data section, at an offset in units of its width. The field is in
+    /// the section.
     pub fn get_data_field<T: Primitive>(&self, offset: ElementCount) -> T
         requires near { self.now.place.start.position < 2 ^ 61 }
         requires inside { T.BYTES * offset + T.BYTES ≤ 8 * self.now.place.data_words }
@@ -134,7 +135,8 @@ impl<'a, A: BuilderArena> StructBuilder<'a, A> {
         number_in(bits)
     }
 
-    /// As the getter without a mask, of the bits exclusive or those of the field's default.
+    /// Returns a number like the getter without a mask, with its bits exclusive-or'ed with those of
+    /// the field's default.
     pub fn get_data_field_mask<T: Primitive + Mask>(&self, offset: ElementCount, mask: T::T) -> T
         requires near { self.now.place.start.position < 2 ^ 61 }
         requires inside { T.BYTES * offset + T.BYTES ≤ 8 * self.now.place.data_words }
@@ -145,7 +147,7 @@ impl<'a, A: BuilderArena> StructBuilder<'a, A> {
         T::mask(self.get_data_field::<T>(offset), mask)
     }
 
-    /// A bit of the data section, counted in bits. The field lies in the section.
+    /// Returns a bit of the data section, at an offset in bits. The field is in the section.
     pub fn get_bool_field(&self, offset: ElementCount) -> bool
         requires near { self.now.place.start.position < 2 ^ 61 }
         requires inside { offset < 64 * self.now.place.data_words }
@@ -156,7 +158,7 @@ impl<'a, A: BuilderArena> StructBuilder<'a, A> {
         get_bits(&self.memory.arena, place, offset, 1) == 1
     }
 
-    /// As the getter without a mask, of the bits exclusive or those of the field's default.
+    /// Returns a bit like the getter without a mask, exclusive-or'ed with the field's default.
     pub fn get_bool_field_mask(&self, offset: ElementCount, mask: bool) -> bool
         requires near { self.now.place.start.position < 2 ^ 61 }
         requires inside { offset < 64 * self.now.place.data_words }
@@ -166,7 +168,7 @@ impl<'a, A: BuilderArena> StructBuilder<'a, A> {
         self.get_bool_field(offset) != mask
     }
 
-    /// Writes a number of the data section, counted in its own width. The field lies in the
+    /// Writes a number of the data section, at an offset in units of its width. The field is in the
     /// section; its neighbours keep their bits.
     pub fn set_data_field<T: Primitive>(&mut self, offset: ElementCount, value: T)
         requires there { HasWords (A.segments self.old.memory.now.arena)
@@ -188,8 +190,8 @@ impl<'a, A: BuilderArena> StructBuilder<'a, A> {
         set_bits(&mut self.memory.arena, place, at, 8 * T::BYTES as u32, bits);
     }
 
-    /// As the setter without a mask, of the value's bits exclusive or those of the field's default:
-    /// read with this mask, the field is the value.
+    /// Writes a number like the setter without a mask, with the value's bits exclusive-or'ed with
+    /// those of the field's default: read with this mask, the field is the value.
     pub fn set_data_field_mask<T: Primitive + Mask>(
         &mut self,
         offset: ElementCount,
@@ -212,7 +214,7 @@ impl<'a, A: BuilderArena> StructBuilder<'a, A> {
         self.set_data_field(offset, T::mask(value, mask));
     }
 
-    /// Writes a bit of the data section, counted in bits. The field lies in the section; its
+    /// Writes a bit of the data section, at an offset in bits. The field is in the section; its
     /// neighbours keep their bits.
     pub fn set_bool_field(&mut self, offset: ElementCount, value: bool)
         requires there { HasWords (A.segments self.old.memory.now.arena)
@@ -233,7 +235,8 @@ impl<'a, A: BuilderArena> StructBuilder<'a, A> {
         set_bits(&mut self.memory.arena, place, offset, 1, bit);
     }
 
-    /// As the setter without a mask, of the bits exclusive or those of the field's default.
+    /// Writes a bit like the setter without a mask, with the value exclusive-or'ed with the field's
+    /// default.
     pub fn set_bool_field_mask(&mut self, offset: ElementCount, value: bool, mask: bool)
         requires there { HasWords (A.segments self.old.memory.now.arena)
             self.old.place.start self.old.place.data_words }
@@ -251,8 +254,8 @@ impl<'a, A: BuilderArena> StructBuilder<'a, A> {
         self.set_bool_field(offset, value != mask);
     }
 
-    /// Writes a section of N words over the first N of the data section, which has as many. What
-    /// stands behind them stays.
+    /// Writes a section of N words over the first N words of the data section, which has at least
+    /// N. The later words stay.
     #[inline(always)]
     pub fn set_data_section<const N: usize>(&mut self, section: &DataSection<N>)
         requires there { HasWords (A.segments self.old.memory.now.arena)

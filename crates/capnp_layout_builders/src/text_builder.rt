@@ -18,9 +18,9 @@ use std::cmp::Ordering;
 use std::fmt;
 use std::str::Utf8Error;
 
-/// A text that is built, where its bytes lie in an arena, with a position in bytes at which pushes
-/// write. The text has all of its bytes, those behind the position too; the zero byte at its end is
-/// none of them.
+/// A text that is built, with the place of its bytes in an arena, and a position in bytes at which
+/// pushes write. The text has all of its bytes, also those after the position; the zero byte at its
+/// end isn't part of it.
 #[derive(Drop)]
 pub struct TextBuilder<'a, A> {
     pub memory: &'a mut Memory<A>,
@@ -31,7 +31,7 @@ pub struct TextBuilder<'a, A> {
 impl<'a, A: BuilderArena> TextBuilder<'a, A> {
     ghost use Rattle.capnp_layout_builders.specs.Lending.{LendsText};
 
-    /// This text and position, lent. Where the lent one then stands isn't taken over.
+    /// Lends this text and its position. The position of the lent text isn't taken over.
     pub fn reborrow(&mut self) -> TextBuilder<'_, A>
         ensures* lends { sem 𝓛 (LendsText A.row self.entry result) }
         ensures now { result.memory.now ≡ self.old.memory.now }
@@ -47,21 +47,21 @@ impl<'a, A: BuilderArena> TextBuilder<'a, A> {
         }
     }
 
-    /// How many bytes the text has, whatever was pushed.
+    /// Returns the number of bytes, whatever was pushed.
     pub fn len(&self) -> usize
         ensures { result ≡ self.now.place.count }
     {
         self.place.count as usize
     }
 
-    /// Whether the text has no byte.
+    /// Returns whether the text is empty.
     pub fn is_empty(&self) -> bool
         ensures { result ≡ (self.now.place.count == 0) }
     {
         self.place.count == 0
     }
 
-    /// The bytes of the text, lent in place.
+    /// Returns the bytes of the text, lent in place.
     pub fn as_bytes(&self) -> &[u8]
         ensures has { HasBytes (words_in (A.segments self.now.memory.now.arena)) self.now.place
             result.now }
@@ -70,7 +70,7 @@ impl<'a, A: BuilderArena> TextBuilder<'a, A> {
         get_bytes(&self.memory.arena, self.place)
     }
 
-    /// The text as a `str`, lent in place. It is refused where the bytes aren't UTF-8.
+    /// Returns the text as a `str`, lent in place. It is refused if the bytes aren't UTF-8.
     pub fn to_str(&self) -> Result<&str, Utf8Error>
         ensures { HoldsOfBytes (words_in (A.segments self.now.memory.now.arena)) self.now.place
             (λ bytes. IsUtf8Text (λ text. text.now) bytes result) }
@@ -78,8 +78,8 @@ impl<'a, A: BuilderArena> TextBuilder<'a, A> {
         self.reborrow_as_reader().to_str()
     }
 
-    /// The text as a `String`, or `None` where the bytes aren't UTF-8. It is refused for want of
-    /// memory alone.
+    /// Returns the text as a `String`, or `None` if the bytes aren't UTF-8. The only error is lack
+    /// of memory.
     pub fn to_string(&self, alloc: Global) -> Result<Option<String>, AllocError>
         ensures { HoldsOfBytes (words_in (A.segments self.now.memory.now.arena)) self.now.place
             (λ bytes. IfOk result (IsTextIfAny string_bytes bytes)) }
@@ -87,7 +87,7 @@ impl<'a, A: BuilderArena> TextBuilder<'a, A> {
         self.reborrow_as_reader().to_string(alloc)
     }
 
-    /// Whether the text has exactly the bytes of a `str`.
+    /// Returns whether the text has exactly the bytes of a `str`.
     pub fn eq_str(&self, other: &str) -> bool
         ensures { HoldsOfBytes (words_in (A.segments self.now.memory.now.arena)) self.now.place
             (λ bytes. result ≡ pointwise nat_eq bytes other.now) }
@@ -95,7 +95,7 @@ impl<'a, A: BuilderArena> TextBuilder<'a, A> {
         self.reborrow_as_reader().eq_str(other)
     }
 
-    /// How the text compares with a `str`: by the first bytes that differ, else by length.
+    /// Compares the text with a `str`: by the first bytes that differ, otherwise by length.
     pub fn cmp_str(&self, other: &str) -> Ordering
         ensures { HoldsOfBytes (words_in (A.segments self.now.memory.now.arena)) self.now.place
             (λ bytes. result ≡ slice_cmp nat_cmp bytes other.now) }
@@ -103,7 +103,7 @@ impl<'a, A: BuilderArena> TextBuilder<'a, A> {
         self.reborrow_as_reader().cmp_str(other)
     }
 
-    /// The text, to read for a while.
+    /// Lends the text, to read for a while.
     pub fn reborrow_as_reader(&self) -> Reader<'_>
         ensures { HasBytes (words_in (A.segments self.now.memory.now.arena)) self.now.place
             result.0.now }
@@ -111,7 +111,7 @@ impl<'a, A: BuilderArena> TextBuilder<'a, A> {
         Reader(get_bytes(&self.memory.arena, self.place))
     }
 
-    /// The text to read, of which no handle to write is left.
+    /// Returns the text to read, and uses up the handle for writing.
     pub fn into_reader(self) -> Reader<'a>
         ensures { HasBytes (words_in (A.segments self.entry.memory.now.arena)) self.entry.place
             result.0.now }
@@ -120,8 +120,8 @@ impl<'a, A: BuilderArena> TextBuilder<'a, A> {
         Reader(get_bytes(&memory.arena, place))
     }
 
-    /// Writes bytes in place of as many from one on, counted from 0. They lie in the text; all
-    /// others stay, and so does the position.
+    /// Writes bytes over as many bytes from an index on, counted from 0. They are within the text;
+    /// all other bytes stay, and so does the position.
     pub fn write(&mut self, at: usize, bytes: &[u8])
         requires near { self.old.place.start.position < 2 ^ 61 }
         requires inside { at + length bytes.now ≤ self.old.place.count }
@@ -138,8 +138,8 @@ impl<'a, A: BuilderArena> TextBuilder<'a, A> {
         set_bytes(&mut self.memory.arena, place, at, bytes);
     }
 
-    /// Writes a character of ASCII at the position, and goes on behind it. There must be a byte
-    /// left for it.
+    /// Writes an ASCII character at the position, and moves the position past it. There must be a
+    /// byte left for the character.
     pub fn push_ascii(&mut self, ascii: u8)
         requires near { self.old.place.start.position < 2 ^ 61 }
         requires ascii { ascii < 128 }
@@ -159,7 +159,8 @@ impl<'a, A: BuilderArena> TextBuilder<'a, A> {
         self.position = set_bytes(&mut self.memory.arena, place, at, &[ascii]);
     }
 
-    /// Writes a text at the position, and goes on behind it. There must be bytes left for it.
+    /// Writes a text at the position, and moves the position past it. There must be bytes left for
+    /// it.
     pub fn push_str(&mut self, string: &str)
         requires near { self.old.place.start.position < 2 ^ 61 }
         requires room { self.old.position + length string.now ≤ self.old.place.count }
@@ -178,7 +179,7 @@ impl<'a, A: BuilderArena> TextBuilder<'a, A> {
         self.position = set_bytes(&mut self.memory.arena, place, at, string.as_bytes());
     }
 
-    /// Writes zeros over all bytes, and goes back to the first.
+    /// Writes zeros over all bytes, and moves the position to the first.
     pub fn clear(&mut self)
         requires near { self.old.place.start.position < 2 ^ 61 }
         ensures same { self.new.memory.ghost_name ≡ self.old.memory.ghost_name }
@@ -196,8 +197,8 @@ impl<'a, A: BuilderArena> TextBuilder<'a, A> {
     }
 }
 
-/// Texts that are built compare by their bytes, wherever they lie and go on. One whose words aren't
-/// there has none.
+/// Compares texts that are built by their bytes, whatever their places and positions are. A text
+/// whose words don't exist has no bytes.
 impl<A: BuilderArena> PartialEq for TextBuilder<'_, A> {
     ghost eq = { λ x y. pointwise nat_eq (text_lent A.segments x) (text_lent A.segments y) };
 

@@ -1,4 +1,4 @@
-//! What a pointer can be set to.
+//! Values to which a pointer can be set.
 ghost use Rattle.std.specs.Prelude.{◌≡◌, ◌+◌, ◌<◌, ◌^◌, ◌↔◌, ℕ, length, string_bytes, IfErr, OnOk, OnErr};
 ghost use Rattle.capnp_model.specs.Sections.{number_of};
 ghost use Rattle.capnp_model.specs.Trees.{Tree, plain_list};
@@ -16,20 +16,20 @@ use capnp_copy_arenas::blobs::{set_data, set_text};
 use capnp_text::{data, text};
 use capnp_units::errors::Result;
 
-/// What a pointer to values of a type can be set to.
+/// A value to which a pointer to values of a type can be set.
 pub trait SetterInput<T>: Sized {
     /// The value that the pointer gets.
     ghost tree: { Self → Tree };
 
-    /// It is too large for a message that has n words.
+    /// The value is too large for a message that has n words.
     ghost is_too_large: { Self → ℕ → Type 0 };
 
-    /// Puts the value in place of the pointer's, which is cleared. Texts and data don't look at
+    /// Replaces the pointer's value, which is cleared, by this value. Texts and data ignore
     /// `canonicalize`.
     ///
-    /// It is refused, and all stands as it was,
-    /// - with `SizeOverflow` exactly where the value is too large;
-    /// - else as the allocator refuses.
+    /// It is refused, and everything is unchanged,
+    /// - with `SizeOverflow` exactly if the value is too large;
+    /// - otherwise with the allocator's error.
     fn set_pointer_builder<A: BuilderArena>(
         builder: PointerBuilder<'_, A>,
         value: Self,
@@ -64,7 +64,7 @@ impl SetterInput<data::Owned> for &[u8] {
     }
 }
 
-/// A text is set to these bytes, with a zero byte behind them.
+/// A text is set to these bytes, followed by a zero byte.
 impl SetterInput<text::Owned> for text::Reader<'_> {
     ghost tree = { λ t. plain_list 2 (length t.0.now + 1) (number_of 8 t.0.now) };
 
@@ -81,7 +81,7 @@ impl SetterInput<text::Owned> for text::Reader<'_> {
     }
 }
 
-/// A text is set to the bytes of a `str`, with a zero byte behind them.
+/// A text is set to the bytes of a `str`, followed by a zero byte.
 impl SetterInput<text::Owned> for &str {
     ghost tree = { λ t. plain_list 2 (length t.now + 1) (number_of 8 t.now) };
 
@@ -97,7 +97,7 @@ impl SetterInput<text::Owned> for &str {
     }
 }
 
-/// A text is set to the bytes of a `String`, with a zero byte behind them.
+/// A text is set to the bytes of a `String`, followed by a zero byte.
 impl SetterInput<text::Owned> for &String {
     ghost tree = { λ t. plain_list 2 (length (string_bytes t.now) + 1)
         (number_of 8 (string_bytes t.now)) };
