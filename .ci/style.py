@@ -32,7 +32,7 @@ PATTERNS = tuple(
         (r"(?i)\bst(?:ands?|ood)\b(?! for\b)", "is, remains, applies"),
         (r"(?i)(?<!thing )(?<!body )(?<!\bwho )(?<!\bwhat )(?<!\bwhere )\belse\b(?! if\b)", "otherwise, or 'everything else'"),
         (r"(?i)(?<!\bthere )\b(?:is|are|was|were) no (?!longer\b|\w+er than\b|more\b|less\b)", "is not a"),
-        (r"\b(?:is|are|was|were) none\b|\bnone if\b", "is not one, or `None` if"),
+        (r"(?<!\bthere )\b(?:is|are|was|were) none\b|\bnone if\b", "is not one, or `None` if"),
         (r"(?i)(?<!let )\balone\b", "only"),
         (r"(?i)\bwho(?:so)?ever\b", "the caller, the reader, anyone who"),
         (r"(?i)\bgrowths?\b", "allocation"),

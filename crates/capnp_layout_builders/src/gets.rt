@@ -181,17 +181,16 @@ impl<'a, A: BuilderArena> PointerBuilder<'a, A> {
     /// sizes and keeps everything that it holds, and the words that it leaves become zero. A list
     /// that is wide enough stays at its place.
     ///
-    /// It is refused
-    /// - like `write_default`;
-    /// - then with the fault of the value there;
+    /// It is refused like `write_default`, then like
+    /// `capnp_copy_widening::struct_lists::get_struct_list`:
+    /// - with the fault of the value there;
     /// - with `WrongPointerKind` if the value isn't a list;
     /// - with `WrongElementSize` if it is a list of bits;
     /// - with `SizeOverflow` if the message's words would exceed 2^29 - 1;
-    /// - with the allocator's error.
+    /// - or with the allocator's error.
     ///
-    /// After `write_default` it is refused like `capnp_copy_widening::struct_lists::get_struct_list`.
-    /// Then all words are unchanged, and new words are zero. The only exception: if the default was written,
-    /// and is refused as a list of structs or can't be widened, the default remains.
+    /// Then all words are unchanged, and new words are zero. The only exception: if the default was
+    /// written, and is refused as a list of structs or can't be widened, the default remains.
     pub fn get_struct_list(
         self,
         element_size: StructSize,

@@ -20,14 +20,15 @@ use std::alloc::Global;
 /// A message that is built, over the segments of an allocator. Handles of its values hold `&mut
 /// builder.memory`.
 ///
-/// It is no value that may be dropped: it ends by `into_allocator`, which gives every segment back.
+/// It must not be dropped: it ends by `into_allocator`, which returns every segment to the
+/// allocator.
 pub struct Builder<A: Allocator> {
     pub memory: Memory<BuilderArenaImpl<A>>,
 }
 
 impl<A: Allocator> Builder<A> {
-    /// A message without segments. Memory for the list of them comes from `alloc`, their bytes come
-    /// from the allocator.
+    /// Makes a message without segments. Memory for the list of segments comes from `alloc`, their
+    /// bytes come from the allocator.
     pub fn new(alloc: Global, allocator: A) -> Builder<A>
         ensures allocator { result.memory.arena.allocator ≡ allocator }
         ensures empty { result.memory.arena.segments.items ≡ [] }
@@ -39,10 +40,10 @@ impl<A: Allocator> Builder<A> {
         }
     }
 
-    /// Makes the root pointer, which is null, where the message has no segment yet.
+    /// Makes the root pointer, which is null, if the message has no segment yet.
     ///
-    /// Where there is none, it is refused as the allocator refuses, or with `OutOfMemory` where the
-    /// list of segments can't grow. Then there is none still.
+    /// If there is no segment, it is refused with the allocator's error, or with `OutOfMemory` if
+    /// the list of segments can't grow. Then there is still no segment.
     pub fn allocate_root(&mut self) -> Result<()>
         ensures made { OnOk result (self.old.memory.arena.segments.items ≡ []
             → words_held self.new.memory.arena ≡ (0 ∷ []) ∷ []) }
@@ -65,7 +66,7 @@ impl<A: Allocator> Builder<A> {
         Ok(())
     }
 
-    /// The used bytes of each segment, in order. Memory for the list alone comes from `alloc`;
+    /// Returns the used bytes of each segment, in order. `alloc` provides memory only for the list.
     /// `OutOfMemory`: it was refused.
     pub fn get_segments_for_output(&self, alloc: Global) -> Result<Vec<&[u8]>>
         ensures segments { IfOk result (λ v. map (λ bytes. bytes.now) v.items
@@ -76,7 +77,7 @@ impl<A: Allocator> Builder<A> {
         self.memory.arena.get_segments_for_output(alloc)
     }
 
-    /// The used words of all segments.
+    /// Returns the number of used words of all segments.
     pub fn size_in_words(&self) -> usize
         ensures { result ≡ min
             (words_before (map (λ h. take (8 * h.used) (A.Segment.bytes h.segment))
@@ -86,8 +87,8 @@ impl<A: Allocator> Builder<A> {
         self.memory.arena.size_in_words()
     }
 
-    /// The allocator, to which every segment was given back. There is one lent slice at most among
-    /// them and in the allocator.
+    /// Returns the allocator, after every segment was returned to it. The segments and the
+    /// allocator together have at most one lent slice.
     pub fn into_allocator(self) -> A
         requires { length (loans_held self.memory.arena) ≤ 1 }
         ensures place { A.place result ≡ A.place self.memory.arena.allocator }
@@ -100,7 +101,7 @@ impl<A: Allocator> Builder<A> {
 }
 
 impl Builder<HeapAllocator> {
-    /// A message over the heap, with the suggested sizes of segments.
+    /// Makes a message on the heap, with the suggested sizes of segments.
     pub fn new_default(alloc: Global) -> Builder<HeapAllocator>
         ensures empty { result.memory.arena.segments.items ≡ [] }
         ensures growth { result.memory.arena.allocator.growth ≡ suggested_growth }
@@ -109,7 +110,7 @@ impl Builder<HeapAllocator> {
     }
 }
 
-/// The used bytes of each segment.
+/// The segments are the used bytes of each segment.
 impl<A: Allocator> ReaderSegments for Builder<A> {
     ghost segments = { λ b. map (λ h. take (8 * h.used) (A.Segment.bytes h.segment))
         b.memory.arena.segments.items };

@@ -27,19 +27,20 @@ use std::alloc::Global;
 #[derive(Clone, Copy)]
 struct Room {
     words: usize,
-    /// Whether all that is followed costs no more words than the options and a message allow.
+    /// Whether all objects that are followed cost at most the words that the options and a message
+    /// allow.
     is_whole: bool,
 }
 
-/// A word more than the cost, and at most those of a message.
+/// Returns one word more than the cost, at most the words of a message.
 fn room_for(cost: u64) -> usize
     ensures { result ≡ min cost (2 ^ 29 - 2) + 1 }
 {
     cost.min(MOST_WORDS as u64 - 1) as usize + 1
 }
 
-/// One word more than those that following the root costs, as far as the options' words go, and at
-/// most those of a message.
+/// Returns one word more than following the root costs, as far as the options' words go, and at
+/// most the words of a message.
 fn room_of<A: ReaderArena>(arena: &A, options: ReaderOptions, levels: u32) -> Room
     ensures room { Suffices (copy_visits levels (words_in (A.segments arena.now)) root)
         (most_cost options.traversal_limit_in_words) result.words }
@@ -68,25 +69,26 @@ fn room_of<A: ReaderArena>(arena: &A, options: ReaderOptions, levels: u32) -> Ro
 }
 
 impl<S: ReaderSegments> Reader<S> {
-    /// The levels of pointers; none under a negative limit.
+    /// Returns the levels of pointers; `None` under a negative limit.
     pub(crate) fn levels(&self) -> Option<u32>
         ensures { result ≡ levels self.now.options.nesting_limit }
     {
         levels_of(self.options.nesting_limit)
     }
 
-    /// Whether the message is one segment, of the canonical words of its value. It takes no memory.
+    /// Returns whether the message is one segment of the canonical words of its value. It takes no
+    /// memory.
     ///
-    /// Pointers are followed, and objects paid for, up to the first difference; a capability is
-    /// one. Where there is a second segment none is followed. It is refused only where a walk over
-    /// the whole value would be:
+    /// Pointers are followed, and objects paid for, up to the first difference; a capability is a
+    /// difference. If there is a second segment, no pointer is followed. It is refused only if a
+    /// walk over the whole value would be refused:
     /// - with `NestingLimitExceeded` under a negative nesting limit, at no cost;
-    /// - at the first fault, by its kind;
+    /// - at the first fault, with its kind;
     /// - with `ReadLimitExceeded` at the first object that costs more words than are left.
     ///
-    /// A no says that it is none with more levels either, so a message that is only too deep is
-    /// refused. It is exact where the segment has at most 2^29 - 1 words, the most that a message
-    /// has. (Encoding, "Canonicalization")
+    /// A no means that more levels wouldn't make it a yes, so a message that is only too deep is
+    /// refused. The answer is exact if the segment has at most 2^29 - 1 words, the most that a
+    /// message has. (Encoding, "Canonicalization")
     pub fn is_canonical(&self, limiter: &mut ReadLimiter) -> Result<bool>
         ensures { TellsCanonical (levels self.now.options.nesting_limit)
             (words_in (S.segments self.now.segments)) limiter.old result limiter.new }
@@ -97,17 +99,17 @@ impl<S: ReaderSegments> Reader<S> {
         is_canonical_message(self, limiter, levels)
     }
 
-    /// The canonical words of the message's value.
+    /// Returns the canonical words of the message's value.
     ///
     /// Pointers are followed, and objects paid for, in the order of reading. It is refused
     /// - with `NestingLimitExceeded` under a negative nesting limit, at no cost;
-    /// - at the first fault, by its kind, where a capability is one (`CapabilityInCanonical`);
+    /// - at the first fault, with its kind; a capability is a fault (`CapabilityInCanonical`);
     /// - with `ReadLimitExceeded` at the first object that costs more words than are left.
     ///
-    /// `BufferNotLargeEnough`: what is followed costs more words than the options' limit, or than
-    /// the 2^29 - 2 that a message has behind its root. `OutOfMemory`: there is none for the words;
-    /// then nothing was followed. It takes memory for a word more than what is followed costs.
-    /// (Encoding, "Canonicalization")
+    /// `BufferNotLargeEnough`: the objects that are followed cost more words than the options'
+    /// limit, or than the 2^29 - 2 words that a message has after its root. `OutOfMemory`: there is
+    /// no memory for the words; then nothing was followed. It takes memory for one word more than
+    /// the objects that are followed cost. (Encoding, "Canonicalization")
     pub fn canonicalize(&self, alloc: Global, limiter: &mut ReadLimiter) -> Result<Vec<Word>>
         ensures given { GivesCanonical (levels self.now.options.nesting_limit)
             self.now.options.traversal_limit_in_words

@@ -21,12 +21,12 @@ use capnp_stream_io::traits::{BufRead, Write};
 use capnp_units::errors::Result;
 use std::alloc::Global;
 
-/// The next message in a form, or `None` where no byte is left.
+/// Reads the next message in a form, or returns `None` if no byte is left.
 ///
 /// `InvalidNumberOfSegments`: its table counts more than 511. `MessageTooLarge`: it has more words
-/// than the options' limit. `Device`: the source failed. `OutOfMemory`: there is none for the
-/// segments. Else the form says why a piece can't be read. After a refusal less than a message was
-/// taken, and no byte behind the first that is at fault.
+/// than the options' limit. `Device`: the source failed. `OutOfMemory`: there is no memory for the
+/// segments. Otherwise the error of the form says why a piece can't be read. After a refusal less
+/// than a message was taken, and no byte after the first that is at fault.
 pub fn try_read_message_in<F: MessageForm, R: BufRead>(
     alloc: Global,
     source: &mut R,
@@ -44,8 +44,8 @@ pub fn try_read_message_in<F: MessageForm, R: BufRead>(
     }
 }
 
-/// The next message in a form. `PrematureEndOfFile`: no byte is left. Else it refuses as
-/// `try_read_message_in` does.
+/// Reads the next message in a form. `PrematureEndOfFile`: no byte is left. Otherwise it is refused
+/// like `try_read_message_in`.
 pub fn read_message_in<F: MessageForm, R: BufRead>(
     alloc: Global,
     source: &mut R,
@@ -62,11 +62,11 @@ pub fn read_message_in<F: MessageForm, R: BufRead>(
     }
 }
 
-/// The next message in a form, or `None` where no byte is left. Its table and its segments lie in
-/// the buffer, and no memory is taken.
+/// Reads the next message in a form, or returns `None` if no byte is left. Its table and its
+/// segments are in the buffer, and no memory is taken.
 ///
-/// `BufferNotLargeEnough`: the buffer has fewer bytes than the table and the segments. Else it
-/// refuses as `try_read_message_in` does, but never by `OutOfMemory`.
+/// `BufferNotLargeEnough`: the buffer has fewer bytes than the table and the segments. Otherwise it
+/// is refused like `try_read_message_in`, but never with `OutOfMemory`.
 pub fn try_read_message_no_alloc_in<'a, F: MessageForm, R: BufRead>(
     source: &mut R,
     buffer: &'a mut [u8],
@@ -85,8 +85,8 @@ pub fn try_read_message_no_alloc_in<'a, F: MessageForm, R: BufRead>(
     }
 }
 
-/// The next message in a form, which lies in the buffer. `PrematureEndOfFile`: no byte is left.
-/// Else it refuses as `try_read_message_no_alloc_in` does.
+/// Reads the next message in a form into the buffer. `PrematureEndOfFile`: no byte is left.
+/// Otherwise it is refused like `try_read_message_no_alloc_in`.
 pub fn read_message_no_alloc_in<'a, F: MessageForm, R: BufRead>(
     source: &mut R,
     buffer: &'a mut [u8],
@@ -104,12 +104,12 @@ pub fn read_message_no_alloc_in<'a, F: MessageForm, R: BufRead>(
     }
 }
 
-/// Writes the message of the used words of a builder's segments in a form; there is one segment at
-/// least.
+/// Writes the message of the used words of a builder's segments in a form; there is at least one
+/// segment.
 ///
-/// After a refusal a beginning of it was written. `OutOfMemory`: the sink wants memory, or the
-/// table of more than one segment does. `BufferNotLargeEnough`: the sink has an end, and less room
-/// than the message has bytes. `Device`: the sink failed.
+/// After a refusal a beginning of the message was written. `OutOfMemory`: the sink needs memory, or
+/// the table of more than one segment does. `BufferNotLargeEnough`: the sink has an end, and less
+/// room than the message has bytes. `Device`: the sink failed.
 pub fn write_message_in<F: MessageForm, W: Write, A: Allocator>(
     alloc: Global,
     out: &mut W,

@@ -1,5 +1,5 @@
-//! Messages: where their memory comes from, how far they are read, and whole messages that are read
-//! from streams and slices.
+//! Messages: the sources of their memory, limits of reading, and whole messages that are read from
+//! streams and slices.
 #![tactic(auto)]
 
 pub mod builder;

@@ -1,4 +1,4 @@
-//! Messages, by the names under which a user of the library looks for them.
+//! Messages, under the names that users of the library expect.
 pub use crate::builder::Builder;
 pub use crate::options::{DEFAULT_READER_OPTIONS, ReaderOptions};
 pub use crate::placed::{

@@ -1,4 +1,4 @@
-//! Messages that go on where an allocator's memory holds words already.
+//! Messages that continue in an allocator's memory, which holds words already.
 ghost use Rattle.std.specs.Prelude.{◌≡◌, ◌≤◌, ◌++◌, [], length, IfErr, OnOk, OnErr};
 ghost use Rattle.std.specs.List.{flat_map};
 ghost use Rattle.capnp_units.specs.declared.kinds.ErrorKind.TheVariants.{OutOfMemory};
@@ -10,12 +10,12 @@ use capnp_message_allocators::opening::OpensSegment;
 use capnp_units::errors::Result;
 
 impl<A: OpensSegment> Builder<A> {
-    /// Takes the words that the allocator was opened with as the one segment of a message that has
-    /// none yet, where they stand. What is built then goes on behind them. There is one lent slice
-    /// at most in the allocator. Where it holds no words there is no segment still.
+    /// Takes the words that the allocator was opened with as the only segment of a message that has
+    /// no segment yet, in place. Later values are built after them. The allocator has at most one
+    /// lent slice. If it holds no words, there is still no segment.
     ///
-    /// `OutOfMemory`: the list of segments can't grow; then there is no segment still, and the
-    /// words were given back to the allocator, which makes them zero.
+    /// `OutOfMemory`: the list of segments can't grow; then there is still no segment, and the
+    /// words were returned to the allocator, which makes them zero.
     pub fn open(&mut self) -> Result<()>
         requires empty { self.old.memory.arena.segments.items ≡ [] }
         requires one { length (A.loans self.old.memory.arena.allocator) ≤ 1 }

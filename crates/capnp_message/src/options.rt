@@ -1,18 +1,18 @@
-//! How far messages are read.
+//! Limits of reading messages.
 ghost use Rattle.std.specs.Prelude.{◌≡◌};
 ghost use Rattle.capnp_units.specs.Limits.{limit_of, granted_of, followed_of};
 ghost use Rattle.capnp_message.specs.Options.{default_options};
 
 use capnp_units::limiter::ReadLimiter;
 
-/// How far a message is read.
+/// The limits under which a message is read.
 #[derive(Clone, Copy, Debug, PartialEq, Eq)]
 pub struct ReaderOptions {
-    /// The most words of a message that is read from bytes, and of what is followed in it where its
-    /// limiter is made of these options; `None`: any number.
+    /// The most words of a message that is read from bytes. It is also the most words of the
+    /// objects that are followed in it, if its limiter is made of these options. `None`: any
+    /// number.
     pub traversal_limit_in_words: Option<usize>,
-    /// The most levels of pointers, the root's the first. Under a negative limit nothing but null
-    /// is read.
+    /// The most levels of pointers, the root's the first. Under a negative limit only null is read.
     pub nesting_limit: i32,
 }
 
@@ -50,7 +50,7 @@ impl ReaderOptions {
         self
     }
 
-    /// A budget of the most words, of which none is granted yet.
+    /// Returns a budget of the most words, with none granted yet.
     pub fn read_limiter(&self) -> ReadLimiter
         ensures limit { limit_of result ≡ self.now.traversal_limit_in_words }
         ensures granted { granted_of result ≡ 0 }

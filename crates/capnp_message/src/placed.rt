@@ -1,4 +1,5 @@
-//! Handles that know where their values lie, and are made at a pointer of a message that is built.
+//! Handles that know the places of their values, and are made at a pointer of a message that is
+//! built.
 ghost use Rattle.std.specs.Prelude.{◌≡◌, ◌+◌, ◌<◌, ◌^◌, ◌↔◌, ℕ, None, IfOk, IfErr, OnErr};
 ghost use Rattle.capnp_model.specs.Segments.{Segments};
 ghost use Rattle.capnp_units.specs.declared.errors.Error.{Error};
@@ -33,28 +34,30 @@ use capnp_units::errors::Result;
 pub use capnp_units::sizes::StructSize;
 use capnp_wire_objects::place::{Place, ROOT};
 
-/// A handle that knows where its value lies and holds no memory, so that its calls take the memory
-/// of the message. One over a struct is a `PlacedStruct`. The pointer's word stays where it is.
+/// A handle that knows the place of its value and holds no memory, so that its calls take the
+/// memory of the message. A handle over a struct is a `PlacedStruct`. The pointer's word stays at
+/// its place.
 pub trait Placed: Sized {
-    /// From the segments before to those then, what is made in place of the value at a place, with
-    /// a count, and the handle.
+    /// The relation between the segments before and after, the count, and the handle, if a new
+    /// value replaces the value at a place.
     ghost is_made: { Segments → Segments → code.Place → ℕ → Self → Type 0 };
 
-    /// With such a count it is too large for a message that has n words.
+    /// With such a count the value is too large for a message that has n words.
     ghost is_too_large: { ℕ → ℕ → Type 0 };
 
-    /// From the segments before to those then, what is got at a place, and the handle.
+    /// The relation between the segments before and after, and the handle, if the value at a place
+    /// is read.
     ghost is_got: { Segments → Segments → code.Place → Self → Type 0 };
 
-    /// Why it isn't got, and what stands then.
+    /// The errors with which reading it is refused, and the segments then.
     ghost is_not_got: { Segments → Segments → code.Place → Error → Type 0 };
 
-    /// Puts a new value in place of the pointer's, which is cleared, with n bytes or elements;
-    /// types that count none don't look at the length.
+    /// Replaces the pointer's value, which is cleared, by a new value with n bytes or elements;
+    /// types without a count ignore the length.
     ///
-    /// It is refused, and all stands as it was,
-    /// - with `SizeOverflow` exactly where the value is too large;
-    /// - else as the allocator refuses.
+    /// It is refused, and everything is unchanged,
+    /// - with `SizeOverflow` exactly if the value is too large;
+    /// - otherwise with the allocator's error.
     fn init_at<A: BuilderArena>(memory: &mut Memory<A>, place: Place, length: u32) -> Result<Self>
         requires there { HasWords (A.segments memory.old.arena) place 1 }
         requires near { place.position < 2 ^ 61 }
@@ -68,9 +71,9 @@ pub trait Placed: Sized {
             (e.kind ≡ SizeOverflow) ↔ is_too_large length (total_words (at memory.old))) }
         ensures cause { IfErr result (λ e. IsSizeOrRefusal A.refuses e) };
 
-    /// The value that the pointer names.
+    /// Returns the value that the pointer names.
     ///
-    /// It is refused as the type says.
+    /// It is refused by the rules of the type.
     fn get_at<A: BuilderArena>(memory: &mut Memory<A>, place: Place) -> Result<Self>
         requires there { HasWords (A.segments memory.old.arena) place 1 }
         requires near { place.position < 2 ^ 61 }
@@ -82,7 +85,7 @@ pub trait Placed: Sized {
             is_not_got (at memory.old) (at memory.new) place e) };
 }
 
-/// A handle over a struct, which is made of the place where the struct lies.
+/// A handle over a struct, which is made of the place of the struct.
 pub trait PlacedStruct: Sized {
     /// The data words and the pointers of such a struct.
     ghost STRUCT_SIZE: { StructSize };
@@ -93,23 +96,23 @@ pub trait PlacedStruct: Sized {
     /// The data words and the pointers of such a struct.
     const STRUCT_SIZE: StructSize;
 
-    /// The handle of the struct at a place.
+    /// Makes the handle of the struct at a place.
     fn at_place(place: StructPlace) -> Self
         ensures { place_of result ≡ place };
 }
 
-/// A type of values, with the handle that they are built by.
+/// A type of values, with the handle that builds them.
 pub trait OwnedPlaced {
     /// The handle.
     type Builder: Placed;
 }
 
-/// Puts a struct of zeros and nulls in place of the pointer's value, which is cleared, and returns
-/// where it lies.
+/// Replaces the pointer's value, which is cleared, by a struct of zeros and nulls, and returns its
+/// place.
 ///
-/// It is refused, and all stands as it was,
-/// - with `SizeOverflow` exactly where the message's words would pass 2^29 - 1 with a pad counted;
-/// - else as the allocator refuses.
+/// It is refused, and everything is unchanged,
+/// - with `SizeOverflow` exactly if the message's words, including a pad, would exceed 2^29 - 1;
+/// - otherwise with the allocator's error.
 fn init_struct_at<A: BuilderArena>(
     memory: &mut Memory<A>,
     place: Place,
@@ -130,8 +133,8 @@ fn init_struct_at<A: BuilderArena>(
     init_struct(&mut memory.arena, place, size)
 }
 
-/// The struct that the pointer names, with at least these sections, as `PointerBuilder::get_struct`
-/// gives it without a default.
+/// Returns the struct that the pointer names, with at least these sections, like
+/// `PointerBuilder::get_struct` without a default.
 fn get_struct_at<A: BuilderArena>(
     memory: &mut Memory<A>,
     place: Place,
@@ -149,8 +152,8 @@ fn get_struct_at<A: BuilderArena>(
     struct_or_default(&mut memory.arena, place, size, None)
 }
 
-/// A struct is made of zeros and nulls, whatever the count. It is got with at least the sizes of
-/// its type, and refused, as by `PointerBuilder::get_struct`.
+/// A struct is made of zeros and nulls, whatever the count. It is read with at least the sizes of
+/// its type, and refused, like in `PointerBuilder::get_struct`.
 impl<T: PlacedStruct> Placed for T {
     ghost is_made = { λ s u slot n o. StructPlaced T.STRUCT_SIZE s u slot (T.place_of o) };
 
@@ -171,7 +174,7 @@ impl<T: PlacedStruct> Placed for T {
     }
 }
 
-/// Where the bytes of a text lie, its zero byte not counted; a `TextBuilder` over the place writes
+/// The place of the bytes of a text, without its zero byte; a `TextBuilder` over the place writes
 /// them.
 #[derive(Clone, Copy)]
 pub struct TextPlace(pub BlobPlace);
@@ -201,7 +204,7 @@ impl Placed for TextPlace {
     }
 }
 
-/// Where data lie; a `DataBuilder` over the place writes them.
+/// The place of data; a `DataBuilder` over the place writes them.
 #[derive(Clone, Copy)]
 pub struct DataPlace(pub BlobPlace);
 
@@ -230,11 +233,12 @@ impl Placed for DataPlace {
     }
 }
 
-/// Where a pointer of no type lies; a `PointerBuilder` over the place writes it, as a list say.
+/// The place of an untyped pointer; a `PointerBuilder` over the place writes it, for example as a
+/// list.
 #[derive(Clone, Copy)]
 pub struct PointerPlace(pub Place);
 
-/// A pointer of no type is made null, and got as it is; neither is refused.
+/// An untyped pointer is made null, and read as it is; neither is refused.
 impl Placed for PointerPlace {
     ghost is_made = { λ s u slot n o. ClearsValue s u (place_view slot) × (o.0 ≡ slot) };
 
@@ -258,26 +262,26 @@ impl Placed for PointerPlace {
     }
 }
 
-/// Texts are built by where their bytes lie.
+/// Texts are built by the place of their bytes.
 impl OwnedPlaced for text::Owned {
     type Builder = TextPlace;
 }
 
-/// Data are built by where they lie.
+/// Data are built by their place.
 impl OwnedPlaced for data::Owned {
     type Builder = DataPlace;
 }
 
 impl<A: Allocator> Builder<A> {
-    /// Puts a new value of n bytes or elements at the root, in place of the one that it had, which
-    /// is cleared, and returns its handle.
+    /// Replaces the value of the root, which is cleared, by a new value of n bytes or elements, and
+    /// returns its handle.
     ///
     /// It is refused
-    /// - with `OutOfBounds` where the first segment was allocated by hand and has no word;
-    /// - with `SizeOverflow` only where the value is too large for the message;
-    /// - else as the allocator refuses.
+    /// - with `OutOfBounds` if the first segment was allocated by hand and has no word;
+    /// - with `SizeOverflow` only if the value is too large for the message;
+    /// - otherwise with the allocator's error.
     ///
-    /// Then all stands as it was, but that a root that is null may have been made.
+    /// Then everything is unchanged, except that a root that is null may have been made.
     pub fn initn_root<T: Placed>(&mut self, length: u32) -> Result<T>
         ensures made { IfOk result (T.is_made (rooted (words_held self.old.memory.arena))
             (words_held self.new.memory.arena) root_slot length) }
@@ -292,8 +296,8 @@ impl<A: Allocator> Builder<A> {
         T::init_at(&mut self.memory, ROOT, length)
     }
 
-    /// As `initn_root`, with no bytes or elements: a struct of zeros and nulls, for a handle over
-    /// structs.
+    /// Does what `initn_root` does, with no bytes or elements: it makes a struct of zeros and
+    /// nulls, for a handle over structs.
     pub fn init_root<T: Placed>(&mut self) -> Result<T>
         ensures made { IfOk result (T.is_made (rooted (words_held self.old.memory.arena))
             (words_held self.new.memory.arena) root_slot 0) }
@@ -307,14 +311,14 @@ impl<A: Allocator> Builder<A> {
         self.initn_root(0)
     }
 
-    /// The handle of the value that the root has, which is made, as null, where the message has no
-    /// segment yet.
+    /// Returns the handle of the root's value. If the message has no segment yet, the root is made,
+    /// as null.
     ///
     /// It is refused
-    /// - with `OutOfBounds` where the first segment was allocated by hand and has no word, and all
-    ///   stands as it was;
-    /// - where there is no root, as the allocator refuses, and all stands as it was;
-    /// - else as the type refuses it.
+    /// - with `OutOfBounds` if the first segment was allocated by hand and has no word, and
+    ///   everything is unchanged;
+    /// - with the allocator's error if there is no root, and everything is unchanged;
+    /// - otherwise by the rules of the type.
     pub fn get_root<T: Placed>(&mut self) -> Result<T>
         ensures got { IfOk result (T.is_got (rooted (words_held self.old.memory.arena))
             (words_held self.new.memory.arena) root_slot) }
@@ -330,7 +334,8 @@ impl<A: Allocator> Builder<A> {
 }
 
 impl<T: OwnedPlaced, A: Allocator> TypedBuilder<T, A> {
-    /// Puts a new value of n bytes or elements at the root, as `Builder::initn_root`.
+    /// Replaces the value of the root by a new value of n bytes or elements, like
+    /// `Builder::initn_root`.
     pub fn initn_root(&mut self, length: u32) -> Result<T::Builder>
         ensures made { IfOk result (T.Builder.is_made
             (rooted (words_held self.old.message.memory.arena))
@@ -348,7 +353,8 @@ impl<T: OwnedPlaced, A: Allocator> TypedBuilder<T, A> {
         self.message.initn_root(length)
     }
 
-    /// Puts a new value without bytes or elements at the root, as `Builder::init_root`.
+    /// Replaces the value of the root by a new value without bytes or elements, like
+    /// `Builder::init_root`.
     pub fn init_root(&mut self) -> Result<T::Builder>
         ensures made { IfOk result (T.Builder.is_made
             (rooted (words_held self.old.message.memory.arena))
@@ -366,7 +372,7 @@ impl<T: OwnedPlaced, A: Allocator> TypedBuilder<T, A> {
         self.message.init_root()
     }
 
-    /// The handle of the value that the root has, as `Builder::get_root`.
+    /// Returns the handle of the root's value, like `Builder::get_root`.
     pub fn get_root(&mut self) -> Result<T::Builder>
         ensures got { IfOk result (T.Builder.is_got
             (rooted (words_held self.old.message.memory.arena))

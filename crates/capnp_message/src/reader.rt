@@ -20,7 +20,7 @@ pub struct SegmentArray<'a> {
 }
 
 impl<'a> SegmentArray<'a> {
-    /// These segments.
+    /// Makes an array of these segments.
     pub fn new(segments: &'a [&'a [u8]]) -> SegmentArray<'a>
         ensures { result.segments.now ≡ segments.now }
     {
@@ -43,7 +43,7 @@ impl ReaderSegments for SegmentArray<'_> {
     }
 }
 
-/// A message: its segments, and how deep a value in it may be nested. It is the arena that its
+/// A message: its segments, and the limit of nesting of its values. It is the arena that its
 /// handles read.
 #[derive(Drop)]
 pub struct Reader<S> {
@@ -52,8 +52,8 @@ pub struct Reader<S> {
 }
 
 impl<S: ReaderSegments> Reader<S> {
-    /// The message of these segments, read under these options; what is followed in it is paid for
-    /// from the limiter that each call takes.
+    /// Makes the message of these segments, read under these options. Each call takes a limiter,
+    /// which pays for the objects that it follows.
     pub fn new(segments: S, options: ReaderOptions) -> Reader<S>
         ensures segments { result.segments ≡ segments }
         ensures options { result.options ≡ options }
@@ -61,8 +61,8 @@ impl<S: ReaderSegments> Reader<S> {
         Reader { segments, options }
     }
 
-    /// The root, read as a caller's type. It is refused with `OutOfBounds` where the first segment
-    /// has no word, at no cost; else as the type reads a pointer.
+    /// Returns the root, read as a caller's type. It is refused with `OutOfBounds` if the first
+    /// segment has no word, at no cost; otherwise like the type's reading of a pointer.
     pub fn get_root<'a, T: FromPointerReader<'a, Reader<S>>>(
         &'a self,
         limiter: &mut ReadLimiter,
@@ -75,22 +75,22 @@ impl<S: ReaderSegments> Reader<S> {
         T::get_from_pointer(&root, limiter, None)
     }
 
-    /// The segments, given back.
+    /// Returns the segments, and uses up the message.
     pub fn into_segments(self) -> S
         ensures { result ≡ self.segments }
     {
         self.segments
     }
 
-    /// The segments, lent.
+    /// Returns the segments, lent.
     pub fn get_segments(&self) -> &S
         ensures { result.now ≡ self.now.segments }
     {
         &self.segments
     }
 
-    /// The words of the segments that a pointer can name, the first 2^32; past the last whole word
-    /// of each none counts. The count stops at 2^64 - 1.
+    /// Returns the number of words of the segments that a pointer can name, which are the first
+    /// 2^32. Bytes after the last whole word of a segment don't count. The count stops at 2^64 - 1.
     pub fn size_in_words(&self) -> usize
         ensures { result ≡ min (words_before (S.segments self.now.segments)
             (min (length (S.segments self.now.segments)) (2 ^ 32))) (2 ^ 64 - 1) }

@@ -37,13 +37,14 @@ use capnp_wire::traits::FromPointerReader;
 use capnp_wire_objects::arena::ReaderArena;
 use capnp_wire_objects::place::{ROOT, has_words};
 
-/// What is built was made here: no limit of words, and as many levels as there can be.
+/// A value that is built is trusted: there is no limit of words, and the limit of levels is the
+/// highest.
 const BOUNDLESS: ReaderOptions = ReaderOptions {
     traversal_limit_in_words: None,
     nesting_limit: i32::MAX,
 };
 
-/// Makes the root pointer where an arena has no segment yet, and looks that its word is there.
+/// Makes the root pointer if an arena has no segment yet, and checks that its word exists.
 pub(crate) fn begin<A: BuilderArena>(arena: &mut A) -> Result<()>
     ensures rooted { OnOk result (words_in (A.segments arena.new)
         ≡ rooted (words_in (A.segments arena.old))) }
@@ -69,11 +70,11 @@ pub(crate) fn begin<A: BuilderArena>(arena: &mut A) -> Result<()>
     }
 }
 
-/// The root pointer of a message that is built in an arena, to write; it is made, as null, where
-/// there is no segment yet.
+/// Returns the root pointer of a message that is built in an arena, to write. If there is no
+/// segment yet, the root pointer is made, as null.
 ///
-/// It is refused as the allocator refuses, or with `OutOfBounds` where the first segment was
-/// allocated by hand and has no word; then all stands as it was.
+/// It is refused with the allocator's error, or with `OutOfBounds` if the first segment was
+/// allocated by hand and has no word; then everything is unchanged.
 pub fn root_of<A: BuilderArena>(memory: &mut Memory<A>) -> Result<PointerBuilder<'_, A>>
     ensures same { IfOk result (λ p. p.memory.ghost_name ≡ memory.entry.ghost_name) }
     ensures place { IfOk result (λ p. p.place ≡ root_slot) }
@@ -95,8 +96,8 @@ pub fn root_of<A: BuilderArena>(memory: &mut Memory<A>) -> Result<PointerBuilder
     })
 }
 
-/// The root pointer to read: null where the arena has no segment. It is refused with `OutOfBounds`
-/// where the first segment has no word.
+/// Returns the root pointer to read: null if the arena has no segment. It is refused with
+/// `OutOfBounds` if the first segment has no word.
 fn root_to_read<A: Allocator>(
     arena: &BuilderArenaImpl<A>,
 ) -> Result<PointerReader<'_, BuilderArenaImpl<A>>>
@@ -114,15 +115,15 @@ fn root_to_read<A: Allocator>(
 }
 
 impl<A: Allocator> Builder<A> {
-    /// Sets the root to a value, in place of the one that it had, which is cleared. Texts and data
-    /// are copied.
+    /// Sets the root to a value, which replaces its old value; the old value is cleared. Texts and
+    /// data are copied.
     ///
     /// It is refused
-    /// - with `OutOfBounds` where the first segment was allocated by hand and has no word;
-    /// - with `SizeOverflow` only where the value is too large for the message;
-    /// - else as the allocator refuses.
+    /// - with `OutOfBounds` if the first segment was allocated by hand and has no word;
+    /// - with `SizeOverflow` only if the value is too large for the message;
+    /// - otherwise with the allocator's error.
     ///
-    /// Then all stands as it was, but that a root that is null may have been made.
+    /// Then everything is unchanged, except that a root that is null may have been made.
     pub fn set_root<T, V: SetterInput<T> + Drop>(&mut self, value: V) -> Result<()>
         ensures value { OnOk result (Becomes (rooted (words_held self.old.memory.arena))
             (words_held self.new.memory.arena) root (V.tree value)) }
@@ -138,11 +139,11 @@ impl<A: Allocator> Builder<A> {
         V::set_pointer_builder(pointer, value, false)
     }
 
-    /// The root to read, as a caller's type, at any depth. Where nothing was written it is null,
-    /// which costs nothing.
+    /// Returns the root to read, as a caller's type, at any depth. If nothing was written, the root
+    /// is null, which costs nothing.
     ///
-    /// It is refused with `OutOfBounds`, at no cost, where the first segment was allocated by hand
-    /// and has no word; else as the type reads a pointer.
+    /// It is refused with `OutOfBounds`, at no cost, if the first segment was allocated by hand and
+    /// has no word; otherwise like the type's reading of a pointer.
     pub fn get_root_as_reader<'a, T: FromPointerReader<'a, BuilderArenaImpl<A>>>(
         &'a self,
         limiter: &mut ReadLimiter,
@@ -155,8 +156,8 @@ impl<A: Allocator> Builder<A> {
         T::get_from_pointer(&pointer, limiter, None)
     }
 
-    /// The message to read, under no limit of words and as many levels as there can be.
-    /// `into_segments` gives the builder back.
+    /// Returns the message to read, without a limit of words and under the highest limit of levels.
+    /// `into_segments` returns the builder.
     pub fn into_reader(self) -> Reader<Builder<A>>
         ensures { result ≡ record { segments = self; options = boundless } }
     {

@@ -36,12 +36,12 @@ use capnp_stream_io::traits::{BufRead, Write};
 use capnp_units::errors::Result;
 use std::alloc::Global;
 
-/// The next framed message, or `None` where no byte is left.
+/// Reads the next framed message, or returns `None` if no byte is left.
 ///
 /// `InvalidNumberOfSegments`: its table counts more than 511. `MessageTooLarge`: it has more words
-/// than the options' limit. `FailedToFillTheWholeBuffer`: the bytes end before it does. `Device`:
-/// the source failed. `OutOfMemory`: there is none for the segments. After a refusal less than a
-/// message was taken, and no byte behind the first that is at fault.
+/// than the options' limit. `FailedToFillTheWholeBuffer`: the bytes end before the message does.
+/// `Device`: the source failed. `OutOfMemory`: there is no memory for the segments. After a refusal
+/// less than a message was taken, and no byte after the first that is at fault.
 pub fn try_read_message<R: BufRead>(
     alloc: Global,
     source: &mut R,
@@ -55,8 +55,8 @@ pub fn try_read_message<R: BufRead>(
     try_read_message_in::<Framed, R>(alloc, source, options)
 }
 
-/// The next framed message. `PrematureEndOfFile`: no byte is left. Else it refuses as
-/// `try_read_message` does.
+/// Reads the next framed message. `PrematureEndOfFile`: no byte is left. Otherwise it is refused
+/// like `try_read_message`.
 pub fn read_message<R: BufRead>(
     alloc: Global,
     source: &mut R,
@@ -70,11 +70,11 @@ pub fn read_message<R: BufRead>(
     read_message_in::<Framed, R>(alloc, source, options)
 }
 
-/// The next framed message, or `None` where no byte is left. It lies in the buffer as it was read,
-/// and no memory is taken.
+/// Reads the next framed message, or returns `None` if no byte is left. The message is in the
+/// buffer as it was read, and no memory is taken.
 ///
-/// `BufferNotLargeEnough`: the buffer has fewer bytes than the message. Else it refuses as
-/// `try_read_message` does, but never by `OutOfMemory`.
+/// `BufferNotLargeEnough`: the buffer has fewer bytes than the message. Otherwise it is refused
+/// like `try_read_message`, but never with `OutOfMemory`.
 pub fn try_read_message_no_alloc<'a, R: BufRead>(
     source: &mut R,
     buffer: &'a mut [u8],
@@ -88,8 +88,8 @@ pub fn try_read_message_no_alloc<'a, R: BufRead>(
     try_read_message_no_alloc_in::<Framed, R>(source, buffer, options)
 }
 
-/// The next framed message, which lies in the buffer as it was read. `PrematureEndOfFile`: no byte
-/// is left. Else it refuses as `try_read_message_no_alloc` does.
+/// Reads the next framed message, which is in the buffer as it was read. `PrematureEndOfFile`: no
+/// byte is left. Otherwise it is refused like `try_read_message_no_alloc`.
 pub fn read_message_no_alloc<'a, R: BufRead>(
     source: &mut R,
     buffer: &'a mut [u8],
@@ -103,13 +103,13 @@ pub fn read_message_no_alloc<'a, R: BufRead>(
     read_message_no_alloc_in::<Framed, R>(source, buffer, options)
 }
 
-/// The framed message at the front of the slice, which then begins behind it. Its segments are lent
-/// from the slice.
+/// Reads the framed message at the front of the slice, and moves the slice past the message. Its
+/// segments are lent from the slice.
 ///
 /// `MessageEndsPrematurely`: no byte is left, or the segments are cut.
 /// `FailedToFillTheWholeBuffer`: the table is cut. `InvalidNumberOfSegments` and `MessageTooLarge`
-/// as for streams. `OutOfMemory`: there is none for the table. After a refusal the slice is as it
-/// was.
+/// come as for streams. `OutOfMemory`: there is no memory for the table. After a refusal the slice
+/// is unchanged.
 pub fn read_message_from_flat_slice<'a>(
     alloc: Global,
     slice: &mut &'a [u8],
@@ -130,7 +130,7 @@ pub fn read_message_from_flat_slice<'a>(
     }
 }
 
-/// The message as by the function above, which takes no memory.
+/// Reads the message like the function above, and takes no memory.
 pub fn read_message_from_flat_slice_no_alloc<'a>(
     slice: &mut &'a [u8],
     options: ReaderOptions,
@@ -148,12 +148,12 @@ pub fn read_message_from_flat_slice_no_alloc<'a>(
     }
 }
 
-/// Writes the framed message of the used words of a builder's segments, of which there is one at
-/// least.
+/// Writes the framed message of the used words of a builder's segments; there is at least one
+/// segment.
 ///
-/// After a refusal a beginning of it was written. `OutOfMemory`: the sink wants memory, or the
-/// table of more than one segment does. `BufferNotLargeEnough`: the sink has an end, and less room
-/// than the message has bytes. `Device`: the sink failed.
+/// After a refusal a beginning of the message was written. `OutOfMemory`: the sink needs memory, or
+/// the table of more than one segment does. `BufferNotLargeEnough`: the sink has an end, and less
+/// room than the message has bytes. `Device`: the sink failed.
 pub fn write_message<W: Write, A: Allocator>(
     alloc: Global,
     out: &mut W,
@@ -167,8 +167,9 @@ pub fn write_message<W: Write, A: Allocator>(
     write_message_in::<Framed, W, A>(alloc, out, message)
 }
 
-/// The framed message of the used words of a builder's segments, of which there is one at least, as
-/// bytes. `OutOfMemory`: they, or the table of more than one segment, want memory.
+/// Returns the framed message of the used words of a builder's segments as bytes; there is at least
+/// one segment. `OutOfMemory`: there is no memory for the bytes, or for the table of more than one
+/// segment.
 pub fn write_message_to_words<A: Allocator>(alloc: Global, message: &Builder<A>) -> Result<Vec<u8>>
     requires { 0 < length message.now.memory.arena.segments.items }
     ensures text { IfOk result (λ v. v.items ≡ frame (words_held message.now.memory.arena)) }

@@ -26,13 +26,13 @@ pub use capnp_stream_packed::streams::{PackedRead, PackedWrite};
 use capnp_units::errors::Result;
 use std::alloc::Global;
 
-/// The next packed message, or `None` where no byte is left.
+/// Reads the next packed message, or returns `None` if no byte is left.
 ///
 /// `InvalidNumberOfSegments`: its table counts more than 511. `MessageTooLarge`: it has more words
 /// than the options' limit. `PrematureEndOfPackedInput`, `FailedToFillTheWholeBuffer` and
-/// `PackedInputDidNotEndCleanlyOnASegmentBoundary`: a piece of it can't be read. `Device`: the
-/// source failed. `OutOfMemory`: there is none for the segments. After a refusal less than a
-/// message was taken, and no byte behind the first that is at fault.
+/// `PackedInputDidNotEndCleanlyOnASegmentBoundary`: a piece of the message can't be read. `Device`:
+/// the source failed. `OutOfMemory`: there is no memory for the segments. After a refusal less than
+/// a message was taken, and no byte after the first that is at fault.
 pub fn try_read_message<R: BufRead>(
     alloc: Global,
     source: &mut R,
@@ -46,8 +46,8 @@ pub fn try_read_message<R: BufRead>(
     try_read_message_in::<Packed, R>(alloc, source, options)
 }
 
-/// The next packed message. `PrematureEndOfFile`: no byte is left. Else it refuses as
-/// `try_read_message` does.
+/// Reads the next packed message. `PrematureEndOfFile`: no byte is left. Otherwise it is refused
+/// like `try_read_message`.
 pub fn read_message<R: BufRead>(
     alloc: Global,
     source: &mut R,
@@ -61,11 +61,11 @@ pub fn read_message<R: BufRead>(
     read_message_in::<Packed, R>(alloc, source, options)
 }
 
-/// The next packed message, or `None` where no byte is left. Its table and its segments lie
-/// unpacked in the buffer, and no memory is taken.
+/// Reads the next packed message, or returns `None` if no byte is left. Its table and its segments
+/// are unpacked in the buffer, and no memory is taken.
 ///
 /// `BufferNotLargeEnough`: the buffer has fewer bytes than the table and the segments unpacked.
-/// Else it refuses as `try_read_message` does, but never by `OutOfMemory`.
+/// Otherwise it is refused like `try_read_message`, but never with `OutOfMemory`.
 pub fn try_read_message_no_alloc<'a, R: BufRead>(
     source: &mut R,
     buffer: &'a mut [u8],
@@ -79,8 +79,8 @@ pub fn try_read_message_no_alloc<'a, R: BufRead>(
     try_read_message_no_alloc_in::<Packed, R>(source, buffer, options)
 }
 
-/// The next packed message, which lies unpacked in the buffer behind its table.
-/// `PrematureEndOfFile`: no byte is left. Else it refuses as `try_read_message_no_alloc` does.
+/// Reads the next packed message, which is unpacked in the buffer after its table.
+/// `PrematureEndOfFile`: no byte is left. Otherwise it is refused like `try_read_message_no_alloc`.
 pub fn read_message_no_alloc<'a, R: BufRead>(
     source: &mut R,
     buffer: &'a mut [u8],
@@ -94,12 +94,12 @@ pub fn read_message_no_alloc<'a, R: BufRead>(
     read_message_no_alloc_in::<Packed, R>(source, buffer, options)
 }
 
-/// Writes the packed message of the used words of a builder's segments, of which there is one at
-/// least.
+/// Writes the packed message of the used words of a builder's segments; there is at least one
+/// segment.
 ///
-/// After a refusal a beginning of it was written. `OutOfMemory`: the sink wants memory, or the
-/// table of more than one segment does. `BufferNotLargeEnough`: the sink has an end, and less room
-/// than the message has bytes. `Device`: the sink failed.
+/// After a refusal a beginning of the message was written. `OutOfMemory`: the sink needs memory, or
+/// the table of more than one segment does. `BufferNotLargeEnough`: the sink has an end, and less
+/// room than the message has bytes. `Device`: the sink failed.
 pub fn write_message<W: Write, A: Allocator>(
     alloc: Global,
     out: &mut W,

@@ -10,7 +10,7 @@ use capnp_units::segments::ReaderSegments;
 use capnp_wire::traits::Owned;
 use std::marker::PhantomData;
 
-/// A message whose root is read as what `T` says.
+/// A message whose root is read as the type `T` says.
 #[derive(Drop)]
 pub struct TypedReader<S, T> {
     message: Reader<S>,
@@ -18,7 +18,7 @@ pub struct TypedReader<S, T> {
 }
 
 impl<S: ReaderSegments, T> TypedReader<S, T> {
-    /// This message.
+    /// Wraps this message.
     pub fn new(message: Reader<S>) -> TypedReader<S, T>
         ensures { result.message ≡ message }
     {
@@ -28,8 +28,8 @@ impl<S: ReaderSegments, T> TypedReader<S, T> {
         }
     }
 
-    /// The root. It is refused with `OutOfBounds` where the first segment has no word, at no cost;
-    /// else as the type reads a pointer.
+    /// Returns the root. It is refused with `OutOfBounds` if the first segment has no word, at no
+    /// cost; otherwise like the type's reading of a pointer.
     pub fn get<'a>(&'a self, limiter: &mut ReadLimiter) -> Result<T::Reader>
     where
         T: Owned<'a, Reader<S>>,
@@ -40,14 +40,14 @@ impl<S: ReaderSegments, T> TypedReader<S, T> {
         self.message.get_root(limiter)
     }
 
-    /// The message.
+    /// Returns the message.
     pub fn into_inner(self) -> Reader<S>
         ensures { result ≡ self.message }
     {
         self.message
     }
 
-    /// The segments, lent.
+    /// Returns the segments, lent.
     pub fn get_segments(&self) -> &S
         ensures { result.now ≡ self.now.message.segments }
     {
@@ -56,7 +56,7 @@ impl<S: ReaderSegments, T> TypedReader<S, T> {
 }
 
 impl<S: ReaderSegments> Reader<S> {
-    /// This message, whose root is read as what `T` says.
+    /// Wraps this message, whose root is read as the type `T` says.
     pub fn into_typed<T>(self) -> TypedReader<S, T>
         ensures { result.message ≡ self }
     {

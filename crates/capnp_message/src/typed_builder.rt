@@ -23,17 +23,17 @@ use capnp_wire::traits::Owned;
 use std::alloc::Global;
 use std::marker::PhantomData;
 
-/// A message that is built, whose root is what `T` says.
+/// A message that is built, whose root is of the type `T`.
 ///
-/// It is no value that may be dropped: its message ends by `into_allocator`. Handles of its values
-/// take `&mut typed.message.memory`.
+/// It must not be dropped: its message ends by `into_allocator`. Handles of its values take `&mut
+/// typed.message.memory`.
 pub struct TypedBuilder<T, A: Allocator> {
     pub message: Builder<A>,
     root: PhantomData<T>,
 }
 
 impl<T, A: Allocator> TypedBuilder<T, A> {
-    /// This message.
+    /// Wraps this message.
     pub fn new(message: Builder<A>) -> TypedBuilder<T, A>
         ensures { result.message ≡ message }
     {
@@ -43,7 +43,7 @@ impl<T, A: Allocator> TypedBuilder<T, A> {
         }
     }
 
-    /// Sets the root to a value, as `Builder::set_root`.
+    /// Sets the root to a value, like `Builder::set_root`.
     pub fn set_root<V: SetterInput<T> + Drop>(&mut self, value: V) -> Result<()>
         ensures value { OnOk result (Becomes (rooted (words_held self.old.message.memory.arena))
             (words_held self.new.message.memory.arena) root (V.tree value)) }
@@ -61,8 +61,8 @@ impl<T, A: Allocator> TypedBuilder<T, A> {
         self.message.set_root(value)
     }
 
-    /// The root to read, at any depth, null where nothing was written. It is refused as by
-    /// `Builder::get_root_as_reader`.
+    /// Returns the root to read, at any depth; it is null if nothing was written. It is refused
+    /// like `Builder::get_root_as_reader`.
     pub fn get_root_as_reader<'a>(&'a self, limiter: &mut ReadLimiter) -> Result<T::Reader>
     where
         T: Owned<'a, BuilderArenaImpl<A>>,
@@ -73,7 +73,7 @@ impl<T, A: Allocator> TypedBuilder<T, A> {
         self.message.get_root_as_reader(limiter)
     }
 
-    /// The message.
+    /// Returns the message.
     pub fn into_inner(self) -> Builder<A>
         ensures { result ≡ self.message }
     {
@@ -81,14 +81,14 @@ impl<T, A: Allocator> TypedBuilder<T, A> {
         message
     }
 
-    /// The message, lent.
+    /// Returns the message, lent.
     pub fn borrow_inner(&self) -> &Builder<A>
         ensures { result.now ≡ self.now.message }
     {
         &self.message
     }
 
-    /// The message to read, under no limit of words and as many levels as there can be.
+    /// Returns the message to read, without a limit of words and under the highest limit of levels.
     pub fn into_reader(self) -> TypedReader<Builder<A>, T>
         ensures { result.message ≡ record { segments = self.message; options = boundless } }
     {
@@ -98,7 +98,7 @@ impl<T, A: Allocator> TypedBuilder<T, A> {
 }
 
 impl<T> TypedBuilder<T, HeapAllocator> {
-    /// A message over the heap, with the suggested sizes of segments.
+    /// Makes a message on the heap, with the suggested sizes of segments.
     pub fn new_default(alloc: Global) -> TypedBuilder<T, HeapAllocator>
         ensures empty { result.message.memory.arena.segments.items ≡ [] }
         ensures growth { result.message.memory.arena.allocator.growth ≡ suggested_growth }
@@ -108,7 +108,7 @@ impl<T> TypedBuilder<T, HeapAllocator> {
 }
 
 impl<A: Allocator> Builder<A> {
-    /// This message, whose root is what `T` says.
+    /// Wraps this message, whose root is of the type `T`.
     pub fn into_typed<T>(self) -> TypedBuilder<T, A>
         ensures { result.message ≡ self }
     {

@@ -9,10 +9,10 @@ use capnp_stream_io::traits::{BufRead, Read};
 use capnp_units::errors::{Error, Result};
 use capnp_units::kinds::ErrorKind;
 
-/// A source over a reader, which reads what it is asked for and no byte more, but for one where it
-/// is to tell whether there is one.
+/// A source over a reader. It reads the bytes that it is asked for and no more, except for one byte
+/// to find out whether a byte is left.
 ///
-/// A refusal of the reader, by any kind, is one by `Device`, and nothing else is refused.
+/// A refusal of the reader, with any kind, becomes `Device`, and nothing else is refused.
 #[derive(Drop)]
 pub struct Unbuffered<R> {
     inner: R,
@@ -25,7 +25,7 @@ pub struct Unbuffered<R> {
 impl<R: Read> Unbuffered<R> {
     ghost use Rattle.capnp_message.specs.Unbuffered.{bytes_left, front_bytes, HandsOn};
 
-    /// The source of this reader.
+    /// Makes the source of this reader.
     pub fn new(inner: R) -> Unbuffered<R>
         ensures inner { result.inner ≡ inner }
         ensures remaining { bytes_left R.remaining result ≡ prepend_known [] (R.remaining inner) }
@@ -39,8 +39,8 @@ impl<R: Read> Unbuffered<R> {
         }
     }
 
-    /// The reader. It is one byte at most ahead of what was taken, and only where no message was
-    /// read since the source told whether a byte is left. The byte is lost.
+    /// Returns the reader. It is at most one byte ahead of the bytes that were taken, and only if
+    /// no message was read since the source reported whether a byte is left. The byte is lost.
     pub fn into_inner(self) -> R
         ensures inner { result ≡ self.inner }
         ensures ahead { length (front_bytes self) ≤ 1 }
@@ -48,7 +48,7 @@ impl<R: Read> Unbuffered<R> {
         self.inner
     }
 
-    /// Asks the reader for a byte where none is held. At the end of input none comes.
+    /// Asks the reader for a byte if none is held. At the end of input no byte comes.
     fn refill(&mut self) -> Result<()>
         ensures kept { Keeps (bytes_left R.remaining self.old) (bytes_left R.remaining self.new) }
         ensures end { OnOk result

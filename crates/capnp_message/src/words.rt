@@ -1,4 +1,5 @@
-//! Messages that are made of words: canonical ones, and those that stand in a segment.
+//! Messages that are made of words: canonical messages, and those whose words are in a segment
+//! already.
 ghost use Rattle.std.specs.Prelude.{◌≡◌, ◌≢◌, ◌↔◌, ◌⊎◌, ◌+◌, ◌*◌, ◌^◌, ◌<◌, ◌≤◌, ◌++◌, ◌∷◌, [], length, Err, IfErr, OnOk, OnErr};
 ghost use Rattle.std.specs.List.{flat_map};
 ghost use Rattle.capnp_model.specs.Answers.{levels};
@@ -29,8 +30,8 @@ use capnp_units::sizes::{Word, words_as_bytes};
 use capnp_wire_objects::place::{Place, ROOT, has_words};
 use std::alloc::Global;
 
-/// Sets the root to the value of words that begin with its pointer, in place of the value that it
-/// had, which is cleared.
+/// Sets the root to the value of words that begin with its pointer. This replaces the root's old
+/// value, which is cleared.
 fn replace_root<A: BuilderArena>(arena: &mut A, words: &[Word], levels: u32) -> Result<()>
     ensures copy { ReplacesRoot levels (words_view words.now) (words_in (A.segments arena.old))
         (words_in (A.segments arena.new)) result }
@@ -46,12 +47,13 @@ fn replace_root<A: BuilderArena>(arena: &mut A, words: &[Word], levels: u32) -> 
 }
 
 impl<A: Allocator> Builder<A> {
-    /// Makes a message that has no segment yet of these words, as its one segment; they are copied.
+    /// Makes a message that has no segment yet of these words, as its only segment; they are
+    /// copied.
     ///
-    /// It is refused, and there is no segment still,
-    /// - with `SizeOverflow` exactly where there are more than 2^29 - 1 words;
-    /// - with `OutOfMemory` where the list of segments can't grow;
-    /// - else as the allocator refuses.
+    /// It is refused, and there is still no segment,
+    /// - with `SizeOverflow` exactly if there are more than 2^29 - 1 words;
+    /// - with `OutOfMemory` if the list of segments can't grow;
+    /// - otherwise with the allocator's error.
     pub fn set_words(&mut self, words: &[Word]) -> Result<()>
         requires empty { self.old.memory.arena.segments.items ≡ [] }
         ensures words { OnOk result (words_held self.new.memory.arena ≡ words_view words.now ∷ []) }
@@ -80,20 +82,20 @@ impl<A: Allocator> Builder<A> {
         }
     }
 
-    /// Sets the root to the value of a message, as its canonical copy, in place of the value that
-    /// it had, which is cleared. Where the message has no segment yet, the canonical words are its
-    /// one segment then.
+    /// Sets the root to the value of a message, as its canonical copy. This replaces the root's old
+    /// value, which is cleared. If the message has no segment yet, the canonical words become its
+    /// only segment.
     ///
     /// It is refused
-    /// - as `Reader::canonicalize` is, and then nothing was allocated;
-    /// - where there is no segment, as `set_words`, and there is none still;
-    /// - with `OutOfBounds` where the first segment has no word, and nothing was allocated;
-    /// - with `SizeOverflow` exactly where a count, or the message's words with the next object and
-    ///   a pad, would pass 2^29 - 1;
-    /// - else as the allocator refuses.
+    /// - like `Reader::canonicalize`, and then nothing was allocated;
+    /// - if there is no segment, like `set_words`, and there is still none;
+    /// - with `OutOfBounds` if the first segment has no word, and nothing was allocated;
+    /// - with `SizeOverflow` exactly if a count, or the message's words with the next object and a
+    ///   pad, would exceed 2^29 - 1;
+    /// - otherwise with the allocator's error.
     ///
-    /// Then the root has the value that it had, and all words stand as they were. Those that were
-    /// allocated are zero: no more than twice those that following the canonical words costs.
+    /// Then the root has its old value, and all words are unchanged. The words that were allocated
+    /// are zero: they are at most twice the words that following the canonical words costs.
     pub fn set_root_canonical<S: ReaderSegments>(
         &mut self,
         alloc: Global,
@@ -123,11 +125,11 @@ impl<A: Allocator> Builder<A> {
         replace_root(&mut self.memory.arena, &words, levels)
     }
 
-    /// Takes a segment of which n words are used already, from the first on, as the one segment of
-    /// a message that has none yet. The words behind them are zero, and there is one lent slice at
-    /// most in it and in the allocator. What is built then goes on behind those words.
+    /// Takes a segment whose first n words are used already as the only segment of a message that
+    /// has no segment yet. The later words are zero, and the segment and the allocator together
+    /// have at most one lent slice. Later values are built after the used words.
     ///
-    /// `OutOfMemory`: the list of segments can't grow; then the segment was given back to the
+    /// `OutOfMemory`: the list of segments can't grow; then the segment was returned to the
     /// allocator, which makes it zero.
     pub fn hold_segment(&mut self, segment: A::Segment, used: u32) -> Result<()>
         requires empty { self.old.memory.arena.segments.items ≡ [] }

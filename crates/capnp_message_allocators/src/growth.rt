@@ -1,26 +1,26 @@
-//! How many words an allocator asks for, where fewer would do.
+//! The number of words that an allocator requests when fewer would suffice.
 ghost use Rattle.std.specs.Prelude.{◌≡◌};
 ghost use Rattle.capnp_message_allocators.specs.Growth.{grown, suggested_growth, words_handed};
 
 use capnp_units::limits::MOST_WORDS;
 
-/// How the segments of a message grow.
+/// The sizes of a message's later segments.
 #[derive(Clone, Copy, Debug, PartialEq, Eq)]
 pub enum AllocationStrategy {
-    /// Each has the words of the first, or more where more are asked for.
+    /// Each segment has the words of the first, or more if more are requested.
     FixedSize,
-    /// Each has about the words of all before it.
+    /// Each segment has about the words of all earlier segments.
     GrowHeuristically,
 }
 
-/// The words of a message's first segment, unless others are set. The crate that is ported suggests
-/// as many.
+/// The words of a message's first segment, unless another number is set. The crate that is ported
+/// suggests the same number.
 pub const SUGGESTED_FIRST_SEGMENT_WORDS: u32 = 1024;
 
-/// How segments grow, unless it is set.
+/// The sizes of later segments, unless another strategy is set.
 pub const SUGGESTED_ALLOCATION_STRATEGY: AllocationStrategy = AllocationStrategy::GrowHeuristically;
 
-/// The words of the next segment, where no more are asked for.
+/// The number of words of the next segment, if no more are requested.
 #[derive(Clone, Copy, Debug)]
 pub(crate) struct Growth {
     pub(crate) first: u32,
@@ -30,7 +30,7 @@ pub(crate) struct Growth {
 }
 
 impl Growth {
-    /// What is suggested.
+    /// Makes the suggested sizes.
     pub(crate) fn new() -> Growth
         ensures { result ≡ suggested_growth }
     {
@@ -42,14 +42,14 @@ impl Growth {
         }
     }
 
-    /// The words of the next segment, of which at least n are asked for.
+    /// Returns the number of words of the next segment, if at least n words are requested.
     pub(crate) fn words_for(&self, minimum: u32) -> u32
         ensures { result ≡ words_handed self.now minimum }
     {
         minimum.max(self.next.min(self.most))
     }
 
-    /// The first segment has n words.
+    /// Sets the number of words of the first segment to n.
     pub(crate) fn start_with(&mut self, words: u32)
         ensures { self.new ≡ record self.old { first = words; next = words } }
     {
@@ -57,7 +57,7 @@ impl Growth {
         self.next = words;
     }
 
-    /// A segment of n words was handed out.
+    /// Records that a segment of n words was handed out.
     pub(crate) fn grow(&mut self, words: u32)
         ensures { self.new ≡ grown self.old words }
     {
@@ -67,7 +67,7 @@ impl Growth {
         }
     }
 
-    /// The segments were given back.
+    /// Records that the segments were returned.
     pub(crate) fn restart(&mut self)
         ensures { self.new ≡ record self.old { next = self.old.first } }
     {

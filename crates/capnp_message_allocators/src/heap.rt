@@ -9,7 +9,7 @@ use capnp_copy_arenas::allocator::Allocator;
 use capnp_units::errors::Result;
 use std::alloc::Global;
 
-/// n zero bytes.
+/// Returns n zero bytes.
 pub(crate) fn zeros(alloc: Global, bytes: usize) -> Result<Vec<u8>>
     ensures bytes { IfOk result (λ v. v.items ≡ replicate bytes 0) }
     ensures kind { IfErr result (λ e. e.kind ≡ OutOfMemory) }
@@ -18,10 +18,10 @@ pub(crate) fn zeros(alloc: Global, bytes: usize) -> Result<Vec<u8>>
     Ok(all)
 }
 
-/// Takes each segment from the heap: of 1024 words at first, then of about as many as all before it
-/// have. Where more are asked for it has those.
+/// Takes each segment from the heap: of 1024 words at first, then of about as many as all earlier
+/// segments have. If more words are requested, the segment has those.
 ///
-/// A segment is refused with `OutOfMemory` alone, where the heap refuses its bytes.
+/// A segment is only refused with `OutOfMemory`, if the heap refuses its bytes.
 #[derive(Drop)]
 pub struct HeapAllocator {
     alloc: Global,
@@ -29,7 +29,7 @@ pub struct HeapAllocator {
 }
 
 impl HeapAllocator {
-    /// An allocator with the suggested sizes.
+    /// Makes an allocator with the suggested sizes.
     pub fn new(alloc: Global) -> HeapAllocator
         ensures { result.growth ≡ suggested_growth }
     {
@@ -39,7 +39,7 @@ impl HeapAllocator {
         }
     }
 
-    /// The allocator with n words in the first segment.
+    /// Returns the allocator with n words in the first segment.
     pub fn first_segment_words(mut self, value: u32) -> HeapAllocator
         ensures { result.growth ≡ record self.growth { first = value; next = value } }
     {
@@ -47,7 +47,7 @@ impl HeapAllocator {
         self
     }
 
-    /// The allocator with segments that grow so.
+    /// Returns the allocator with this strategy of sizes.
     pub fn allocation_strategy(mut self, value: AllocationStrategy) -> HeapAllocator
         ensures { result.growth ≡ record self.growth { strategy = value } }
     {
@@ -55,7 +55,7 @@ impl HeapAllocator {
         self
     }
 
-    /// The allocator with at most n words in a segment, unless more are asked for at once.
+    /// Returns the allocator with at most n words in a segment, unless more are requested at once.
     pub fn max_segment_words(mut self, value: u32) -> HeapAllocator
         ensures { result.growth ≡ record self.growth { most = value } }
     {

@@ -1,4 +1,4 @@
-//! Where the memory of a message comes from: segments of the heap, and of slices that are lent.
+//! Sources of the memory of a message: segments of the heap, and of slices that are lent.
 #![tactic(auto)]
 
 pub mod growth;

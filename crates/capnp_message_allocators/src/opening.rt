@@ -6,11 +6,12 @@ use capnp_copy_arenas::allocator::{Allocator, SegmentBytes};
 
 /// An allocator that may hold a segment whose first words are used already.
 pub trait OpensSegment: Allocator {
-    /// The bytes of those words: `None` where it holds no such segment, or has handed it out.
+    /// The bytes of those words: `None` if the allocator holds no such segment, or has handed it
+    /// out.
     ghost opened: { Self → List ℕ };
 
-    /// Hands out the segment, with the count of its used words, which is not zero; `None` where it
-    /// holds none such. It is handed out once.
+    /// Hands out the segment, with the number of its used words, which is not zero; `None` if the
+    /// allocator holds no such segment. It is handed out once.
     fn take_opened(&mut self) -> Option<(Self::Segment, u32)>
         ensures words { IfSome result (λ p. take (8 * p.1) (Self.Segment.bytes p.0)
             ≡ opened self.old) }

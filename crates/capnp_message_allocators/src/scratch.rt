@@ -14,11 +14,12 @@ use capnp_units::errors::Result;
 use std::alloc::Global;
 use std::mem;
 
-/// Hands out a lent slice as a segment, and segments from the heap where the slice is out or too
-/// short. Of the slice the first words may be used already, as many as it was opened with. Behind
-/// them it is all zeros whenever it is here, and it is all zeros when the allocator is dropped.
+/// Hands out a lent slice as a segment, and segments from the heap if the slice is handed out or
+/// too short. The first words of the slice may be used already: those that it was opened with.
+/// Whenever the allocator has the slice, the later words are all zeros. When the allocator is
+/// dropped, the whole slice is all zeros.
 ///
-/// A segment from the heap is refused with `OutOfMemory` alone.
+/// A segment from the heap is only refused with `OutOfMemory`.
 pub struct ScratchSpaceHeapAllocator<'a> {
     pub region: &'a mut [u8],
     pub taken: bool,
@@ -30,8 +31,8 @@ pub struct ScratchSpaceHeapAllocator<'a> {
 }
 
 impl<'a> ScratchSpaceHeapAllocator<'a> {
-    /// An allocator that uses the whole words of this slice, all of whose bytes it makes zero.
-    /// Other segments come from `alloc`, with the suggested sizes.
+    /// Makes an allocator that uses the whole words of this slice, and makes all bytes of the slice
+    /// zero. Other segments come from `alloc`, with the suggested sizes.
     pub fn new(alloc: Global, scratch_space: &'a mut [u8]) -> ScratchSpaceHeapAllocator<'a>
         ensures same { result.region.ghost_name ≡ scratch_space.entry.ghost_name }
         ensures home { (result.taken ≡ false) × (result.used ≡ 0) }
@@ -47,8 +48,9 @@ impl<'a> ScratchSpaceHeapAllocator<'a> {
         }
     }
 
-    /// An allocator over a slice that is all zeros already, as it is where an allocator before it
-    /// ended; no byte of it is written. Other segments come from `alloc`, with the suggested sizes.
+    /// Makes an allocator over a slice that is all zeros already, as it is when an earlier
+    /// allocator ended; none of its bytes is written. Other segments come from `alloc`, with the
+    /// suggested sizes.
     pub fn resume(alloc: Global, scratch_space: &'a mut [u8]) -> ScratchSpaceHeapAllocator<'a>
         requires zeros { AllZero scratch_space.old }
         ensures same { result.region.ghost_name ≡ scratch_space.entry.ghost_name }
@@ -64,9 +66,9 @@ impl<'a> ScratchSpaceHeapAllocator<'a> {
         }
     }
 
-    /// An allocator over a slice whose first words are used already, as the words of a message that
-    /// goes on. All bytes behind them are made zero. Other segments come from `alloc`, with the
-    /// suggested sizes.
+    /// Makes an allocator over a slice whose first words are used already, such as the words of a
+    /// message that goes on. All later bytes are made zero. Other segments come from `alloc`, with
+    /// the suggested sizes.
     pub fn open(
         alloc: Global,
         scratch_space: &'a mut [u8],
@@ -89,7 +91,7 @@ impl<'a> ScratchSpaceHeapAllocator<'a> {
         }
     }
 
-    /// Sets how many words the first segment from the heap has, unless more are asked for.
+    /// Sets the number of words of the first segment from the heap, unless more are requested.
     pub fn second_segment_words(&mut self, value: u32)
         ensures kept { (self.new.region ≡ self.old.region) × (self.new.taken ≡ self.old.taken)
             × (self.new.used ≡ self.old.used) }
@@ -99,7 +101,7 @@ impl<'a> ScratchSpaceHeapAllocator<'a> {
         self.heap.growth.start_with(value);
     }
 
-    /// Sets how segments from the heap grow.
+    /// Sets the strategy of sizes of segments from the heap.
     pub fn allocation_strategy(&mut self, value: AllocationStrategy)
         ensures kept { (self.new.region ≡ self.old.region) × (self.new.taken ≡ self.old.taken)
             × (self.new.used ≡ self.old.used) }
@@ -109,7 +111,7 @@ impl<'a> ScratchSpaceHeapAllocator<'a> {
     }
 }
 
-/// The slice is all zeros again.
+/// Makes the slice all zeros again.
 impl Drop for ScratchSpaceHeapAllocator<'_> {
     fn drop(self)
         ensures { AllZero self.exit.0.now }

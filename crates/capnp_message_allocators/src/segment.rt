@@ -40,7 +40,7 @@ impl<'a> SegmentBytes for Segment<'a> {
     }
 }
 
-/// Makes the used words of a slice zero again; those behind them are.
+/// Makes the used words of a slice zero again; the later words are zero already.
 pub(crate) fn wipe(slice: &mut [u8], words_used: u32)
     requires { ZeroFrom (8 * words_used) slice.old }
     ensures { AllZero slice.new }

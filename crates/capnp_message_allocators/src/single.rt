@@ -1,4 +1,4 @@
-//! A lent slice as the one segment.
+//! A lent slice as the only segment.
 ghost use Rattle.std.specs.Prelude.{◌≡◌, ◌≢◌, ◌*◌, ◌≤◌, ◌++◌, ◌∷◌, ◌↔◌, [], false, length, IsOk, IfOk, IfErr, OnErr};
 ghost use Rattle.capnp_units.specs.declared.kinds.ErrorKind.TheVariants.{BufferNotLargeEnough, SizeOverflow};
 ghost use Rattle.capnp_copy_arenas.specs.Memory.{AllZero};
@@ -11,9 +11,10 @@ use capnp_units::errors::{Error, Result};
 use capnp_units::kinds::ErrorKind;
 use std::mem;
 
-/// Hands out a lent slice as the one segment. The slice is all zeros whenever it is here.
+/// Hands out a lent slice as the only segment. The slice is all zeros whenever the allocator has
+/// it.
 ///
-/// A second segment, and one of more words than the slice has, is refused with
+/// A second segment, or a segment of more words than the slice has, is refused with
 /// `BufferNotLargeEnough`.
 #[derive(Drop)]
 pub struct SingleSegmentAllocator<'a> {
@@ -23,7 +24,8 @@ pub struct SingleSegmentAllocator<'a> {
 }
 
 impl<'a> SingleSegmentAllocator<'a> {
-    /// An allocator that uses the whole words of this slice, all of whose bytes it makes zero.
+    /// Makes an allocator that uses the whole words of this slice, and makes all bytes of the slice
+    /// zero.
     pub fn new(segment: &'a mut [u8]) -> SingleSegmentAllocator<'a>
         ensures same { result.region.ghost_name ≡ segment.entry.ghost_name }
         ensures home { result.taken ≡ false }

@@ -15,17 +15,17 @@ use std::alloc::Global;
 use std::io;
 use std::io::{BufRead as _, BufReader, BufWriter};
 
-/// How many bytes are asked of a reader at once.
+/// The number of bytes that are requested from a reader at once.
 pub const INPUT_BUFFER_LEN: usize = 64 * 1024;
 
-/// How many bytes a buffered sink holds back.
+/// The number of bytes that a buffered sink holds back.
 pub const OUTPUT_BUFFER_LEN: usize = 64 * 1024;
 
-/// A reader with a buffer of 64 KiB, which shows what it holds without a wait, and counts the
-/// failures of its device.
+/// A reader with a buffer of 64 KiB, which shows the bytes that it holds without a wait, and counts
+/// the failures of its device.
 ///
 /// A call that a signal interrupts is made again. After a failure the bytes that were read before
-/// it are still there, and the next call asks the reader again.
+/// are still there, and the next call asks the reader again.
 #[derive(Drop)]
 pub struct Source<S> {
     inner: BufReader<S>,
@@ -33,8 +33,8 @@ pub struct Source<S> {
 }
 
 impl<S: io::Read> Source<S> {
-    /// The source of a reader. Nothing is read yet. `OutOfMemory`: the memory for the buffer was
-    /// refused.
+    /// Makes the source of a reader. Nothing is read yet. `OutOfMemory`: the memory for the buffer
+    /// was refused.
     pub fn new(alloc: Global, inner: S) -> Result<Source<S>>
     where
         S: Drop,
@@ -51,8 +51,8 @@ impl<S: io::Read> Source<S> {
         }
     }
 
-    /// How many bytes were read and are not yet taken. Where there are none the next read asks the
-    /// reader, and may wait.
+    /// Returns the number of bytes that were read and are not yet taken. If there are none, the
+    /// next read asks the reader, and may wait.
     pub fn buffered(&self) -> usize
         ensures { result ≡ length (source_window self.now) }
     {
@@ -60,7 +60,7 @@ impl<S: io::Read> Source<S> {
     }
 }
 
-/// Fills the whole of `buf` by reads, or refuses at the end of input, which it then has reached.
+/// Fills the whole of `buf` by reads, or is refused at the end of input, which it then has reached.
 #[inline(never)]
 fn read_whole<S: io::Read>(source: &mut Source<S>, buf: &mut [u8]) -> Result<()>
     ensures ok { OnOk result (Consumes (source_remaining S.remaining source.old)
@@ -164,13 +164,13 @@ impl<S: io::Write> Sink<S> {
     }
 }
 
-/// A sink that holds bytes back until they are many, or `flush` is called, and hands them on in
-/// their order.
+/// A sink that holds bytes back until they are many, or `flush` is called, and passes them on in
+/// order.
 ///
-/// A refused write then says that the writer below failed at these bytes or at some that were held
-/// back before. What it didn't take is still held, in order, and comes first at the next write. So
-/// a count of what was written speaks of what the sink was given, and only a `flush` that succeeds
-/// says that the writer has it all.
+/// A refused write means that the writer below failed at these bytes or at earlier ones that were
+/// held back. The bytes that the writer didn't take are still held, in order, and come first at the
+/// next write. So a count of written bytes is of the bytes that the sink was given, and only a
+/// `flush` that succeeds says that the writer has them all.
 impl<S: io::Write + Drop> Sink<BufWriter<S>> {
     pub fn buffered(alloc: Global, inner: S) -> Result<Sink<BufWriter<S>>>
         ensures inner { IfOk result (λ s. writer_inner (sink_inner s) ≡ inner) }
@@ -184,7 +184,7 @@ impl<S: io::Write + Drop> Sink<BufWriter<S>> {
         }
     }
 
-    /// Hands on what is held back.
+    /// Passes on the bytes that are held back.
     pub fn flush(&mut self) -> Result<()>
         ensures kept { Keeps (writer_contents S.contents (sink_inner self.old))
             (writer_contents S.contents (sink_inner self.new)) }

@@ -1,4 +1,4 @@
-//! Reads and writes of a device, tried again where a signal interrupts them.
+//! Reads and writes of a device, tried again if a signal interrupts them.
 ghost use Rattle.std.specs.Prelude.{◌≡◌, ◌≤◌, [], length, drop, IfSome, IfErr, OnOk, OnErr};
 ghost use Rattle.std.specs.Io.{ReadsAtMost, WritesAtMost};
 ghost use Rattle.std.specs.Io.KnownBytes.{Keeps, ReadConsumes, WriteAppends, Appends};
@@ -11,7 +11,7 @@ use capnp_units::kinds::ErrorKind;
 use std::io;
 use std::io::{BufRead as _, BufReader, BufWriter};
 
-/// One read. A failed one is no end of input.
+/// Reads once. A failed read is not an end of input.
 pub(crate) fn read_retrying<S: io::Read>(from: &mut S, buf: &mut [u8]) -> Result<usize>
     ensures bound { ReadsAtMost result buf.new }
     ensures bytes { ReadConsumes (S.remaining from.old) (S.remaining from.new) result buf.new }
@@ -30,7 +30,7 @@ pub(crate) fn read_retrying<S: io::Read>(from: &mut S, buf: &mut [u8]) -> Result
     Err(Error::from(ErrorKind::Device))
 }
 
-/// Asks the reader for more. At the end of input nothing comes.
+/// Asks the reader for more. At the end of input no bytes come.
 #[inline(never)]
 fn refill_retrying<S: io::Read>(from: &mut BufReader<S>) -> Result<()>
     ensures kept { Keeps (reader_remaining S.remaining from.old)
@@ -52,7 +52,7 @@ fn refill_retrying<S: io::Read>(from: &mut BufReader<S>) -> Result<()>
     Err(Error::from(ErrorKind::Device))
 }
 
-/// Asks the reader for more where all that it gave is taken.
+/// Asks the reader for more if all bytes that it gave are taken.
 #[inline(always)]
 pub(crate) fn refill<S: io::Read>(from: &mut BufReader<S>) -> Result<()>
     ensures kept { Keeps (reader_remaining S.remaining from.old)
@@ -67,7 +67,7 @@ pub(crate) fn refill<S: io::Read>(from: &mut BufReader<S>) -> Result<()>
     refill_retrying(from)
 }
 
-/// One write.
+/// Writes once.
 fn write_retrying<S: io::Write>(to: &mut S, buf: &[u8]) -> Result<usize>
     ensures bound { WritesAtMost result buf.now }
     ensures bytes { WriteAppends (S.contents to.old) (S.contents to.new) result buf.now }
@@ -86,7 +86,7 @@ fn write_retrying<S: io::Write>(to: &mut S, buf: &[u8]) -> Result<usize>
     Err(Error::from(ErrorKind::Device))
 }
 
-/// Hands on what is held back.
+/// Passes on the bytes that are held back.
 pub(crate) fn flush_retrying<S: io::Write + Drop>(to: &mut BufWriter<S>) -> Result<()>
     ensures kept { Keeps (writer_contents S.contents to.old) (writer_contents S.contents to.new) }
     ensures empty { OnOk result (writer_buffer to.new ≡ []) }
@@ -122,7 +122,7 @@ fn write_each<S: io::Write>(to: &mut S, buf: &[u8]) -> Result<()>
     Ok(())
 }
 
-/// Writes what is left behind the first `at` bytes, of which a write took no more.
+/// Writes the bytes after the first `at`, of a write that took no more.
 #[cold]
 #[inline(never)]
 fn write_behind<S: io::Write>(to: &mut S, buf: &[u8], at: usize) -> Result<()>
@@ -138,7 +138,7 @@ fn write_behind<S: io::Write>(to: &mut S, buf: &[u8], at: usize) -> Result<()>
     write_each(to, &buf[at..])
 }
 
-/// Writes anew, unless a write failed by more than a signal.
+/// Writes again, unless a write failed for a reason other than a signal.
 #[cold]
 #[inline(never)]
 fn write_again<S: io::Write>(to: &mut S, buf: &[u8], failed: io::Error) -> Result<()>

@@ -11,7 +11,7 @@ use capnp_units::errors::{Error, Result};
 use capnp_units::kinds::ErrorKind;
 use std::alloc::Allocator;
 
-/// Copies as many bytes as both have, and returns how many.
+/// Copies as many bytes as both have, and returns their number.
 fn copy_beginning(from: &[u8], to: &mut [u8]) -> usize
     ensures count { result ≡ min (length from.now) (length to.old) }
     ensures copied { to.new ≡ take result from.now ++ drop result to.old }
@@ -21,7 +21,7 @@ fn copy_beginning(from: &[u8], to: &mut [u8]) -> usize
     n
 }
 
-/// The bytes of the slice, which then begins after those that were taken.
+/// Reading takes bytes from the front of the slice, which then begins after them.
 impl Read for &[u8] {
     ghost remaining = { λ s. Some s.now };
 
@@ -98,7 +98,7 @@ impl<R: BufRead> BufRead for &mut R {
     ghost device_alone = { R.device_alone };
 }
 
-/// The bytes go to the end. Where the memory for them is refused none is taken.
+/// Writing appends the bytes. If the memory for them is refused, no byte is taken.
 impl<A: Allocator> Write for Vec<u8, A> {
     ghost contents = { λ v. Some v.items };
 
@@ -116,11 +116,11 @@ impl<A: Allocator> Write for Vec<u8, A> {
     }
 }
 
-/// The bytes go to the front of the slice, which then begins after them. Where it is too short none
-/// is taken.
+/// Writing puts the bytes at the front of the slice, which then begins after them. If the slice is
+/// too short, no byte is taken.
 ///
-/// It tells no contents, since what was written lies in front of the slice that is left.
-/// `SliceWriter` tells them.
+/// It doesn't expose its contents, because the written bytes are before the slice that is left.
+/// `SliceWriter` exposes them.
 impl Write for &mut [u8] {
     ghost failures = { λ _. 0 };
 

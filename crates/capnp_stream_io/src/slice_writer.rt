@@ -20,7 +20,7 @@ pub struct SliceWriter<'a> {
 impl<'a> SliceWriter<'a> {
     ghost use Rattle.capnp_stream_io.specs.SliceWriters.{writer_slice, writer_contents, writer_room};
 
-    /// Nothing is written yet.
+    /// Makes a writer that has written nothing yet.
     pub fn new(slice: &'a mut [u8]) -> SliceWriter<'a>
         ensures same_reference { (writer_slice result).ghost_name ≡ slice.entry.ghost_name }
         ensures slice { (writer_slice result).now ≡ slice.old }
@@ -30,14 +30,14 @@ impl<'a> SliceWriter<'a> {
         SliceWriter { slice, written: 0 }
     }
 
-    /// The bytes that were written.
+    /// Returns the bytes that were written.
     pub fn as_slice(&self) -> &[u8]
         ensures { result.now ≡ writer_contents self.now }
     {
         &self.slice[..self.written]
     }
 
-    /// How many bytes still fit.
+    /// Returns the number of bytes that still fit.
     pub fn room(&self) -> usize
         ensures { result ≡ writer_room self.now }
     {
@@ -45,8 +45,8 @@ impl<'a> SliceWriter<'a> {
     }
 }
 
-/// The bytes go behind those that were written, and what is behind them stands. Where they don't
-/// fit the slice is left as it was.
+/// Writing puts the bytes after those that were written, and later bytes are unchanged. If the
+/// bytes don't fit, the slice is unchanged.
 impl Write for SliceWriter<'_> {
     ghost use Rattle.capnp_stream_io.specs.SliceWriters.{writer_contents, writer_room, told_contents, told_room, GainsBytes, GainsFront, KeepsRest, LosesRoom, SliceStands};
 

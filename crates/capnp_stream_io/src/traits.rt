@@ -1,4 +1,4 @@
-//! What gives bytes and what takes them.
+//! Sources and sinks of bytes.
 ghost use Rattle.std.specs.Prelude.{◌≡◌, ◌≢◌, ◌≤◌, ◌⊎◌, ℕ, List, [], length, None, IfSome, IfOk, IfErr, OnOk, OnErr};
 ghost use Rattle.std.specs.declared.option.Option.{Option};
 ghost use Rattle.std.specs.Borrow.{sem};
@@ -14,24 +14,24 @@ use capnp_units::kinds::ErrorKind;
 
 /// A source of bytes.
 pub trait Read {
-    /// The bytes that are still to be read, where the source tells them.
+    /// The bytes that are still to be read, if the source knows them.
     ghost remaining: { Self → Option (List ℕ) } = { λ _. None };
 
-    /// How often the device has failed so far.
+    /// The number of failures of the device so far.
     ghost failures: { Self → ℕ };
 
-    /// The kinds by which `read` refuses.
+    /// The kinds with which `read` is refused.
     ghost refuses: { ErrorKind → Type 0 };
 
-    /// Reads some bytes into the front of `buf`, and returns how many: 0 only at the end of input,
-    /// or where `buf` is empty.
+    /// Reads some bytes into the front of `buf`, and returns their number: 0 only at the end of
+    /// input, or if `buf` is empty.
     fn read(&mut self, buf: &mut [u8]) -> Result<usize>
         ensures bound { ReadsAtMost result buf.new }
         ensures bytes { ReadConsumes (remaining self.old) (remaining self.new) result buf.new }
         ensures refusal { IfErr result (λ e. refuses e.kind) }
         ensures count { Counts result (failures self.old) (failures self.new) };
 
-    /// Fills the whole of `buf`, or refuses at the end of input, which it then has reached.
+    /// Fills the whole of `buf`, or is refused at the end of input, which it then has reached.
     fn read_exact(&mut self, buf: &mut [u8]) -> Result<()>
         ensures ok { OnOk result (Consumes (remaining self.old) (remaining self.new) buf.new) }
         ensures part { IfErr result (λ e. (refuses e.kind
@@ -51,18 +51,18 @@ pub trait Read {
         Ok(())
     }
 
-    /// How often the device has failed so far; it stops at 2^64 - 1.
+    /// Returns the number of failures of the device so far, which stops at 2^64 - 1.
     fn failures(&self) -> u64
         ensures { result ≡ failures self.now };
 }
 
 /// A source that shows bytes before they are taken.
 pub trait BufRead: Read {
-    /// How many of the bytes to come were shown, so that `consume` may take them.
+    /// The number of bytes to come that were shown, so that `consume` may take them.
     ghost shown: { Self → ℕ };
 
-    /// A beginning of the bytes to come, however long, and empty only where none is left. Nothing
-    /// is taken.
+    /// Returns a beginning of the bytes to come, of any length, which is empty only if none is
+    /// left. Nothing is taken.
     fn fill_buf(&mut self) -> Result<&[u8]>
         ensures front { IfSome (Self.remaining self.old)
             (λ xs. IfOk result (λ s. StartsWith xs s.now)) }
@@ -79,11 +79,11 @@ pub trait BufRead: Read {
         ensures bytes { Drops (Self.remaining self.old) (Self.remaining self.new) amount }
         ensures count { Self.failures self.new ≡ Self.failures self.old };
 
-    /// Reading refuses by `Device` alone.
+    /// Reading is refused only with `Device`.
     ghost device_alone: { (k : ErrorKind) → Self.refuses k → k ≡ ErrorKind.Device };
 }
 
-/// A source that tells which bytes it shows without a wait.
+/// A source that exposes the bytes that it shows without a wait.
 pub trait Windowed: BufRead {
     /// The bytes that were shown and are not yet taken.
     ghost window: { Self → List ℕ };
@@ -98,16 +98,16 @@ pub trait Windowed: BufRead {
 
 /// A sink of bytes.
 pub trait Write {
-    /// The bytes that the sink holds, where it tells them.
+    /// The bytes that the sink holds, if it exposes them.
     ghost contents: { Self → Option (List ℕ) } = { λ _. None };
 
-    /// How often the device has failed so far.
+    /// The number of failures of the device so far.
     ghost failures: { Self → ℕ };
 
-    /// How many bytes the sink still takes, where it has an end, as a slice has.
+    /// The number of bytes that the sink still takes, if it has an end, as a slice has.
     ghost room: { Self → Option ℕ } = { λ _. None };
 
-    /// Whether the sink grows and may want memory for it, as a `Vec` does.
+    /// Whether the sink grows and may need memory to grow, as a `Vec` does.
     ghost may_grow: { Type 0 } = { ⊥ };
 
     /// Writes all of `buf`. After a refusal a beginning of it was written: nothing, unless a device
@@ -124,7 +124,7 @@ pub trait Write {
             (λ e. e.kind ≢ ErrorKind.Device → room self.new ≡ room self.old) }
         ensures count { Counts result (failures self.old) (failures self.new) };
 
-    /// How often the device has failed so far; it stops at 2^64 - 1.
+    /// Returns the number of failures of the device so far, which stops at 2^64 - 1.
     fn failures(&self) -> u64
         ensures { result ≡ failures self.now };
 }
