@@ -1,8 +1,8 @@
-//! What fields take of the sections of their struct.
+//! The parts of a struct's sections that its fields take.
 
 ghost use Rattle.std.specs.Prelude.{◌<◌};
 
-/// Bits of the data section: as wide as a value, behind n of that width.
+/// Bits of the data section: one value of a width, after n values of that width.
 #[derive(Clone, Copy)]
 pub(crate) struct Span {
     pub(crate) width: u32,
@@ -10,7 +10,7 @@ pub(crate) struct Span {
     pub ghost wide: { 0 < width },
 }
 
-/// What a field takes of its struct's sections.
+/// The part of its struct's sections that a field takes.
 #[derive(Clone, Copy)]
 pub(crate) enum Area {
     Empty,

@@ -7,7 +7,7 @@ ghost use Rattle.capnp_records.specs.Tables.{named_from, AreByName};
 use crate::node::FieldRecord;
 use std::alloc::{AllocError, Global};
 
-/// The places of the fields, each with its field's name.
+/// Returns the places of the fields, each with its field's name.
 fn named_places(alloc: Global, fields: &[FieldRecord]) -> Result<Vec<(&str, u16)>, AllocError>
     requires { length fields.now ≤ 65535 }
     ensures { IfOk result (λ v. map (λ n. (n.0.now, n.1)) v.items
@@ -20,7 +20,7 @@ fn named_places(alloc: Global, fields: &[FieldRecord]) -> Result<Vec<(&str, u16)
     Ok(named)
 }
 
-/// The places of the fields, in the order of their names.
+/// Returns the places of the fields, in the order of their names.
 pub(crate) fn places_by_name(alloc: Global, fields: &[FieldRecord]) -> Result<Vec<u16>, AllocError>
     requires { length fields.now ≤ 65535 }
     ensures { IfOk result (λ v. AreByName (map field_of fields.now) v.items) }

@@ -21,7 +21,7 @@ use crate::unions::has_good_union;
 use crate::values::{has_good_annotations, has_good_default_values};
 use std::alloc::{AllocError, Global};
 
-/// How many rules there are.
+/// The number of rules.
 const RULES: u32 = 12;
 
 fn keeps_union(alloc: Global, node: &NodeRecord) -> Result<bool, AllocError>
@@ -41,7 +41,7 @@ fn keeps_places(alloc: Global, nodes: Nodes<'_>, node: &NodeRecord) -> Result<bo
     Ok(!is_struct(node) || has_no_overlap(alloc, nodes, nodes.records.len(), node.id)?)
 }
 
-/// Whether the node at a place keeps the rule of a number, among all nodes.
+/// Returns whether the node at a place keeps the rule of a number, among all nodes.
 fn keeps(
     alloc: Global,
     nodes: Nodes<'_>,
@@ -73,7 +73,7 @@ fn keeps(
     }
 }
 
-/// The place of the first node that breaks the rule of a number.
+/// Returns the place of the first node that breaks the rule of a number.
 fn first_break(
     alloc: Global,
     nodes: Nodes<'_>,
@@ -91,7 +91,7 @@ fn first_break(
     Ok(None)
 }
 
-/// Whether the nodes keep the rules.
+/// Checks that the nodes keep the rules.
 pub(crate) fn check(alloc: Global, nodes: Nodes<'_>) -> Result<(), SchemaFault>
     ensures kept { OnOk result (fault_of (listed nodes.entry) ≡ None) }
     ensures refused { IfErr result (λ fault. IsSchemaRefusal (listed nodes.entry) fault) }

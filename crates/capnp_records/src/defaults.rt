@@ -1,5 +1,5 @@
-//! The rule of kinds: a plain slot has a default of its kind, a pointer slot one of its kind or
-//! none.
+//! The rule of kinds: a plain slot has a default of its kind, a pointer slot has one of its kind or
+//! no default.
 
 ghost use Rattle.std.specs.Prelude.{◌≡◌, map, option_map, Some};
 ghost use Rattle.std.specs.List.{list_all};

@@ -1,11 +1,11 @@
-//! Why node records make no schema set.
+//! Reasons for which node records are not accepted as a schema set.
 
 ghost use Rattle.std.specs.Prelude.{◌≡◌};
 
 use std::alloc::AllocError;
 use thiserror::Error;
 
-/// Why node records make no schema set.
+/// The reason for which node records are not accepted as a schema set.
 #[derive(Clone, Copy, Debug, PartialEq, Eq, Error)]
 pub enum SchemaFault {
     /// The number of the first rule that is broken, and the place of the first node that breaks it.

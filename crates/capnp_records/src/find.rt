@@ -1,4 +1,4 @@
-//! What ids name.
+//! The nodes of ids.
 
 ghost use Rattle.std.specs.Prelude.{◌≡◌};
 ghost use Rattle.capnp_model.specs.Accepted.{is_group_node, is_struct_node, is_enum_node, names_a};
@@ -17,7 +17,7 @@ pub(crate) fn is_group(node: &NodeRecord) -> bool
     }
 }
 
-/// Whether the node is a struct that is no group.
+/// Returns whether the node is a struct that is not a group.
 pub(crate) fn is_struct(node: &NodeRecord) -> bool
     ensures { result ≡ is_struct_node (node_of node.now) }
 {
@@ -33,7 +33,7 @@ fn is_enum(node: &NodeRecord) -> bool
     matches!(node.body, NodeBody::Enum(_))
 }
 
-/// Whether the id is a group's.
+/// Returns whether the id is a group's.
 pub(crate) fn names_group(nodes: Nodes<'_>, id: u64) -> bool
     ensures { result ≡ names_a is_group_node (listed nodes.entry) id }
 {
@@ -43,7 +43,7 @@ pub(crate) fn names_group(nodes: Nodes<'_>, id: u64) -> bool
     }
 }
 
-/// Whether the id is that of a struct that is no group.
+/// Returns whether the id is that of a struct that is not a group.
 pub(crate) fn names_struct(nodes: Nodes<'_>, id: u64) -> bool
     ensures { result ≡ names_a is_struct_node (listed nodes.entry) id }
 {
@@ -53,7 +53,7 @@ pub(crate) fn names_struct(nodes: Nodes<'_>, id: u64) -> bool
     }
 }
 
-/// Whether the id is an enum's.
+/// Returns whether the id is an enum's.
 pub(crate) fn names_enum(nodes: Nodes<'_>, id: u64) -> bool
     ensures { result ≡ names_a is_enum_node (listed nodes.entry) id }
 {

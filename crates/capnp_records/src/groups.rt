@@ -19,19 +19,20 @@ use std::collections::{HashMap, HashSet};
 
 // ---- uses
 
-/// What is known of the groups that fields are: the groups of accepted nodes are looked up, not
+/// Facts about the groups of fields, so that the groups of accepted nodes are looked up, not
 /// searched.
 #[derive(Drop)]
 pub(crate) struct GroupUses {
     /// Whether a group of an id is one field's, or several's.
     once: HashMap<u64, bool>,
-    /// The place of the first node of which a field is the group of an id.
+    /// The place of the first node that has a field whose group has an id.
     holders: HashMap<u64, usize>,
-    /// Whether each group stands deeper than what holds it, so that none is met below itself.
+    /// Whether each group is at a greater depth than its holders, so that a group never contains
+    /// itself.
     apart: bool,
 }
 
-/// Whether each id is there once, or more often.
+/// Returns whether each id occurs once, or more often.
 fn once_of(alloc: Global, groups: &[u64]) -> Result<HashMap<u64, bool>, AllocError>
     ensures { IfOk result (λ m. (id : ℕ) → get nat_eq m id
         ≡ once_in (count_by (λ g. g == id) groups.now)) }
@@ -44,7 +45,7 @@ fn once_of(alloc: Global, groups: &[u64]) -> Result<HashMap<u64, bool>, AllocErr
     Ok(once)
 }
 
-/// Puts a place at each of the ids.
+/// Stores a place at each of the ids.
 fn put_all(
     holders: &mut HashMap<u64, usize>,
     groups: &[u64],
@@ -59,7 +60,7 @@ fn put_all(
     Ok(())
 }
 
-/// The place of the first node of which a field is the group of an id.
+/// Returns the place of the first node that has a field whose group has an id.
 fn holders_of(alloc: Global, nodes: &[NodeRecord]) -> Result<HashMap<u64, usize>, AllocError>
     ensures { IfOk result (λ m. (id : ℕ) → get nat_eq m id
         ≡ holder_place id 0 (map node_of nodes.now)) }
@@ -81,7 +82,7 @@ impl GroupUses {
     ghost use Rattle.capnp_records.specs.NodeViews.{node_of};
     ghost use Rattle.capnp_records.specs.Uses.{AreUses};
 
-    /// What is known of the groups of nodes.
+    /// Collects the facts about the groups of nodes.
     pub(crate) fn new(alloc: Global, nodes: Nodes<'_>) -> Result<GroupUses, AllocError>
         ensures { IfOk result (AreUses (listed nodes.entry)) }
     {
@@ -97,7 +98,7 @@ impl GroupUses {
         })
     }
 
-    /// Whether the group of an id is one field.
+    /// Returns whether the group of an id belongs to one field.
     fn is_used_once(&self, nodes: Nodes<'_>, id: u64) -> bool
         requires { AreUses (listed nodes) self.now }
         ensures { result ≡ (uses_of (listed nodes.entry) id == 1) }
@@ -108,7 +109,7 @@ impl GroupUses {
         }
     }
 
-    /// The first node of which a field is the group.
+    /// Returns the first node with a field whose group this is.
     fn holder<'a>(&self, nodes: Nodes<'a>, id: u64) -> Option<&'a NodeRecord>
         requires { AreUses (listed nodes) self.now }
         ensures { option_map node_of (option_copied result) ≡ holder_of (listed nodes.entry) id }
@@ -122,7 +123,7 @@ impl GroupUses {
 
 // ---- depths
 
-/// The depth of an id; one that has none is at the top.
+/// Returns the depth of an id; an id without a depth is at the top.
 fn depth_in(depths: &HashMap<u64, usize>, id: u64) -> usize
     ensures { result ≡ depths_in (get nat_eq depths.now) id }
 {
@@ -132,8 +133,8 @@ fn depth_in(depths: &HashMap<u64, usize>, id: u64) -> usize
     }
 }
 
-/// How deep groups stand: those of structs that are no groups at 1, and each further one below.
-/// What isn't met so has no depth.
+/// Returns the depths of groups: those of structs that are not groups are at 1, and each further
+/// group is one deeper. A group that isn't reached in this way has no depth.
 fn depths_of(alloc: Global, nodes: Nodes<'_>) -> Result<HashMap<u64, usize>, AllocError> {
     let mut depths = HashMap::new(alloc);
     let mut ids = Vec::new(alloc);
@@ -178,7 +179,7 @@ fn are_fields_deeper(depths: &HashMap<u64, usize>, least: usize, fields: &[Field
         .all(|field| is_deeper(depths, least, &field.body))
 }
 
-/// Whether the groups that a node's fields are stand deeper than the node.
+/// Returns whether the groups of a node's fields are deeper than the node.
 fn holds_deeper(depths: &HashMap<u64, usize>, node: &NodeRecord) -> bool
     ensures { result ≡ holds_deeper (depths_in (get nat_eq depths.now)) (node_of node.now) }
 {
@@ -190,7 +191,7 @@ fn holds_deeper(depths: &HashMap<u64, usize>, node: &NodeRecord) -> bool
     }
 }
 
-/// Whether each group stands deeper than what holds it.
+/// Returns whether each group is deeper than its holders.
 fn are_deeper(depths: &HashMap<u64, usize>, nodes: &[NodeRecord]) -> bool
     ensures { result ≡ list_all (holds_deeper (depths_in (get nat_eq depths.now)))
         (map node_of nodes.now) }
@@ -209,7 +210,7 @@ fn sizes_of(node: &NodeRecord) -> (u16, u16)
     }
 }
 
-/// Whether a group is no larger than its holder.
+/// Returns whether a group is not larger than its holder.
 fn fits_in(node: &NodeRecord, holder: Option<&NodeRecord>) -> bool
     ensures { result ≡ fits_in (node_of node.now) (option_map node_of
         (option_copied holder.entry)) }
@@ -251,7 +252,7 @@ fn push_all_new(ids: &mut Vec<u64>, seen: &mut HashSet<u64>, more: &[u64]) -> Re
     Ok(())
 }
 
-/// The ids of the groups that the fields of the node of an id are.
+/// Returns the ids of the groups of the fields of the node of an id.
 fn groups_below(alloc: Global, nodes: Nodes<'_>, id: u64) -> Result<Vec<u64>, AllocError>
     ensures { IfOk result (λ v. v.items ≡ groups_below (listed nodes.entry) id) }
 {
@@ -261,7 +262,7 @@ fn groups_below(alloc: Global, nodes: Nodes<'_>, id: u64) -> Result<Vec<u64>, Al
     }
 }
 
-/// The ids of the groups one level below those of the ids, each once.
+/// Returns the ids of the groups one level below those of the ids, each once.
 fn next_level(alloc: Global, nodes: Nodes<'_>, ids: &[u64]) -> Result<Vec<u64>, AllocError>
     ensures { IfOk result (λ v. PassSame v.items (flat_map (groups_below
         (listed nodes.entry)) ids.now)) }
@@ -287,7 +288,7 @@ fn is_nothing(ids: &[u64]) -> bool
     ids.is_empty()
 }
 
-/// Whether a group's id is met going down through its group fields, level by level.
+/// Returns whether a group's id is met going down through its group fields, level by level.
 fn meets_itself(alloc: Global, nodes: Nodes<'_>, node: &NodeRecord) -> Result<bool, AllocError>
     ensures { IfOk result (λ b. b ≡ meets_below (listed nodes.entry)
         (length nodes.entry.records.now) (node_of node.now).id (Some (node_of node.now))) }
@@ -310,8 +311,8 @@ fn meets_itself(alloc: Global, nodes: Nodes<'_>, node: &NodeRecord) -> Result<bo
     Ok(has_group(&ids, node.id))
 }
 
-/// Whether a group is met below itself. Only where some group isn't apart are the groups below gone
-/// through.
+/// Returns whether a group is met below itself. The groups below it are only searched if some group
+/// isn't deeper than its holders.
 fn is_in_cycle(
     alloc: Global,
     nodes: Nodes<'_>,
@@ -333,7 +334,7 @@ fn is_in_cycle(
 
 // ---- the rule
 
-/// The ids of all groups that fields are, node by node.
+/// Returns the ids of all groups of fields, node by node.
 pub(crate) fn all_groups(alloc: Global, nodes: &[NodeRecord]) -> Result<Vec<u64>, AllocError>
     ensures { IfOk result (λ v. v.items ≡ flat_map groups_used (map node_of nodes.now)) }
 {
@@ -344,7 +345,7 @@ pub(crate) fn all_groups(alloc: Global, nodes: &[NodeRecord]) -> Result<Vec<u64>
     Ok(groups)
 }
 
-/// Whether a node keeps the rule, at its place among the nodes.
+/// Returns whether a node keeps the rule, at its place among the nodes.
 pub(crate) fn is_good_group(
     alloc: Global,
     nodes: Nodes<'_>,

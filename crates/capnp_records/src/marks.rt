@@ -1,4 +1,4 @@
-//! Which bits and pointers of a struct are taken so far.
+//! Marks of the bits and pointers of a struct that are taken so far.
 
 ghost use Rattle.std.specs.Prelude.{◌≡◌, ◌≤◌, ◌<◌, IfOk, get_or, vec_len};
 ghost use Rattle.std.specs.Bool.{MatchBool};
@@ -15,14 +15,14 @@ pub(crate) struct Marks {
     pointers: Vec<u8>,
 }
 
-/// The mark at a place, 0 past the end.
+/// Returns the mark at a place, 0 past the end.
 pub(crate) fn mark_at(marks: &[u8], place: usize) -> u8
     ensures { result ≡ get_or marks.now place 0 }
 {
     marks.get(place).copied().unwrap_or(0)
 }
 
-/// Whether no mark from a place up to another is above the highest.
+/// Returns whether each mark from a place up to another is at most the highest.
 fn are_at_most(marks: &[u8], first: usize, end: usize, most: u8) -> bool
     ensures { MatchBool result (AllAtMost marks.now first end most)
         (OneAbove marks.now first end most) }
@@ -35,7 +35,7 @@ fn are_at_most(marks: &[u8], first: usize, end: usize, most: u8) -> bool
     true
 }
 
-/// Makes the marks from a place up to another at least the level.
+/// Raises the marks from a place up to another to at least the level.
 pub(crate) fn raise(
     marks: &mut Vec<u8>,
     first: usize,
@@ -71,7 +71,7 @@ impl Marks {
         }
     }
 
-    /// Whether no mark of the area is above the highest.
+    /// Returns whether each mark of the area is at most the highest.
     pub(crate) fn allows(&self, area: Area, most: u8) -> bool
         ensures { MatchBool result (AllowsAll self.now (areas_in area) most) (HasMarkAbove self.now
             (areas_in area) most) }
@@ -89,7 +89,7 @@ impl Marks {
         }
     }
 
-    /// Makes the marks of the area at least the level.
+    /// Raises the marks of the area to at least the level.
     pub(crate) fn put(&mut self, area: Area, level: u8) -> Result<(), AllocError>
         ensures { IfOk result (λ _. MarksAreas self.old self.new (areas_in area) level) }
     {

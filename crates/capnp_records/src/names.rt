@@ -1,4 +1,4 @@
-//! Rules of one node: how many names and annotations it may have, and how its names differ.
+//! Rules of one node: the numbers of its names and annotations, and the distinctness of its names.
 
 ghost use Rattle.std.specs.Prelude.{◌≡◌, ◌^◌, nat_lt, not, map, length, IfOk};
 ghost use Rattle.std.specs.List.{list_all};

@@ -1,9 +1,9 @@
 //! Node records as a caller writes them.
 
-/// The discriminant value of a field that is no union member.
+/// The discriminant value of a field that is not a union member.
 pub const NO_DISCRIMINANT: u16 = 65535;
 
-/// The base of a type: what it is, or what it is a list of.
+/// The base of a type: the type itself, or the type of a list's innermost elements.
 #[derive(Clone, Copy, PartialEq, Eq, Debug)]
 pub enum BaseType {
     Void,
@@ -74,11 +74,11 @@ pub struct EnumerantRecord {
     pub annotations: Vec<AnnotationRecord>,
 }
 
-/// What a field is: a slot of its struct, or a group with a node of its own.
+/// The body of a field: a slot of its struct, or a group with a node of its own.
 #[derive(Debug, Drop)]
 pub enum FieldBody {
     Slot {
-        /// The place in the section, counted in slots of the type's size.
+        /// The place in the section, in units of the type's size.
         offset: u32,
         ty: TypeRecord,
         default: Option<Value>,
@@ -99,20 +99,20 @@ pub struct FieldRecord {
     pub body: FieldBody,
 }
 
-/// What a node says of a struct or a group.
+/// The description of a struct or a group in its node.
 #[derive(Debug, Drop)]
 pub struct StructRecord {
     pub data_word_count: u16,
     pub pointer_count: u16,
     pub is_group: bool,
-    /// How many members the union has; 0 without a union.
+    /// The number of members of the union; 0 without a union.
     pub discriminant_count: u16,
-    /// The place of the discriminant, counted in 16 bits.
+    /// The place of the discriminant, in units of 16 bits.
     pub discriminant_offset: u32,
     pub fields: Vec<FieldRecord>,
 }
 
-/// What a node is.
+/// The body of a node: a struct or an enum.
 #[derive(Debug, Drop)]
 pub enum NodeBody {
     Struct(StructRecord),

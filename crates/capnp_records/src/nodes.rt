@@ -33,7 +33,7 @@ impl<'a> Nodes<'a> {
         Nodes { records, places }
     }
 
-    /// The node at a place.
+    /// Returns the node at a place.
     pub(crate) fn at(self, place: usize) -> &'a NodeRecord
         requires { place < length self.records.now }
         ensures { result.now ≡ get_or self.entry.records.now place result.now }
@@ -41,7 +41,7 @@ impl<'a> Nodes<'a> {
         &self.records[place]
     }
 
-    /// The first node of an id.
+    /// Returns the first node of an id.
     pub(crate) fn find(self, id: u64) -> Option<&'a NodeRecord>
         ensures { option_map node_of (option_copied result) ≡ find_node (listed self.entry) id }
     {
@@ -51,7 +51,7 @@ impl<'a> Nodes<'a> {
         Some(self.at(*place))
     }
 
-    /// Whether no node before a place has the id of the one there.
+    /// Returns whether no node before a place has the id of the node there.
     pub(crate) fn is_first(self, place: usize, node: &NodeRecord) -> bool
         requires inside { place < length self.records.now }
         requires node { node.now ≡ get_or self.records.now place node.now }

@@ -1,4 +1,4 @@
-//! What is of a set of nodes: raw schemas, and types above them.
+//! Items of a set of nodes: raw schemas, and types above them.
 
 ghost use Rattle.std.specs.Prelude.{◌≡◌, Bool, List};
 ghost use Rattle.capnp_model.specs.Schemas.{Node};
@@ -9,12 +9,12 @@ use crate::node::NodeBody;
 use crate::raw::{RawBrandedStructSchema, RawEnumSchema};
 use crate::set::SchemaSet;
 
-/// What may be of a set: a raw schema, or a type that names one.
+/// An item that can be of a set: a raw schema, or a type that names one.
 pub trait OfSet: Copy {
-    /// Whether it is of the set of these nodes.
+    /// Whether the item is of the set of these nodes.
     ghost is_of: { List Node → Self → Bool };
 
-    /// Whether it is of the set.
+    /// Returns whether the item is of the set.
     fn is_of_set(self, set: &SchemaSet) -> bool
         ensures { result ≡ is_of (nodes_of set.now) self };
 }

@@ -1,6 +1,6 @@
-//! The rule of places. Two fields of a struct or a group share a bit or a pointer, those of their
-//! groups included, only where they are two members of its union. None shares a bit with its
-//! discriminant.
+//! The rule of places. Two fields of a struct or a group, including the fields of their groups,
+//! share a bit or a pointer only if they are two members of its union. No field shares a bit with
+//! its discriminant.
 
 ghost use Rattle.std.specs.Prelude.{◌≡◌, ◌++◌, is_some, map, IfOk, IfSome, IfNone};
 ghost use Rattle.std.specs.Bool.{MatchBool};
@@ -20,7 +20,7 @@ use std::alloc::{AllocError, Global};
 
 // ---- what fields take
 
-/// The struct or the group that is written out of an id at n levels.
+/// Returns the struct or the group that is written out of an id at n levels.
 fn struct_at<'a>(nodes: Nodes<'a>, levels: usize, id: u64) -> Option<&'a StructRecord>
     ensures missing { IfNone result (IsUnwritten (listed nodes.entry) levels id) }
     ensures found { IfSome result (λ holder. IsWrittenOut (listed nodes.entry) levels id
@@ -38,7 +38,7 @@ fn struct_at<'a>(nodes: Nodes<'a>, levels: usize, id: u64) -> Option<&'a StructR
     }
 }
 
-/// Appends the areas of a field, those of its group included.
+/// Appends the areas of a field, including those of its group.
 #[cycle(areas)]
 #[tactic(auto, using(crate::proofs::Overlaps::fields))]
 fn push_areas_of_body(
@@ -60,7 +60,7 @@ fn push_areas_of_body(
     }
 }
 
-/// Appends the areas of a struct or a group, its discriminant's and those of its fields.
+/// Appends the areas of a struct or a group: that of its discriminant and those of its fields.
 #[cycle(areas)]
 fn push_areas_of(
     areas: &mut Vec<Area>,
@@ -112,7 +112,7 @@ fn push_union_area(areas: &mut Vec<Area>, holder: &StructRecord) -> Result<(), A
     Ok(())
 }
 
-/// Whether a field is a union member.
+/// Returns whether a field is a union member.
 fn is_member(field: &FieldRecord) -> bool
     ensures { result ≡ is_some (member_of field.now.discriminant_value) }
 {
@@ -121,7 +121,7 @@ fn is_member(field: &FieldRecord) -> bool
 
 // ---- what they share
 
-/// Whether no mark of the areas is above the highest.
+/// Returns whether each mark of the areas is at most the highest.
 fn allows_all(marks: &Marks, areas: &[Area], most: u8) -> bool
     ensures { MatchBool result (AllowsAll marks.now (areas_seen areas.now) most)
         (HasMarkAbove marks.now (areas_seen areas.now) most) }
@@ -134,7 +134,7 @@ fn allows_all(marks: &Marks, areas: &[Area], most: u8) -> bool
     true
 }
 
-/// Makes the marks of the areas at least the level.
+/// Raises the marks of the areas to at least the level.
 fn put_all(marks: &mut Marks, areas: &[Area], level: u8) -> Result<(), AllocError>
     ensures { IfOk result (λ _. MarksAreas marks.old marks.new (areas_seen areas.now) level) }
 {
@@ -144,21 +144,21 @@ fn put_all(marks: &mut Marks, areas: &[Area], level: u8) -> Result<(), AllocErro
     Ok(())
 }
 
-/// The highest mark that a field may meet: a union member may meet other members.
+/// Returns the highest mark that a field may meet: a union member may meet other members.
 fn most_mark(is_member: bool) -> u8
     ensures { result ≡ most_mark is_member }
 {
     if is_member { 1 } else { 0 }
 }
 
-/// The mark of what a field takes.
+/// Returns the mark of the parts that a field takes.
 fn level_mark(is_member: bool) -> u8
     ensures { result ≡ level_mark is_member }
 {
     if is_member { 1 } else { 2 }
 }
 
-/// Whether a struct's discriminant and its fields share only where both are members.
+/// Returns whether a struct's discriminant and its fields share only if both are members.
 fn are_claims_apart(
     alloc: Global,
     nodes: Nodes<'_>,
@@ -187,7 +187,7 @@ fn are_claims_apart(
 
 // ---- the rule
 
-/// Whether a struct with its groups keeps the rule.
+/// Returns whether a struct with its groups keeps the rule.
 #[cycle(overlap)]
 pub(crate) fn has_no_overlap(
     alloc: Global,
@@ -208,7 +208,7 @@ pub(crate) fn has_no_overlap(
     }
 }
 
-/// Whether a field keeps it, as a group with its groups.
+/// Returns whether a field keeps the rule, as a group with its groups.
 #[cycle(overlap)]
 #[tactic(auto, using(crate::proofs::Overlaps::fields))]
 fn body_has_no_overlap(
@@ -226,7 +226,7 @@ fn body_has_no_overlap(
     }
 }
 
-/// Whether the groups that the fields are keep the rule.
+/// Returns whether the groups of the fields keep the rule.
 #[cycle(overlap)]
 fn have_no_overlap(
     alloc: Global,

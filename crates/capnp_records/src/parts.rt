@@ -1,4 +1,4 @@
-//! What the rules look at in a node: its types, its names and the groups that its fields are.
+//! The parts of a node that the rules look at: its types, its names and the groups of its fields.
 
 ghost use Rattle.std.specs.Prelude.{◌≡◌, ◌++◌, ◌∷◌, map, IfOk};
 ghost use Rattle.std.specs.List.{flat_map, list_any};
@@ -64,7 +64,7 @@ fn push_enumerant_types(
     Ok(())
 }
 
-/// The types of a node's slots and of all its annotations.
+/// Returns the types of a node's slots and of all its annotations.
 pub(crate) fn types_of(alloc: Global, node: &NodeRecord) -> Result<Vec<TypeRecord>, AllocError>
     ensures { IfOk result (λ v. map type_record_of v.items ≡ types_in (node_of node.now)) }
 {
@@ -99,7 +99,7 @@ fn push_groups(groups: &mut Vec<u64>, fields: &[FieldRecord]) -> Result<(), Allo
     Ok(())
 }
 
-/// Appends the ids of the groups that a node's fields are.
+/// Appends the ids of the groups of a node's fields.
 pub(crate) fn push_groups_of(groups: &mut Vec<u64>, node: &NodeRecord) -> Result<(), AllocError>
     ensures { IfOk result (λ _. groups.new.items
         ≡ groups.old.items ++ groups_used (node_of node.now)) }
@@ -110,7 +110,7 @@ pub(crate) fn push_groups_of(groups: &mut Vec<u64>, node: &NodeRecord) -> Result
     }
 }
 
-/// The ids of the groups that a node's fields are.
+/// Returns the ids of the groups of a node's fields.
 pub(crate) fn groups_of(alloc: Global, node: &NodeRecord) -> Result<Vec<u64>, AllocError>
     ensures { IfOk result (λ v. v.items ≡ groups_used (node_of node.now)) }
 {
@@ -147,7 +147,7 @@ fn push_enumerant_names<'a>(
     Ok(())
 }
 
-/// The names of a node's fields or enumerants.
+/// Returns the names of a node's fields or enumerants.
 pub(crate) fn names_of(alloc: Global, node: &NodeRecord) -> Result<Vec<&str>, AllocError>
     ensures { IfOk result
         (λ v. map (λ s. s.now) v.items ≡ names_of_kind (node_kind node.now.body)) }

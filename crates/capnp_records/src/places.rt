@@ -1,4 +1,4 @@
-//! The rule of places: slots lie in the sections of their struct.
+//! The rule of places: slots are in the sections of their struct.
 
 ghost use Rattle.std.specs.Prelude.{◌≡◌, map};
 ghost use Rattle.capnp_model.specs.Accepted.{has_places, on_struct};

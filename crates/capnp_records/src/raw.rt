@@ -8,8 +8,8 @@ ghost use Rattle.std.specs.Ordering.{on};
 
 use std::hash::{Hash, Hasher};
 
-/// The schema of a struct or a group, by the place of its node in a set and the node's id. Two are
-/// equal where their ids are.
+/// The schema of a struct or a group, by the place of its node in a set and the node's id. Two raw
+/// schemas are equal if their ids are equal.
 #[derive(Clone, Copy, Debug)]
 pub struct RawBrandedStructSchema {
     pub number: u64,
@@ -17,8 +17,8 @@ pub struct RawBrandedStructSchema {
 }
 
 impl RawBrandedStructSchema {
-    /// The raw schema of a place and an id. A struct type of a caller's own has no set, and gives
-    /// any place.
+    /// Makes the raw schema of a place and an id. A struct type of a caller's own has no set, and
+    /// gives any place.
     pub fn new(number: u64, id: u64) -> RawBrandedStructSchema
         ensures number { result.number ≡ number }
         ensures id { result.id ≡ id }
@@ -51,8 +51,8 @@ impl Hash for RawBrandedStructSchema {
     }
 }
 
-/// The schema of an enum, by the place of its node in a set and the node's id. Two are equal where
-/// their ids are.
+/// The schema of an enum, by the place of its node in a set and the node's id. Two raw schemas are
+/// equal if their ids are equal.
 #[derive(Clone, Copy, Debug)]
 pub struct RawEnumSchema {
     pub number: u64,

@@ -1,4 +1,4 @@
-//! Values that stand in node records as the bytes of one segment.
+//! Values that node records hold as the bytes of one segment.
 
 ghost use Rattle.std.specs.Prelude.{◌≡◌, ◌-◌, ◌<◌, Some};
 ghost use Rattle.capnp_model.specs.Trees.{Tree, size_bits};
@@ -22,23 +22,23 @@ use capnp_wire_objects::laws::values_by_levels;
 use capnp_wire_objects::object::{Object, object_at};
 use capnp_wire_objects::place::ROOT;
 
-/// The most levels of a value that stands in a node record.
+/// The most levels of a value that a node record holds.
 const MOST_LEVELS: u32 = 64;
 
 /// Fewer bytes than these 2^32 are fewer than 2^29 words.
 const TOO_MANY_BYTES: usize = 0x1_0000_0000;
 
-/// What is asked of a value.
+/// The condition that a value has to meet.
 #[derive(Clone, Copy)]
 pub(crate) enum Wanted {
     Anything,
-    /// It is null or can be read as the type.
+    /// The value is null or can be read as the type.
     Of(TypeRecord),
 }
 
 // ---- types of values
 
-/// The number of the element size that lists of the base are written with.
+/// Returns the number of the element size with which lists of the base are written.
 fn size_of_base(base: BaseType) -> u64
     ensures { result ≡ expected_size (base_type (base_of base)) }
 {
@@ -63,7 +63,7 @@ fn expected_size(ty: TypeRecord) -> u64
     size_of_base(ty.base)
 }
 
-/// The bits of an element of a size.
+/// Returns the number of bits of an element of a size.
 fn size_bits(size: u64) -> u64
     ensures { result ≡ size_bits size }
 {
@@ -77,7 +77,7 @@ fn size_bits(size: u64) -> u64
     }
 }
 
-/// Whether elements of n bits and pointers can be read as elements of the size.
+/// Returns whether elements of n bits and pointers can be read as elements of the size.
 fn have_room(bits: u64, pointers: u64, expected: u64) -> bool
     ensures { result ≡ have_room bits pointers expected }
 {
@@ -110,7 +110,7 @@ fn is_accepted_as(expected: u64, object: Object) -> bool
     }
 }
 
-/// Whether the elements of a list can be read as those of the list type.
+/// Returns whether the elements of a list can be read as those of the list type.
 fn list_opens_as(object: Object, ty: TypeRecord) -> bool
     requires { 0 < ty.list_count }
     ensures { let element = lists_of (ty.list_count - 1) (base_type (base_of ty.base)) in
@@ -123,7 +123,7 @@ fn list_opens_as(object: Object, ty: TypeRecord) -> bool
     is_accepted_as(expected_size(element), object)
 }
 
-/// Whether an object is null or can be read as the type.
+/// Returns whether an object is null or can be read as the type.
 #[tactic(auto, using(crate::proofs::lemmas::Segments::lists))]
 fn opens_as(object: Object, ty: TypeRecord) -> bool
     ensures { result ≡ opens_as (form_of object) (type_of (type_record_of ty)) }
@@ -137,7 +137,7 @@ fn opens_as(object: Object, ty: TypeRecord) -> bool
     matches!(object, Object::Struct { .. }) && matches!(ty.base, BaseType::Struct(_))
 }
 
-/// Whether the value at the root, which is there, is as it is wanted.
+/// Returns whether the value at the root, which exists, meets the condition.
 fn is_wanted<A: ReaderArena>(arena: &A, wanted: Wanted) -> bool
     ensures { (t : Tree) → tree_at 64 (words_in (A.segments arena.now)) root ≡ Some t
         → result ≡ wants wanted t }
@@ -155,8 +155,8 @@ fn is_wanted<A: ReaderArena>(arena: &A, wanted: Wanted) -> bool
 
 // ---- canonical bytes
 
-/// Whether a message under 2^29 words is one segment, of the canonical words of a value of at most
-/// 64 levels without capabilities.
+/// Returns whether a message under 2^29 words is one segment, of the canonical words of a value of
+/// at most 64 levels without capabilities.
 fn is_canonical<A: ReaderArena>(arena: &A) -> bool
     requires { IsSmall (words_in (A.segments arena.now)) root }
     ensures { result ≡ is_canonical_message 64 (words_in (A.segments arena.now)) }
@@ -169,8 +169,8 @@ fn is_canonical<A: ReaderArena>(arena: &A) -> bool
     }
 }
 
-/// Whether the bytes are a canonical value under 2^29 words, of at most 64 levels and without
-/// capabilities, which is as it is wanted.
+/// Returns whether the bytes are a canonical value under 2^29 words, of at most 64 levels and
+/// without capabilities, which meets the condition.
 pub(crate) fn is_good_segment(bytes: &[u8], wanted: Wanted) -> bool
     ensures { result ≡ is_good_segment (wants wanted) bytes.now }
 {

@@ -41,9 +41,9 @@ impl SchemaSet {
     ghost use Rattle.capnp_records.specs.Tables.{AreTablesOf};
     ghost use Rattle.capnp_records.specs.Sets.{nodes_of, has_struct, is_at, struct_found, enumerants_found, IsStructOf, IsNodeOf, IsEnumOf};
 
-    /// The set of the nodes, where they keep the rules. The rules are tried by number, each over
-    /// the nodes in order, and the first that is broken is answered with the place of the first
-    /// node that breaks it.
+    /// Makes the set of the nodes, if they keep the rules. The rules are checked by number, each
+    /// over the nodes in order. Otherwise it returns the first rule that is broken and the place of
+    /// the first node that breaks it.
     pub fn new(nodes: Vec<NodeRecord>) -> Result<SchemaSet, SchemaFault>
         ensures nodes { IfOk result (λ set. nodes_of set ≡ map node_of nodes.items) }
         ensures accepted { IfOk result (λ set. IsAccepted (nodes_of set)) }
@@ -60,7 +60,7 @@ impl SchemaSet {
         })
     }
 
-    /// The node of an id, with its place.
+    /// Returns the node of an id, with its place.
     fn find(&self, id: u64) -> Option<(usize, &NodeRecord)>
         ensures missing { IfNone result (find_node (nodes_of self.now) id ≡ None) }
         ensures id { IfSome result (λ found. found.1.now.id ≡ id) }
@@ -75,14 +75,14 @@ impl SchemaSet {
         Some((*place, &self.nodes[*place]))
     }
 
-    /// The nodes of the set, in the order in which they were given.
+    /// Returns the nodes of the set, in the order in which they were given.
     pub fn nodes(&self) -> &[NodeRecord]
         ensures { map node_of result.now ≡ nodes_of self.now }
     {
         self.nodes.as_slice()
     }
 
-    /// The struct of an id. A group is none.
+    /// Returns the struct of an id. A group is not a struct here.
     pub fn struct_by_id(&self, id: u64) -> Option<RawBrandedStructSchema>
         ensures missing { IfNone result (names_a is_struct_node (nodes_of self.now) id ≡ false) }
         ensures id { IfSome result (λ raw. raw.id ≡ id) }
@@ -98,7 +98,7 @@ impl SchemaSet {
         Some(RawBrandedStructSchema { number, id })
     }
 
-    /// The struct or the group of an id.
+    /// Returns the struct or the group of an id.
     pub fn struct_or_group_by_id(&self, id: u64) -> Option<RawBrandedStructSchema>
         ensures missing { IfNone result (names_a has_struct (nodes_of self.now) id ≡ false) }
         ensures id { IfSome result (λ raw. raw.id ≡ id) }
@@ -116,7 +116,7 @@ impl SchemaSet {
         }
     }
 
-    /// The enum of an id.
+    /// Returns the enum of an id.
     pub fn enum_by_id(&self, id: u64) -> Option<RawEnumSchema>
         ensures missing { IfNone result (names_a is_enum_node (nodes_of self.now) id ≡ false) }
         ensures id { IfSome result (λ raw. raw.id ≡ id) }
@@ -134,7 +134,7 @@ impl SchemaSet {
         }
     }
 
-    /// The node of a struct or a group of this set.
+    /// Returns the node of a struct or a group of this set.
     pub fn struct_node(&self, raw: RawBrandedStructSchema) -> &NodeRecord
         requires { IsNodeOf (nodes_of self.now) raw }
         ensures { find_node (nodes_of self.now) raw.id ≡ Some (node_of result.now) }
@@ -143,7 +143,7 @@ impl SchemaSet {
         &self.nodes[number]
     }
 
-    /// What the node of a struct or a group of this set says.
+    /// Returns the description of a struct or a group of this set in its node.
     pub fn struct_record(&self, raw: RawBrandedStructSchema) -> &StructRecord
         requires { IsNodeOf (nodes_of self.now) raw }
         ensures { struct_found (nodes_of self.now) raw.id ≡ Some (struct_of result.now) }
@@ -154,7 +154,7 @@ impl SchemaSet {
         record
     }
 
-    /// The places of the fields of a struct or a group of this set.
+    /// Returns the places of the fields of a struct or a group of this set.
     pub fn field_tables(&self, raw: RawBrandedStructSchema) -> &FieldTables
         requires { IsNodeOf (nodes_of self.now) raw }
         ensures { (s : StructNode) → struct_found (nodes_of self.now) raw.id
@@ -163,7 +163,7 @@ impl SchemaSet {
         &self.tables[raw.number as usize]
     }
 
-    /// The node of an enum of this set.
+    /// Returns the node of an enum of this set.
     pub fn enum_node(&self, raw: RawEnumSchema) -> &NodeRecord
         requires { IsEnumOf (nodes_of self.now) raw }
         ensures { find_node (nodes_of self.now) raw.id ≡ Some (node_of result.now) }
@@ -172,7 +172,7 @@ impl SchemaSet {
         &self.nodes[place]
     }
 
-    /// The enumerants of an enum of this set.
+    /// Returns the enumerants of an enum of this set.
     pub fn enumerants(&self, raw: RawEnumSchema) -> &[EnumerantRecord]
         requires { IsEnumOf (nodes_of self.now) raw }
         ensures { enumerants_found (nodes_of self.now) raw.id ≡ Some (map enumerant_of result.now) }
@@ -183,14 +183,14 @@ impl SchemaSet {
         enumerants
     }
 
-    /// Whether a raw schema or a type is of this set.
+    /// Returns whether a raw schema or a type is of this set.
     pub fn holds<T: OfSet>(&self, item: T) -> bool
         ensures { result ≡ T.is_of (nodes_of self.now) item }
     {
         item.is_of_set(self)
     }
 
-    /// The node at a place, where it is that of the id.
+    /// Returns the node at a place, if it has the id.
     pub(crate) fn node_at(&self, number: u64, id: u64) -> Option<&NodeRecord>
         ensures missing { IfNone result (is_at (λ n. true) (nodes_of self.now) number id ≡ false) }
         ensures found { IfSome result (λ node. slice_get (nodes_of self.now) number

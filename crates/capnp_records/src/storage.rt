@@ -1,4 +1,4 @@
-//! How types are stored in a struct, and where its slots lie.
+//! Storage of types in a struct, and the places of its slots.
 
 ghost use Rattle.std.specs.Prelude.{◌≡◌, ◌<◌, ◌≤◌, Option};
 ghost use Rattle.capnp_model.specs.Schemas.{Value, base_type, type_of};
@@ -9,7 +9,7 @@ ghost use Rattle.capnp_records.specs.Storage.{storage_of, bits_in, TakesBits, ar
 use crate::area::{Area, Span};
 use crate::node::{BaseType, FieldBody, StructRecord, TypeRecord};
 
-/// How a type is stored in a struct.
+/// The storage of a type in a struct.
 #[derive(Clone, Copy)]
 pub(crate) enum Storage {
     Nothing,
@@ -51,7 +51,7 @@ pub(crate) fn storage_of(ty: TypeRecord) -> Storage
     storage_of_base(ty.base)
 }
 
-/// Whether the field lies in the sections of its struct. A group has its place elsewhere.
+/// Returns whether the field is in the sections of its struct. A group has its place elsewhere.
 #[tactic(auto, using(crate::proofs::lemmas::Stored::places))]
 pub(crate) fn has_its_place(holder: &StructRecord, body: &FieldBody) -> bool
     ensures { result ≡ has_its_place (struct_of holder.now) (kind_of_field body.now) }
@@ -69,7 +69,7 @@ pub(crate) fn has_its_place(holder: &StructRecord, body: &FieldBody) -> bool
     }
 }
 
-/// What a slot takes.
+/// Returns the area that a slot takes.
 #[tactic(auto, using(crate::proofs::lemmas::Stored::areas))]
 pub(crate) fn area_of(offset: u32, ty: TypeRecord) -> Area
     ensures { (d : Option Value) → areas_in result

@@ -1,4 +1,4 @@
-//! Where the fields of a struct stand, so that no query searches for them.
+//! Tables of the fields of a struct, so that queries never search for them.
 
 ghost use Rattle.std.specs.Prelude.{◌≡◌, ℕ, ◌≤◌, true, map, length, nat_eq, IfOk};
 ghost use Rattle.std.specs.List.{list_all};
@@ -73,7 +73,7 @@ fn tables_of_node(alloc: Global, node: &NodeRecord) -> Result<FieldTables, Alloc
     }
 }
 
-/// The tables of the nodes, in order.
+/// Returns the tables of the nodes, in order.
 pub(crate) fn tables_of(alloc: Global, nodes: &[NodeRecord]) -> Result<Vec<FieldTables>, AllocError>
     requires { list_all is_short (map node_of nodes.now) ≡ true }
     ensures members { IfOk result (λ v. map (λ t. t.members.items) v.items
@@ -89,7 +89,7 @@ pub(crate) fn tables_of(alloc: Global, nodes: &[NodeRecord]) -> Result<Vec<Field
     Ok(tables)
 }
 
-/// The place of each id's first node.
+/// Returns the place of each id's first node.
 pub(crate) fn places_of(
     alloc: Global,
     nodes: &[NodeRecord],

@@ -1,5 +1,5 @@
 //! The rule of unions: the members' values are 0 to the count less one, each once, and the
-//! discriminant lies in its section.
+//! discriminant is in its section.
 
 ghost use Rattle.std.specs.Prelude.{◌≡◌, ◌&&◌, ◌++◌, nat_lt, map, filter_map, IfOk};
 ghost use Rattle.std.specs.List.{list_all};
@@ -10,7 +10,7 @@ use crate::marks::{mark_at, raise};
 use crate::node::{FieldRecord, NO_DISCRIMINANT, StructRecord};
 use std::alloc::{AllocError, Global};
 
-/// The member's value, if the field is a union member.
+/// Returns the member's value, if the field is a union member.
 fn member_of(field: &FieldRecord) -> Option<u16>
     ensures { result ≡ (field_of field.now).member }
 {
@@ -33,7 +33,7 @@ fn push_members(members: &mut Vec<u16>, fields: &[FieldRecord]) -> Result<(), Al
     Ok(())
 }
 
-/// Whether the members are below the count and none stands twice.
+/// Returns whether the members are below the count and each occurs once.
 fn are_once_below(alloc: Global, members: &[u16], count: u16) -> Result<bool, AllocError>
     ensures { IfOk result (λ b. b ≡ (list_all
         (λ m. nat_lt m count) members.now && are_once members.now)) }

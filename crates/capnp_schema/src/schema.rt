@@ -1,4 +1,5 @@
-//! What a schema set says: structs with their fields, enums with their enumerants, annotations.
+//! The contents of a schema set: structs with their fields, enums with their enumerants,
+//! annotations.
 
 pub use capnp_values_queries::annotations::{Annotation, AnnotationList};
 pub use capnp_values_queries::enumerants::{Enumerant, EnumerantList};

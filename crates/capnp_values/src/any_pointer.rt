@@ -1,4 +1,4 @@
-//! Pointers of no type.
+//! Untyped pointers.
 ghost use Rattle.std.specs.Prelude.{◌≡◌, Result, Ok, option_copied};
 ghost use Rattle.capnp_model.specs.Schemas.{untyped};
 ghost use Rattle.capnp_units.specs.declared.errors.Error.{Error};
@@ -20,21 +20,21 @@ use capnp_wire::traits;
 use capnp_wire::traits::FromPointerReader;
 use capnp_wire_objects::arena::ReaderArena;
 
-/// A pointer of no type, of a message or of a default.
+/// An untyped pointer, of a message or of a default.
 #[derive_where(Clone, Copy)]
 pub struct Reader<'a, A> {
     pub(crate) source: PointerSource<'a, A>,
 }
 
 impl<'a, A: ReaderArena> Reader<'a, A> {
-    /// What the pointer is read from, for copies.
+    /// Returns the source from which the pointer is read, for copies.
     pub fn source(&self) -> PointerSource<'a, A>
         ensures { result ≡ self.now.source }
     {
         self.source
     }
 
-    /// A message's pointer.
+    /// Makes an untyped pointer of a message's pointer.
     pub fn new(reader: PointerReader<'a, A>) -> Self
         ensures { pointer_seen A.segments result.source ≡ seen_pointer A.segments reader.entry }
     {
@@ -43,32 +43,33 @@ impl<'a, A: ReaderArena> Reader<'a, A> {
         }
     }
 
-    /// A pointer of a message or of a default.
+    /// Makes an untyped pointer of a message or of a default.
     pub(crate) fn of_source(source: PointerSource<'a, A>) -> Self
         ensures { result.source ≡ source.entry }
     {
         Reader { source }
     }
 
-    /// Whether there is no pointer here, or a word of zeros.
+    /// Returns whether there is no pointer here, or a word of zeros.
     pub fn is_null(&self) -> bool
         ensures { result ≡ is_null_pointer (pointer_seen A.segments self.now.source) }
     {
         self.source.is_null()
     }
 
-    /// The words and the capabilities of the pointer's value, without pads and the pointer itself.
-    /// It is refused, and bounded in time and stack, as `PointerReader::total_size` is where there
-    /// is no limit of words.
+    /// Returns the words and the capabilities of the pointer's value, without pads and the pointer
+    /// itself. It is refused, and bounded in time and stack, like `PointerReader::total_size`
+    /// without a limit of words.
     pub fn target_size(&self) -> Result<MessageSize>
         ensures { WithoutLimit (PointerSize (pointer_seen A.segments self.now.source)) result }
     {
         self.source.total_size()
     }
 
-    /// The pointer read as a type: a text, data, or an untyped pointer. It has no limit of words.
+    /// Returns the pointer read as a type: a text, data, or an untyped pointer. There is no limit
+    /// of words.
     ///
-    /// It is refused as `PointerReader::get_text` and `get_data` are.
+    /// It is refused like `PointerReader::get_text` and `get_data`.
     pub fn get_as<T: FromAnyPointer<'a, A>>(&self) -> Result<T>
         ensures { T.reads (pointer_seen A.segments self.now.source) result }
     {
@@ -92,8 +93,8 @@ impl<'a, A: ReaderArena + 'a> traits::Owned<'a, A> for Owned {
     type Reader = Reader<'a, A>;
 }
 
-/// The pointer itself, or the default's root in place of a null one. Nothing is followed, so
-/// nothing is paid for, and it isn't refused.
+/// Returns the pointer itself, or the default's root if the pointer is null. Nothing is followed,
+/// so nothing is paid for, and it is never refused.
 impl<'a, A: ReaderArena> FromPointerReader<'a, A> for Reader<'a, A> {
     ghost reads = { IsUntyped A.segments };
 
@@ -106,9 +107,9 @@ impl<'a, A: ReaderArena> FromPointerReader<'a, A> for Reader<'a, A> {
     }
 }
 
-/// What an untyped pointer can be read as, be it a message's or a default's.
+/// A type as which an untyped pointer can be read, whether it is of a message or of a default.
 pub trait FromAnyPointer<'a, A: ReaderArena>: Sized {
-    /// What reading the pointer gives.
+    /// The result of reading the pointer.
     ghost reads: { PointerView → Result Self Error → Type 0 };
 
     /// Reads the pointer.
@@ -116,7 +117,7 @@ pub trait FromAnyPointer<'a, A: ReaderArena>: Sized {
         ensures { reads (pointer_seen A.segments pointer.entry.source) result };
 }
 
-/// A text: the bytes of a byte list in front of its last, which is zero; null is the empty text.
+/// A text: the bytes of a byte list before its last byte, which is zero; null is the empty text.
 impl<'a, A: ReaderArena> FromAnyPointer<'a, A> for text::Reader<'a> {
     ghost reads = { λ p r. seen (λ t. t.0.now) r ≡ pointed_text p };
 
@@ -128,7 +129,7 @@ impl<'a, A: ReaderArena> FromAnyPointer<'a, A> for text::Reader<'a> {
     }
 }
 
-/// Data: the bytes of a byte list; null is none.
+/// Data: the bytes of a byte list; null is empty data.
 impl<'a, A: ReaderArena> FromAnyPointer<'a, A> for &'a [u8] {
     ghost reads = { λ p r. seen (λ bytes. bytes.now) r ≡ pointed_data p };
 

@@ -13,8 +13,9 @@ use capnp_wire::pointer::PointerReader;
 use capnp_wire::structs::StructReader;
 use capnp_wire_objects::arena::ReaderArena;
 
-/// Where a default is read when a pointer is null: an arena whose root is null. A default has
-/// levels of its own, the 64 to which the schema rules bound it, whatever the message has left.
+/// The arena in which a default is read when a pointer is null: its root is null. A default has
+/// levels of its own, the 64 to which the schema rules bound it, whatever levels the message has
+/// left.
 #[derive(Clone, Copy, Debug, PartialEq, Eq)]
 pub struct Defaults;
 
@@ -43,7 +44,7 @@ impl ReaderArena for Defaults {
     }
 }
 
-/// The null pointer in whose place a default is read.
+/// Returns the null pointer that is replaced when a default is read.
 pub(crate) fn null<'a>() -> PointerReader<'a, Defaults>
     ensures { seen_pointer null_root_segments result ≡ null_default }
 {
@@ -53,9 +54,10 @@ pub(crate) fn null<'a>() -> PointerReader<'a, Defaults>
     }
 }
 
-/// The struct that a default's bytes hold; a default whose root is null is the empty struct.
+/// Returns the struct that a default's bytes hold; a default whose root is null is the empty
+/// struct.
 ///
-/// It is refused as `PointerReader::get_struct` is; over an accepted set it isn't.
+/// It is refused like `PointerReader::get_struct`; over an accepted set it is never refused.
 pub(crate) fn default_struct<'a>(bytes: &'a [u8]) -> Result<StructReader<'a, Defaults>>
     ensures { seen (seen_struct null_root_segments) result ≡ pointed_struct
         (default_pointer bytes.now) }
@@ -65,9 +67,9 @@ pub(crate) fn default_struct<'a>(bytes: &'a [u8]) -> Result<StructReader<'a, Def
     null().get_struct(&mut unlimited, Some(words))
 }
 
-/// The list that a default's bytes hold; a default whose root is null is the empty list.
+/// Returns the list that a default's bytes hold; a default whose root is null is the empty list.
 ///
-/// It is refused as `PointerReader::get_list` is; over an accepted set it isn't.
+/// It is refused like `PointerReader::get_list`; over an accepted set it is never refused.
 pub(crate) fn default_list<'a>(
     bytes: &'a [u8],
     expected: ElementSize,

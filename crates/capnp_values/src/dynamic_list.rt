@@ -47,8 +47,8 @@ impl<'a, A: ReaderArena> Reader<'a, A> {
     ghost use Rattle.capnp_values.specs.Sources.{list_seen};
     ghost use Rattle.capnp_values.specs.Shown.{shown, shown_at, GivesElements};
 
-    /// A message's list of elements of a type of the set. Where these are structs, its elements
-    /// aren't bits.
+    /// Makes a message's list of elements of a type of the set. If the type is a struct, the
+    /// elements aren't bits.
     pub fn new(reader: ListReader<'a, A>, set: &'a SchemaSet, element_type: Type) -> Self
         requires known { is_type_of (nodes_of set.now) element_type ≡ true }
         requires bytewise { size_number (size_of (ty_of element_type)) ≡ 7
@@ -60,7 +60,7 @@ impl<'a, A: ReaderArena> Reader<'a, A> {
         Reader::of_source(ListSource::Message(reader), set, element_type)
     }
 
-    /// A list of elements of a type of the set.
+    /// Makes a list of elements of a type of the set.
     pub(crate) fn of_source(
         source: ListSource<'a, A>,
         set: &'a SchemaSet,
@@ -80,45 +80,45 @@ impl<'a, A: ReaderArena> Reader<'a, A> {
         }
     }
 
-    /// What the list is read from, for copies.
+    /// Returns the source from which the list is read, for copies.
     pub fn source(&self) -> ListSource<'a, A>
         ensures { result ≡ self.now.source }
     {
         self.source
     }
 
-    /// How many elements there are.
+    /// Returns the number of elements.
     pub fn len(&self) -> u32
         ensures { result ≡ (list_seen A.segments self.now.source).count }
     {
         self.source.len()
     }
 
-    /// Whether there is no element.
+    /// Returns whether the list is empty.
     pub fn is_empty(&self) -> bool
         ensures { result ≡ ((list_seen A.segments self.now.source).count == 0) }
     {
         self.len() == 0
     }
 
-    /// The type of the elements.
+    /// Returns the type of the elements.
     pub fn element_type(&self) -> Type
         ensures { result ≡ self.now.element_type }
     {
         self.element_type
     }
 
-    /// What an element is read as:
-    /// - a plain one by the bits at its front, 0 where it is narrower;
+    /// Returns the value of an element:
+    /// - a plain element by the bits at its front, 0 if it is narrower;
     /// - a struct in place;
-    /// - one behind a pointer by what the pointer names, a null one as the empty value.
+    /// - any other element as the value that its pointer names, and null as the empty value.
     ///
     /// It takes no memory, and has no limit of words.
     ///
     /// It is refused
-    /// - by the kind of the fault at the element's pointer;
-    /// - with `NestingLimitExceeded` where no level is left for it;
-    /// - with `WrongPointerKind`, `WrongElementSize` or `TextWithoutZeroByte` where what is there
+    /// - with the kind of the fault at the element's pointer;
+    /// - with `NestingLimitExceeded` if no level is left for the element;
+    /// - with `WrongPointerKind`, `WrongElementSize` or `TextWithoutZeroByte` if the value there
     ///   can't be read as the elements' type.
     #[tactic(auto, using(crate::proofs::Elements::element_rules))]
     pub fn get(self, index: u32) -> Result<dynamic_value::Reader<'a, A>>
@@ -153,7 +153,8 @@ impl<'a, A: ReaderArena> Reader<'a, A> {
         }
     }
 
-    /// What the elements are read as, in order, from both ends; each is read when it is asked for.
+    /// Returns the values of the elements, in order, from both ends; each is read when it is
+    /// requested.
     pub fn iter(self) -> ListIter<Reader<'a, A>, Result<dynamic_value::Reader<'a, A>>>
         ensures { GivesElements A.segments self.entry result }
     {

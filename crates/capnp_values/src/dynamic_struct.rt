@@ -30,7 +30,7 @@ fn are_bytes(bytes: &[u8])
     ensures { AllByRecursion (λ b. b < 2 ^ 8) bytes.now }
 {}
 
-/// A default, whose bytes are bytes.
+/// Returns a default, whose bytes are bytes.
 fn with_bytes(value: &Value) -> &Value
     ensures same { result.now ≡ value.now }
     ensures bytes { HoldsOnlyBytes (value_of value.now) }
@@ -42,7 +42,7 @@ fn with_bytes(value: &Value) -> &Value
     value
 }
 
-/// The default that a slot's record says.
+/// Returns the default of a slot's record.
 fn default_of(body: &FieldBody) -> Option<&Value>
     ensures said { option_map value_of (option_copied result)
         ≡ default_said (kind_of_field body.now) }
@@ -57,8 +57,8 @@ fn default_of(body: &FieldBody) -> Option<&Value>
     }
 }
 
-/// A struct or a group to read, of a message or of a default. It may have other sizes than its
-/// schema says.
+/// A struct or a group to read, of a message or of a default. Its sizes may differ from those of
+/// its schema.
 #[derive_where(Clone, Copy)]
 pub struct Reader<'a, A> {
     pub(crate) source: StructSource<'a, A>,
@@ -66,7 +66,7 @@ pub struct Reader<'a, A> {
 }
 
 impl<'a, A: ReaderArena> Reader<'a, A> {
-    /// A message's struct under a schema.
+    /// Makes a message's struct under a schema.
     pub fn new(reader: StructReader<'a, A>, schema: StructSchema<'a>) -> Self
         ensures source { struct_seen A.segments result.source
             ≡ seen_struct A.segments reader.entry }
@@ -78,42 +78,42 @@ impl<'a, A: ReaderArena> Reader<'a, A> {
         }
     }
 
-    /// What the struct is read from, for copies.
+    /// Returns the source from which the struct is read, for copies.
     pub fn source(&self) -> StructSource<'a, A>
         ensures { result ≡ self.now.source }
     {
         self.source
     }
 
-    /// The struct's schema.
+    /// Returns the struct's schema.
     pub fn get_schema(&self) -> StructSchema<'a>
         ensures { result ≡ self.now.schema }
     {
         self.schema
     }
 
-    /// The words of the struct's sections and of the objects behind its pointers, and its
-    /// capabilities. It is refused, and bounded in time and stack, as `StructReader::total_size` is
-    /// where there is no limit of words.
+    /// Returns the words of the struct's sections and of the objects that its pointers lead to, and
+    /// its capabilities. It is refused, and bounded in time and stack, like
+    /// `StructReader::total_size` without a limit of words.
     pub fn total_size(&self) -> Result<MessageSize>
         ensures { WithoutLimit (StructSizeOf (struct_seen A.segments self.now.source)) result }
     {
         self.source.total_size()
     }
 
-    /// What a field of the struct is read as:
-    /// - a plain one by its bits, exclusive or those of its default;
-    /// - one behind a pointer by what the pointer names; a null one by its default, which has
-    ///   levels of its own, else as the empty value;
-    /// - a group as the same struct under its own schema.
+    /// Returns the value of a field of the struct:
+    /// - a plain field by its bits, exclusive-or'ed with those of its default;
+    /// - a field with a pointer as the value that the pointer names; null as its default, which has
+    ///   levels of its own, otherwise as the empty value;
+    /// - a group as the same struct under the group's schema.
     ///
     /// A union member that isn't the active one is read all the same. It takes no memory, and has
     /// no limit of words.
     ///
     /// It is refused
-    /// - by the kind of the fault at the field's pointer;
-    /// - with `NestingLimitExceeded` where no level is left for it;
-    /// - with `WrongPointerKind`, `WrongElementSize` or `TextWithoutZeroByte` where what is there
+    /// - with the kind of the fault at the field's pointer;
+    /// - with `NestingLimitExceeded` if no level is left for the field;
+    /// - with `WrongPointerKind`, `WrongElementSize` or `TextWithoutZeroByte` if the value there
     ///   can't be read as the field's type.
     pub fn get(self, field: Field<'a>) -> Result<dynamic_value::Reader<'a, A>>
         ensures { ShowsField A.segments (struct_seen A.segments self.entry.source) field.entry
@@ -144,8 +144,8 @@ impl<'a, A: ReaderArena> Reader<'a, A> {
         }
     }
 
-    /// The value of the discriminant, where the schema has a union; 0 where it doesn't lie in the
-    /// section.
+    /// Returns the value of the discriminant, if the schema has a union; 0 if the discriminant
+    /// isn't in the section.
     #[tactic(auto, using(crate::proofs::Bits::tag_bits))]
     fn discriminant(&self, schema: StructSchema<'a>) -> Option<u16>
         ensures { result ≡ discriminant_shown schema.entry
@@ -157,7 +157,7 @@ impl<'a, A: ReaderArena> Reader<'a, A> {
         }
     }
 
-    /// Whether a field is no union member, or the active one.
+    /// Returns whether a field is not a union member, or is the active member.
     fn is_active(&self, field: Field<'a>) -> bool
         ensures { result ≡ is_active_in (struct_seen A.segments self.now.source) field.entry }
     {
@@ -171,7 +171,7 @@ impl<'a, A: ReaderArena> Reader<'a, A> {
         }
     }
 
-    /// Whether a field lies behind a pointer that is null.
+    /// Returns whether a field has a pointer that is null.
     fn is_null_slot(&self, field: Field<'a>) -> bool
         ensures { result ≡ is_null_in (struct_seen A.segments self.now.source) field.entry }
     {
@@ -181,16 +181,17 @@ impl<'a, A: ReaderArena> Reader<'a, A> {
         }
     }
 
-    /// Whether a field of the struct is there: false for a union member that isn't the active one,
-    /// and where the field's pointer is null; else true, for groups too. It never refuses.
+    /// Returns whether a field of the struct is present. It is not present if it is a union member
+    /// that isn't active, or if its pointer is null. Other fields are present, groups too. It is
+    /// never refused.
     pub fn has(&self, field: Field<'a>) -> Result<bool>
         ensures { result ≡ Ok (has_field (struct_seen A.segments self.now.source) field.entry) }
     {
         Ok(self.is_active(field) && !self.is_null_slot(field))
     }
 
-    /// The union's active member: none without a union, and where the discriminant is that of no
-    /// member. It never refuses.
+    /// Returns the union's active member: `None` without a union, and if no member has the
+    /// discriminant. It is never refused.
     pub fn which(self) -> Result<Option<Field<'a>>>
         ensures { IsOkAnd result (IsFieldAt self.entry.schema (active_in A.segments self.entry)) }
     {
@@ -200,8 +201,8 @@ impl<'a, A: ReaderArena> Reader<'a, A> {
         }
     }
 
-    /// What the field of a name is read as, as by `get`. A name that the struct lacks is refused by
-    /// `FieldNotFound`.
+    /// Returns the value of the field of a name, like `get`. A name that the struct lacks is
+    /// refused with `FieldNotFound`.
     pub fn get_named(self, name: &str) -> Result<dynamic_value::Reader<'a, A>>
         ensures { let r = self.entry in
             AnswersNamed r.schema name.now
@@ -211,8 +212,8 @@ impl<'a, A: ReaderArena> Reader<'a, A> {
         self.get(field)
     }
 
-    /// Whether the field of a name is there, as by `has`. A name that the struct lacks is refused
-    /// by `FieldNotFound`, and nothing else is.
+    /// Returns whether the field of a name is present, like `has`. It is only refused for a name
+    /// that the struct lacks, with `FieldNotFound`.
     pub fn has_named(&self, name: &str) -> Result<bool>
         ensures { let r = self.now in
             AnswersNamed r.schema name.now (TellsField (struct_seen A.segments r.source)) result }
@@ -221,9 +222,9 @@ impl<'a, A: ReaderArena> Reader<'a, A> {
         self.has(field)
     }
 
-    /// Whether the struct can be handed on as a caller's type: its schema's id is that of the type,
-    /// and it is a message's. One of a default can't be, since a caller's types read messages
-    /// alone.
+    /// Returns whether the struct can be passed on as a caller's type: its schema's id is that of
+    /// the type, and the struct is a message's. A struct of a default can't be passed on, because
+    /// callers' types only read messages.
     pub fn fits<T: Introspect>(&self) -> bool
         ensures { result ≡ fits_type T.ty self.now }
     {
@@ -233,8 +234,8 @@ impl<'a, A: ReaderArena> Reader<'a, A> {
         }
     }
 
-    /// The struct as a caller's type, which `fits` tells. Its reader is the one that it was made
-    /// from.
+    /// Returns the struct as a caller's type, if `fits` returns true. Its reader is the one from
+    /// which it was made.
     pub fn downcast<T: OwnedStruct<'a, A> + Introspect>(self) -> T::Reader
         requires { fits_type T.ty self ≡ true }
         ensures { message_struct self.entry.source ≡ Some (T.Reader.inner_struct result) }

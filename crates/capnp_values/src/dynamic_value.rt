@@ -34,7 +34,8 @@ pub enum Reader<'a, A> {
 impl<'a, A> Reader<'a, A> {
     ghost use Rattle.std.specs.Prelude.{◌≡◌, Some, is_some, true};
 
-    /// The value in the variant of a type, of which the value is; `fits` of the type tells.
+    /// Returns the value in the variant of a type; the value must be of the variant, as `fits` of
+    /// the type says.
     pub fn downcast<T: DowncastReader<'a, A>>(self) -> T
         requires { is_some (T.variant self) ≡ true }
         ensures { T.variant self.entry ≡ Some result }
@@ -47,8 +48,8 @@ impl<'a, A: ReaderArena> Reader<'a, A> {
     ghost use Rattle.std.specs.Prelude.{◌≡◌, Some, true};
     ghost use Rattle.capnp_values.specs.Variants.{fits_struct, message_struct_in};
 
-    /// Whether the value is a struct that can be handed on as a caller's type, as
-    /// `dynamic_struct::Reader::fits` says.
+    /// Returns whether the value is a struct that can be passed on as a caller's type, by the rules
+    /// of `dynamic_struct::Reader::fits`.
     pub fn fits_struct<T: Introspect>(&self) -> bool
         ensures { result ≡ fits_struct T.ty self.now }
     {
@@ -58,7 +59,7 @@ impl<'a, A: ReaderArena> Reader<'a, A> {
         }
     }
 
-    /// The struct as a caller's type, which `fits_struct` tells.
+    /// Returns the struct as a caller's type, if `fits_struct` returns true.
     pub fn downcast_struct<T: OwnedStruct<'a, A> + Introspect>(self) -> T::Reader
         requires { fits_struct T.ty self ≡ true }
         ensures { message_struct_in self.entry ≡ Some (T.Reader.inner_struct result) }
@@ -81,7 +82,7 @@ impl<'a> Enum<'a> {
     ghost use Rattle.std.specs.Prelude.{◌≡◌, IsOkAnd};
     ghost use Rattle.capnp_values.specs.Shown.{IsEnumerantAt};
 
-    /// A value of an enum.
+    /// Makes a value of an enum.
     pub fn new(value: u16, schema: EnumSchema<'a>) -> Enum<'a>
         ensures value { result.value ≡ value }
         ensures schema { result.schema ≡ schema.entry }
@@ -89,14 +90,15 @@ impl<'a> Enum<'a> {
         Enum { value, schema }
     }
 
-    /// The value.
+    /// Returns the value.
     pub fn get_value(&self) -> u16
         ensures { result ≡ self.now.value }
     {
         self.value
     }
 
-    /// The enumerant of the value, or `None` where the schema has none. It never refuses.
+    /// Returns the enumerant of the value, or `None` if the schema has no such enumerant. It is
+    /// never refused.
     pub fn get_enumerant(self) -> Result<Option<Enumerant<'a>>>
         ensures { IsOkAnd result (λ found. IsEnumerantAt self.entry.schema self.entry.value found) }
     {
@@ -109,6 +111,6 @@ impl<'a> Enum<'a> {
     }
 }
 
-/// A capability, of which nothing is known.
+/// A capability, whose contents are unknown.
 #[derive(Clone, Copy, Debug, PartialEq, Eq)]
 pub struct Capability;

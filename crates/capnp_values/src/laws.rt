@@ -1,19 +1,20 @@
-//! Laws of what is shown, each the contract of an empty function: a call of it brings its clauses.
+//! Laws of the values that readers show, each the contract of an empty function: a call of the
+//! function adds its clauses.
 ghost use Rattle.capnp_values.specs.Records.{FieldsOfRecords, MembersOfRecords, ValuesOfRecords};
 ghost use Rattle.capnp_values.specs.Standing.{PointersAreRead, FieldsAreRead, ElementsAreRead, DiscriminantsAreRead, NullsAreRead};
 ghost use Rattle.capnp_values.specs.ValuesShown.{ValuesAreRead};
 
 use capnp_wire::laws::{gets_are_readings, values_by_levels};
 
-/// What a pointer shows under a type is what the model reads there, where the levels of the value
-/// are left:
+/// The value that a pointer shows under a type is what the model reads there, if the levels of the
+/// value are left:
 /// - a text and data by their bytes;
 /// - a struct by its record, with the section and the children that the value has;
 /// - a list by the value's elements;
 /// - an untyped pointer by the value that it leads to;
 /// - null as the empty value.
 ///
-/// What is refused is refused by the kind of the reading's fault.
+/// A refusal has the kind of the reading's fault.
 pub fn pointers_are_read()
     ensures { PointersAreRead }
 {
@@ -21,27 +22,27 @@ pub fn pointers_are_read()
     gets_are_readings();
 }
 
-/// What a field shows of a struct that stands at a value is what the model reads of it there, at
+/// The value that a field of a struct at a value shows is what the model reads of it there, at
 /// every type:
-/// - a plain field its bits;
-/// - a group the record of the same section and children;
-/// - one behind a pointer what the child reads as;
-/// - a null pointer what the value of the default reads as, with 64 levels of its own whatever the
-///   message has left, else the empty value.
+/// - a plain field shows its bits;
+/// - a group shows the record of the same section and children;
+/// - a field with a pointer shows the reading of the child;
+/// - a null pointer shows the reading of the default's value, with 64 levels of its own whatever
+///   the message has left, otherwise the empty value.
 ///
-/// A default has to keep the schema rules only where the pointer is null.
+/// A default has to keep the schema rules only if the pointer is null.
 pub fn fields_are_read()
     ensures { FieldsAreRead }
 {
     pointers_are_read();
 }
 
-/// What each element of a list shows, of a list that stands where its elements are read, is what
-/// the model reads of it. So it is at every type that a schema names, and at every size of elements
-/// that the type is read from:
-/// - a plain element its bits;
-/// - a struct the record of the element's section and children;
-/// - one behind a pointer what that pointer reads as.
+/// The value that each element of a list shows, if the list is at a value whose elements are read,
+/// is what the model reads of it. This holds at every type that a schema names, and at every size
+/// of elements from which the type is read:
+/// - a plain element shows its bits;
+/// - a struct shows the record of the element's section and children;
+/// - an element with a pointer shows the reading of that pointer.
 ///
 /// There are as many elements as the list counts.
 pub fn elements_are_read()
@@ -50,25 +51,25 @@ pub fn elements_are_read()
     pointers_are_read();
 }
 
-/// The discriminant that a struct shows, by which `which` and `has` go, is the one that the model
+/// The discriminant that a struct shows, which `which` and `has` use, is the one that the model
 /// reads of the value.
 pub fn discriminants_are_read()
     ensures { DiscriminantsAreRead }
 {}
 
-/// A pointer is null exactly where the value is, so that `has` of a pointer slot goes by the value.
+/// A pointer is null exactly if its value is null, so `has` of a pointer slot depends on the value.
 pub fn nulls_are_read()
     ensures { NullsAreRead }
 {}
 
-/// All that a struct shows, which stands where its record is read, is that record:
-/// - `has` of a field says whether the record has it, neither a member that isn't active nor a null
-///   pointer;
-/// - what `get` shows of one that is no such member is what the record has, a null pointer as its
-///   default, else as the empty value;
+/// Everything that a struct shows, if it is at a value whose record is read, is that record:
+/// - `has` of a field returns whether the record has it; inactive members and null pointers are not
+///   present;
+/// - the value of `get` of a field that is not an inactive member is what the record has, a null
+///   pointer as its default, otherwise as the empty value;
 /// - `which` returns the first union member that the record has.
 ///
-/// What a struct's value reads as, or null, is its record.
+/// The reading of a struct's value, or of null, is its record.
 pub fn records_are_read()
     ensures fields { FieldsOfRecords }
     ensures members { MembersOfRecords }
@@ -77,12 +78,12 @@ pub fn records_are_read()
     pointers_are_read();
 }
 
-/// What a value of a node record shows under a type of its sort, as `dynamic_value::Reader::new`
-/// reads it, is what the model reads of it:
-/// - a number, a text or data as they stand;
+/// The value of a node record under a type of its sort, as `dynamic_value::Reader::new` reads it,
+/// is what the model reads of it:
+/// - a number, a text or data unchanged;
 /// - a struct or a list by the value that its bytes hold, which is canonical as the schema rules
-///   ask of annotations and defaults;
-/// - an untyped one as null.
+///   require of annotations and defaults;
+/// - an untyped value as null.
 pub fn values_are_read()
     ensures { ValuesAreRead }
 {

@@ -1,4 +1,4 @@
-//! Values whose type is known at run time: what they are read as.
+//! Reading of values whose type is known at run time.
 #![tactic(auto)]
 
 pub mod any_pointer;

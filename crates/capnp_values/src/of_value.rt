@@ -1,4 +1,4 @@
-//! Values of node records, as annotations have them.
+//! Values of node records, for example of annotations.
 ghost use Rattle.std.specs.Prelude.{◌≡◌, true};
 ghost use Rattle.capnp_wire_objects.specs.Places.{seen};
 ghost use Rattle.capnp_records.specs.NodeViews.{value_of};
@@ -22,15 +22,15 @@ use capnp_values_queries::introspect::{Type, TypeVariant};
 use capnp_wire_objects::arena::ReaderArena;
 
 impl<'a, A: ReaderArena> Reader<'a, A> {
-    /// A value of a node record under a type of the set: an annotation's under its own, say. A
-    /// struct or a list has 64 levels of its own; an untyped value is null. It takes no memory, and
-    /// has no limit of words.
+    /// Makes a value of a node record under a type of the set, for example of an annotation under
+    /// its own type. A struct or a list has 64 levels of its own; an untyped value is null. It
+    /// takes no memory, and has no limit of words.
     ///
     /// It is refused
-    /// - with `TypeMismatch` where the value and the type are of two sorts;
-    /// - as `PointerReader::get_struct` and `get_list` are where the bytes of a struct or a list
-    ///   don't read so. Over values that the rules accept they do, or it is refused with the kind
-    ///   of a wrong type.
+    /// - with `TypeMismatch` if the value and the type are of two sorts;
+    /// - like `PointerReader::get_struct` and `get_list` if the bytes of a struct or a list can't
+    ///   be read as the type. Values that the rules accept can be read, or are refused with the
+    ///   kind of a wrong type.
     #[tactic(auto, using(crate::proofs::Named::named_rules))]
     pub fn new(set: &'a SchemaSet, value: &'a Value, ty: Type) -> Result<Self>
         requires { is_type_of (nodes_of set.now) ty ≡ true }

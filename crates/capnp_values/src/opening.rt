@@ -1,4 +1,4 @@
-//! What pointers are read as under types.
+//! Reading of pointers under types.
 ghost use Rattle.std.specs.Prelude.{◌≡◌, ◌≢◌, true, Ok, option_map, option_copied};
 ghost use Rattle.capnp_model.specs.Chains.{◌and_then◌};
 ghost use Rattle.capnp_model.specs.Schemas.{struct, list};
@@ -25,7 +25,7 @@ use capnp_values_queries::introspect::{Type, TypeVariant};
 use capnp_values_queries::structs::StructSchema;
 use capnp_wire_objects::arena::ReaderArena;
 
-/// The size that lists of the type are asked for with.
+/// Returns the size with which lists of the type are requested.
 pub fn element_size(ty: Type) -> ElementSize
     ensures { result ≡ size_of (ty_of ty) }
 {
@@ -61,7 +61,7 @@ fn open_data<'a, A: ReaderArena>(pointer: PointerSource<'a, A>) -> Result<Reader
     Ok(Reader::Data(pointer.data()?))
 }
 
-/// The struct of an id of the set.
+/// Returns the struct of an id of the set.
 pub(crate) fn struct_value<'a, A: ReaderArena>(
     source: StructSource<'a, A>,
     set: &'a SchemaSet,
@@ -76,7 +76,7 @@ pub(crate) fn struct_value<'a, A: ReaderArena>(
     Reader::Struct(dynamic_struct::Reader { source, schema })
 }
 
-/// A list of elements of a type of the set.
+/// Returns a list of elements of a type of the set.
 fn list_value<'a, A: ReaderArena>(
     source: ListSource<'a, A>,
     set: &'a SchemaSet,
@@ -117,8 +117,8 @@ fn open_list<'a, A: ReaderArena>(
     Ok(list_value(source, set, element_type))
 }
 
-/// What a pointer is read as under a type of the set; null is the empty value. A plain type has no
-/// pointers.
+/// Returns the value of a pointer under a type of the set; null is the empty value. A plain type
+/// has no pointers.
 #[tactic(auto, using(crate::proofs::Named::named_rules))]
 pub(crate) fn open<'a, A: ReaderArena>(
     pointer: PointerSource<'a, A>,
@@ -140,7 +140,7 @@ pub(crate) fn open<'a, A: ReaderArena>(
     }
 }
 
-/// The struct that a default's bytes hold.
+/// Returns the struct that a default's bytes hold.
 pub(crate) fn struct_of_default<'a, A: ReaderArena>(
     bytes: &'a [u8],
     set: &'a SchemaSet,
@@ -154,7 +154,7 @@ pub(crate) fn struct_of_default<'a, A: ReaderArena>(
     Ok(struct_value(StructSource::Default(source), set, raw))
 }
 
-/// The list that a default's bytes hold.
+/// Returns the list that a default's bytes hold.
 pub(crate) fn list_of_default<'a, A: ReaderArena>(
     bytes: &'a [u8],
     set: &'a SchemaSet,
@@ -168,7 +168,7 @@ pub(crate) fn list_of_default<'a, A: ReaderArena>(
     Ok(list_value(ListSource::Default(source), set, element_type))
 }
 
-/// What the bytes of a default are read as in place of a null pointer.
+/// Returns the value of a default's bytes, which replaces a null pointer.
 #[tactic(auto, using(crate::proofs::Named::named_rules))]
 fn open_segment<'a, A: ReaderArena>(
     pointer: PointerSource<'a, A>,
@@ -188,7 +188,7 @@ fn open_segment<'a, A: ReaderArena>(
     }
 }
 
-/// What a default is read as in place of a null pointer.
+/// Returns the value of a default, which replaces a null pointer.
 fn open_default<'a, A: ReaderArena>(
     pointer: PointerSource<'a, A>,
     set: &'a SchemaSet,
@@ -208,7 +208,7 @@ fn open_default<'a, A: ReaderArena>(
     }
 }
 
-/// What a pointer slot is read as: a null one as its default.
+/// Returns the value of a pointer slot: a null pointer as its default.
 pub(crate) fn open_slot<'a, A: ReaderArena>(
     pointer: PointerSource<'a, A>,
     set: &'a SchemaSet,

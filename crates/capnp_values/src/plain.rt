@@ -13,8 +13,8 @@ use capnp_values_queries::enums::EnumSchema;
 use capnp_values_queries::slots::PlainType;
 use capnp_wire_objects::arena::ReaderArena;
 
-/// A plain value of a struct: its bits, exclusive or those of its default, which alone are there
-/// outside the section.
+/// Returns a plain value of a struct: its bits, exclusive-or'ed with those of its default. Outside
+/// the section it is only the bits of the default.
 pub(crate) fn plain_value<'a, A: ReaderArena>(
     source: &StructSource<'a, A>,
     set: &'a SchemaSet,

@@ -1,4 +1,4 @@
-//! What dynamic readers stand on: a message, or a default value.
+//! The sources of dynamic readers: a message, or a default value.
 ghost use Rattle.std.specs.Prelude.{◌≡◌, ◌≢◌, ◌<◌, ◌==◌, ◌*◌, ◌^◌, IfOk};
 ghost use Rattle.capnp_wire_objects.specs.Places.{seen};
 ghost use Rattle.capnp_units.specs.Sizes.{size_number};
@@ -112,7 +112,7 @@ fn number_of<T: Primitive + Zero + Mask, A: ReaderArena>(
 // ---- sources
 
 impl<'a, A: ReaderArena> PointerSource<'a, A> {
-    /// Whether the pointer is null.
+    /// Returns whether the pointer is null.
     pub(crate) fn is_null(&self) -> bool
         ensures { result ≡ is_null_pointer (pointer_seen A.segments self.now) }
     {
@@ -122,7 +122,7 @@ impl<'a, A: ReaderArena> PointerSource<'a, A> {
         }
     }
 
-    /// The size of the pointer's value.
+    /// Returns the size of the pointer's value.
     pub(crate) fn total_size(&self) -> Result<MessageSize>
         ensures { WithoutLimit (PointerSize (pointer_seen A.segments self.now)) result }
     {
@@ -132,7 +132,7 @@ impl<'a, A: ReaderArena> PointerSource<'a, A> {
         }
     }
 
-    /// The text behind the pointer; null is the empty one.
+    /// Returns the text that the pointer leads to; null is the empty text.
     pub(crate) fn text(self) -> Result<&'a [u8]>
         ensures { seen (λ r. r.now) result ≡ pointed_text (pointer_seen A.segments self.entry) }
     {
@@ -142,7 +142,7 @@ impl<'a, A: ReaderArena> PointerSource<'a, A> {
         }
     }
 
-    /// The data behind the pointer; null is none.
+    /// Returns the data that the pointer leads to; null is empty data.
     pub(crate) fn data(self) -> Result<&'a [u8]>
         ensures { seen (λ r. r.now) result ≡ pointed_data (pointer_seen A.segments self.entry) }
     {
@@ -152,7 +152,7 @@ impl<'a, A: ReaderArena> PointerSource<'a, A> {
         }
     }
 
-    /// The struct behind the pointer; null is the empty one.
+    /// Returns the struct that the pointer leads to; null is the empty struct.
     pub(crate) fn structure(self) -> Result<StructSource<'a, A>>
         ensures { seen (struct_seen A.segments) result
             ≡ pointed_struct (pointer_seen A.segments self.entry) }
@@ -163,8 +163,8 @@ impl<'a, A: ReaderArena> PointerSource<'a, A> {
         }
     }
 
-    /// The list behind the pointer, whose elements can be read as ones of the expected size; null
-    /// is the empty one.
+    /// Returns the list that the pointer leads to, whose elements can be read as elements of the
+    /// expected size; null is the empty list.
     pub(crate) fn list(self, expected: ElementSize) -> Result<ListSource<'a, A>>
         ensures list { seen (list_seen A.segments) result
             ≡ pointed_list expected (pointer_seen A.segments self.entry) }
@@ -183,8 +183,8 @@ impl<'a, A: ReaderArena> PointerSource<'a, A> {
 }
 
 impl<'a, A: ReaderArena> StructSource<'a, A> {
-    /// A number of the data section, exclusive or its default; exactly the default where it doesn't
-    /// lie wholly in the section.
+    /// Returns a number of the data section, exclusive-or'ed with its default; exactly the default
+    /// if the number isn't wholly in the section.
     pub(crate) fn number<T: Primitive + Zero + Mask>(&self, offset: usize, mask: T::T) -> T
         requires { T.mask_bits mask < 2 ^ (8 * T.BYTES) }
         ensures { T.bits result
@@ -197,7 +197,7 @@ impl<'a, A: ReaderArena> StructSource<'a, A> {
         }
     }
 
-    /// The size of the struct: its sections and the objects behind its pointers.
+    /// Returns the size of the struct: its sections and the objects that its pointers lead to.
     pub(crate) fn total_size(&self) -> Result<MessageSize>
         ensures { WithoutLimit (StructSizeOf (struct_seen A.segments self.now)) result }
     {
@@ -207,7 +207,7 @@ impl<'a, A: ReaderArena> StructSource<'a, A> {
         }
     }
 
-    /// A bit of the data section, exclusive or its default.
+    /// Returns a bit of the data section, exclusive-or'ed with its default.
     pub(crate) fn bit(&self, offset: usize, mask: bool) -> bool
         ensures { result ≡ (masked_bits (struct_seen A.segments self.now) offset 1
             (bit_of_bool mask) == 1) }
@@ -218,7 +218,7 @@ impl<'a, A: ReaderArena> StructSource<'a, A> {
         }
     }
 
-    /// A pointer of the pointer section, null past its end.
+    /// Returns a pointer of the pointer section, null past its end.
     pub(crate) fn pointer(&self, index: usize) -> PointerSource<'a, A>
         ensures { pointer_seen A.segments result
             ≡ pointer_field (struct_seen A.segments self.now) index }
@@ -235,7 +235,7 @@ impl<'a, A: ReaderArena> StructSource<'a, A> {
 }
 
 impl<'a, A: ReaderArena> ListSource<'a, A> {
-    /// How many elements there are.
+    /// Returns the number of elements.
     pub(crate) fn len(&self) -> u32
         ensures { result ≡ (list_seen A.segments self.now).count }
     {
@@ -245,7 +245,7 @@ impl<'a, A: ReaderArena> ListSource<'a, A> {
         }
     }
 
-    /// The value at the front of an element.
+    /// Returns the value at the front of an element.
     pub(crate) fn number<T: PrimitiveElement>(&self, index: u32) -> T
         requires { index < (list_seen A.segments self.now).count }
         ensures { result ≡ T.of_bits
@@ -257,7 +257,7 @@ impl<'a, A: ReaderArena> ListSource<'a, A> {
         }
     }
 
-    /// An element as a struct; elements of one bit can't be read so.
+    /// Returns an element as a struct; elements of one bit can't be read in this way.
     pub(crate) fn structure(&self, index: u32) -> StructSource<'a, A>
         requires index { index < (list_seen A.segments self.now).count }
         requires bytes { size_number (size_in self.now) ≢ 1 }
@@ -270,7 +270,7 @@ impl<'a, A: ReaderArena> ListSource<'a, A> {
         }
     }
 
-    /// The first pointer of an element; null where it has none.
+    /// Returns the first pointer of an element; null if the element has no pointer.
     pub(crate) fn pointer(&self, index: u32) -> PointerSource<'a, A>
         requires { index < (list_seen A.segments self.now).count }
         ensures { pointer_seen A.segments result

@@ -1,4 +1,4 @@
-//! Which null pointers print as defaults.
+//! Null pointers that print as defaults.
 ghost use Rattle.std.specs.Prelude.{◌≡◌};
 ghost use Rattle.capnp_records.specs.NodeViews.{kind_of_field};
 ghost use Rattle.capnp_values_print.specs.Defaults.{is_null_segment, enters};
@@ -7,7 +7,7 @@ use capnp_records::node::{FieldBody, Value};
 use capnp_wire::pointer::PointerReader;
 use capnp_wire_objects::arena::ReaderArenaImpl;
 
-/// Whether the root of a default is null.
+/// Returns whether the root of a default is null.
 fn is_null_root(bytes: &[u8]) -> bool
     ensures { result ≡ is_null_segment bytes.now }
 {
@@ -19,7 +19,7 @@ fn is_null_root(bytes: &[u8]) -> bool
     }
 }
 
-/// Whether a field's record says a default whose root isn't null.
+/// Returns whether a field's record has a default whose root isn't null.
 pub(crate) fn has_default(body: &FieldBody) -> bool
     ensures { result ≡ enters (kind_of_field body.now) }
 {

@@ -1,4 +1,4 @@
-//! What fields and elements show, and which defaults are entered for it.
+//! The values that fields and elements show, and the defaults that are entered for them.
 ghost use Rattle.std.specs.Prelude.{◌≡◌, ◌<◌};
 ghost use Rattle.capnp_wire_objects.specs.Places.{seen};
 ghost use Rattle.capnp_values.specs.Shown.{shown, shown_at};
@@ -13,15 +13,15 @@ use capnp_values::{dynamic_list, dynamic_struct, dynamic_value};
 use capnp_values_queries::fields::Field;
 use capnp_wire_objects::arena::ReaderArena;
 
-/// What a field shows, and how many defaults may be entered within it.
+/// The value that a field shows, and the number of defaults that may be entered within it.
 #[derive_where(Clone, Copy)]
 pub(crate) struct Opened<'a, A> {
     pub(crate) value: dynamic_value::Reader<'a, A>,
     pub(crate) left: u32,
 }
 
-/// Opens a field where n defaults may be entered: a null pointer is its default, which is entered,
-/// else the empty value.
+/// Opens a field, with n defaults that may be entered: a null pointer is its default, which is
+/// entered, otherwise the empty value.
 // Inlined, what it takes of the stack would be taken by each struct that is printed in another.
 #[inline(never)]
 pub(crate) fn open_member<'a, A: ReaderArena>(
@@ -52,7 +52,7 @@ pub(crate) fn open_member<'a, A: ReaderArena>(
     })
 }
 
-/// What an element of a list shows.
+/// Returns the value that an element of a list shows.
 // Inlined, what it takes of the stack would be taken by each list that is printed in another.
 #[inline(never)]
 pub(crate) fn open_element<'a, A: ReaderArena>(

@@ -1,4 +1,4 @@
-//! Which fields of a struct are printed.
+//! The fields of a struct that are printed.
 ghost use Rattle.std.specs.Prelude.{◌≡◌, Some, IsOkAnd};
 ghost use Rattle.capnp_values_queries.specs.Fields.{Entry};
 ghost use Rattle.capnp_values_queries.specs.Structs.{schema_around};
@@ -18,7 +18,7 @@ use capnp_values::dynamic_struct;
 use capnp_values_queries::fields::Field;
 use capnp_wire_objects::arena::ReaderArena;
 
-/// The value of the discriminant at which the active union member is, if there is one.
+/// Returns the value of the discriminant of the active union member, if there is one.
 // Inlined, what it takes of the stack would be taken by each struct that is printed in another.
 #[inline(never)]
 pub(crate) fn active_member<A: ReaderArena>(
@@ -34,7 +34,7 @@ pub(crate) fn active_member<A: ReaderArena>(
     }
 }
 
-/// Whether a field is no union member, or the active one.
+/// Returns whether a field is not a union member, or is the active member.
 pub(crate) fn is_active<A: ReaderArena>(
     reader: dynamic_struct::Reader<'_, A>,
     field: Field<'_>,
@@ -56,8 +56,8 @@ pub(crate) fn is_active<A: ReaderArena>(
     }
 }
 
-/// Whether a field is printed: a union member where it is active, the first only where it is no
-/// null pointer; another field where it is no null pointer.
+/// Returns whether a field is printed. A union member is printed if it is active, except the first
+/// member if it is a null pointer. Another field is printed if it isn't a null pointer.
 // Inlined, what it takes of the stack would be taken by each struct that is printed in another.
 #[inline(never)]
 pub(crate) fn is_printed<A: ReaderArena>(
@@ -87,8 +87,8 @@ pub(crate) fn is_printed<A: ReaderArena>(
     }
 }
 
-/// Whether a field that is no member, or the active one, is a null pointer that prints as a
-/// default, whose root isn't null.
+/// Returns whether a field that is not a member, or is the active one, is a null pointer that
+/// prints as a default, whose root isn't null.
 pub(crate) fn enters_default<A: ReaderArena>(
     reader: dynamic_struct::Reader<'_, A>,
     field: Field<'_>,

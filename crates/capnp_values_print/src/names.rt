@@ -1,4 +1,4 @@
-//! Single values, and what stands in front of items.
+//! Single values, and the text before items.
 ghost use Rattle.std.specs.Prelude.{◌≡◌, ◌+◌, ◌≤◌, ◌++◌, ◌∷◌, [], OnOk, IfOk, IfErr, codes};
 ghost use Rattle.capnp_model.specs.Schemas.{plain, «enum»};
 ghost use Rattle.capnp_model.specs.Printing.{number_text, inner, closing};
@@ -18,11 +18,11 @@ use capnp_values::dynamic_value::{Enum, Reader};
 use capnp_wire_objects::arena::ReaderArena;
 use std::alloc::AllocError;
 
-/// How many structs, groups and lists may be printed in one another. Each takes stack, and this
-/// number fits into 1 MiB as LLVM builds it.
+/// The most nested structs, groups and lists that may be printed. Each takes stack, and this number
+/// fits into 1 MiB in LLVM's builds.
 const VALUES: usize = 1024;
 
-/// Appends an enumerant's name, or the value in decimal where the enum has none of it.
+/// Appends an enumerant's name, or the value in decimal if the enum has no such enumerant.
 fn push_enum(out: &mut Vec<u8>, value: Enum<'_>) -> Result<(), AllocError>
     ensures { let e = value.entry in
         OnOk result
@@ -37,7 +37,7 @@ fn push_enum(out: &mut Vec<u8>, value: Enum<'_>) -> Result<(), AllocError>
     }
 }
 
-/// Appends the text of a value that holds no others; of a struct or a list it appends nothing.
+/// Appends the text of a value that holds no others; for a struct or a list it appends nothing.
 pub(crate) fn push_single<A: ReaderArena>(
     out: &mut Vec<u8>,
     value: Reader<'_, A>,
@@ -65,8 +65,8 @@ pub(crate) fn push_single<A: ReaderArena>(
     }
 }
 
-/// The form within one more value. Within more than `VALUES` there is none, which is a want of
-/// memory.
+/// Returns the form within one more value. Within more than `VALUES` there is no form, which counts
+/// as lack of memory.
 pub(crate) fn inner(indent: Indent) -> Result<Indent, AllocError>
     ensures style { IfOk result (λ deeper. style_of deeper ≡ inner (style_of indent)) }
     ensures counts { IfOk result (λ deeper. values_around deeper ≡ values_around indent + 1) }
@@ -80,7 +80,7 @@ pub(crate) fn inner(indent: Indent) -> Result<Indent, AllocError>
     }
 }
 
-/// Appends what stands in front of an item.
+/// Appends the text before an item.
 pub(crate) fn push_mark(out: &mut Vec<u8>, indent: Indent, first: bool) -> Result<(), AllocError>
     ensures { OnOk result (out.new.items ≡ out.old.items ++ item_mark (style_of indent) first) }
 {
@@ -91,7 +91,7 @@ pub(crate) fn push_mark(out: &mut Vec<u8>, indent: Indent, first: bool) -> Resul
     }
 }
 
-/// Appends what stands in front of a field's value: the mark, the name and the equals sign.
+/// Appends the text before a field's value: the mark, the name and the equals sign.
 pub(crate) fn push_name(
     out: &mut Vec<u8>,
     indent: Indent,
@@ -107,7 +107,7 @@ pub(crate) fn push_name(
     out.extend_from_slice(b" = ")
 }
 
-/// Appends what stands behind the last item, and the closing sign.
+/// Appends the text after the last item, and the closing sign.
 pub(crate) fn push_end(out: &mut Vec<u8>, indent: Indent, sign: u8) -> Result<(), AllocError>
     ensures { OnOk result
         (out.new.items ≡ out.old.items ++ (closing (style_of indent) ++ sign ∷ [])) }

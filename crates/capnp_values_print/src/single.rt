@@ -1,6 +1,6 @@
 //! The texts of single values, appended to bytes.
 //!
-//! After a want of memory a beginning of the text may stand behind what was there.
+//! After a lack of memory, a beginning of the text may follow the earlier bytes.
 
 ghost use Rattle.std.specs.Prelude.{◌≡◌, ◌+◌, ◌++◌, ◌*◌, ◌^◌, ◌<◌, ◌≤◌, [], ◌∷◌, false, OnOk, codes, decimal, replicate};
 ghost use Rattle.std.specs.Fmt.{digits};
@@ -57,7 +57,7 @@ pub(crate) fn push_signed(out: &mut Vec<u8>, bits: u64, width: u32) -> Result<()
 
 // ---- bytes
 
-/// The sign of a number below sixteen.
+/// Returns the sign of a number below sixteen.
 fn hex_digit(number: u8) -> u8
     requires { number < 16 }
     ensures { digits 16 false number ≡ result ∷ [] }
@@ -77,7 +77,7 @@ fn push_hex_byte(out: &mut Vec<u8>, byte: u8) -> Result<(), AllocError>
     out.extend_from_slice(&signs)
 }
 
-/// Appends data: the bytes in hex, between quotes behind `0x`.
+/// Appends data: the bytes in hexadecimal digits, between quotes after `0x`.
 pub(crate) fn push_data(out: &mut Vec<u8>, bytes: &[u8]) -> Result<(), AllocError>
     ensures { OnOk result (out.new.items ≡ out.old.items ++ blob_text bytes.now) }
 {
@@ -105,7 +105,7 @@ fn push_control(out: &mut Vec<u8>, byte: u8) -> Result<(), AllocError>
     out.extend_from_slice(&signs)
 }
 
-/// Appends a character of ASCII, or a byte of another, as it stands between quotes.
+/// Appends an ASCII character, or another byte, in its form between quotes.
 fn push_escaped(out: &mut Vec<u8>, byte: u8) -> Result<(), AllocError>
     ensures { OnOk result (out.new.items ≡ out.old.items ++ escaped byte) }
 {
@@ -125,7 +125,7 @@ fn push_escaped(out: &mut Vec<u8>, byte: u8) -> Result<(), AllocError>
     }
 }
 
-/// Appends text between quotes. Characters past ASCII stand as they are.
+/// Appends text between quotes. Characters beyond ASCII are unchanged.
 fn push_quoted(out: &mut Vec<u8>, bytes: &[u8]) -> Result<(), AllocError>
     ensures { OnOk result
         (out.new.items
@@ -155,7 +155,7 @@ fn push_numbers(out: &mut Vec<u8>, bytes: &[u8]) -> Result<(), AllocError>
     Ok(())
 }
 
-/// Appends what stands for bytes that are no text.
+/// Appends the replacement of bytes that are not a text.
 fn push_invalid(out: &mut Vec<u8>, bytes: &[u8]) -> Result<(), AllocError>
     ensures { OnOk result
         (out.new.items
@@ -167,7 +167,7 @@ fn push_invalid(out: &mut Vec<u8>, bytes: &[u8]) -> Result<(), AllocError>
     Ok(())
 }
 
-/// Appends a text: between quotes, or by the numbers of its bytes where they aren't UTF-8.
+/// Appends a text: between quotes, or by the numbers of its bytes if they aren't UTF-8.
 #[tactic(auto, using(crate::proofs::TextLemmas::text_text_rules))]
 pub(crate) fn push_text(out: &mut Vec<u8>, bytes: &[u8]) -> Result<(), AllocError>
     ensures { OnOk result (out.new.items ≡ out.old.items ++ text_text as_it_is bytes.now) }
@@ -191,7 +191,8 @@ fn push_line(out: &mut Vec<u8>, levels: usize) -> Result<(), AllocError>
     Ok(())
 }
 
-/// Appends the line one level deeper. More blanks than memory can hold are a want of memory.
+/// Appends the line one level deeper. If memory can't hold the blanks, it is refused for lack of
+/// memory.
 fn push_inner_line(out: &mut Vec<u8>, levels: usize) -> Result<(), AllocError>
     ensures { OnOk result (out.new.items ≡ out.old.items ++ line_at (levels + 1)) }
 {
@@ -201,7 +202,7 @@ fn push_inner_line(out: &mut Vec<u8>, levels: usize) -> Result<(), AllocError>
     }
 }
 
-/// Appends what stands behind an opening sign.
+/// Appends the text after an opening sign.
 pub(crate) fn push_opening(out: &mut Vec<u8>, indent: Indent) -> Result<(), AllocError>
     ensures { OnOk result (out.new.items ≡ out.old.items ++ opening (style_of indent)) }
 {
@@ -211,7 +212,7 @@ pub(crate) fn push_opening(out: &mut Vec<u8>, indent: Indent) -> Result<(), Allo
     }
 }
 
-/// Appends what stands between two items.
+/// Appends the text between two items.
 pub(crate) fn push_between(out: &mut Vec<u8>, indent: Indent) -> Result<(), AllocError>
     ensures { OnOk result (out.new.items ≡ out.old.items ++ between (style_of indent)) }
 {
@@ -224,7 +225,7 @@ pub(crate) fn push_between(out: &mut Vec<u8>, indent: Indent) -> Result<(), Allo
     }
 }
 
-/// Appends what stands in front of a closing sign.
+/// Appends the text before a closing sign.
 pub(crate) fn push_closing(out: &mut Vec<u8>, indent: Indent) -> Result<(), AllocError>
     ensures { OnOk result (out.new.items ≡ out.old.items ++ closing (style_of indent)) }
 {

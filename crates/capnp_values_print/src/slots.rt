@@ -1,4 +1,4 @@
-//! Slots that are told and read straight off their records.
+//! Slots that are recognised and read directly from their records.
 ghost use Rattle.std.specs.Prelude.{◌≡◌, ◌*◌, ◌++◌, true, Some, option_map, OnOk};
 ghost use Rattle.capnp_model.specs.Schemas.{Schema, base_type, type_of};
 ghost use Rattle.capnp_model.specs.Accepted.{field_body, default_bits};
@@ -25,7 +25,7 @@ use std::alloc::AllocError;
 
 // ---- null pointers
 
-/// Whether values of a type that is no list stand behind pointers.
+/// Returns whether a type that is not a list has values that pointers lead to.
 fn is_base_pointer(base: BaseType) -> bool
     ensures { result ≡ is_pointer (base_type (base_of base)) }
 {
@@ -39,7 +39,7 @@ fn is_base_pointer(base: BaseType) -> bool
     }
 }
 
-/// Whether values of a type stand behind pointers.
+/// Returns whether a type has values that pointers lead to.
 fn is_pointer(ty: TypeRecord) -> bool
     ensures { result ≡ is_pointer (type_of (type_record_of ty)) }
 {
@@ -49,7 +49,7 @@ fn is_pointer(ty: TypeRecord) -> bool
     is_base_pointer(ty.base)
 }
 
-/// Whether a pointer of a struct is null, as it is past the last.
+/// Returns whether a pointer of a struct is null; pointers past the last are null.
 fn is_null_at<A: ReaderArena>(reader: &dynamic_struct::Reader<'_, A>, index: usize) -> bool
     ensures { result
         ≡ is_null_pointer (pointer_field (struct_seen A.segments reader.now.source) index) }
@@ -60,7 +60,7 @@ fn is_null_at<A: ReaderArena>(reader: &dynamic_struct::Reader<'_, A>, index: usi
     }
 }
 
-/// Whether a field lies behind a pointer that is null.
+/// Returns whether a field's value is that of a pointer that is null.
 pub(crate) fn is_null_field<A: ReaderArena>(
     reader: &dynamic_struct::Reader<'_, A>,
     body: &FieldBody,
@@ -79,7 +79,7 @@ pub(crate) fn is_null_field<A: ReaderArena>(
 
 // ---- numbers
 
-/// The bits of a plain default; 0 without one.
+/// Returns the bits of a plain default; 0 without a default.
 fn default_bits(default: &Option<Value>) -> u64
     ensures { result ≡ default_bits (option_map value_of default.now) }
 {
@@ -98,35 +98,35 @@ fn default_bits(default: &Option<Value>) -> u64
     }
 }
 
-/// A number of 8 bits, counted in its own width.
+/// Returns a number of 8 bits, at an offset in units of its width.
 fn number_8<A: ReaderArena>(reader: &StructReader<'_, A>, offset: usize, mask: u8) -> u8
     ensures { result ≡ masked_bits (seen_struct A.segments reader.now) (8 * offset) 8 mask }
 {
     reader.get_data_field_mask(offset, mask)
 }
 
-/// A number of 16 bits, counted in its own width.
+/// Returns a number of 16 bits, at an offset in units of its width.
 fn number_16<A: ReaderArena>(reader: &StructReader<'_, A>, offset: usize, mask: u16) -> u16
     ensures { result ≡ masked_bits (seen_struct A.segments reader.now) (16 * offset) 16 mask }
 {
     reader.get_data_field_mask(offset, mask)
 }
 
-/// A number of 32 bits, counted in its own width.
+/// Returns a number of 32 bits, at an offset in units of its width.
 fn number_32<A: ReaderArena>(reader: &StructReader<'_, A>, offset: usize, mask: u32) -> u32
     ensures { result ≡ masked_bits (seen_struct A.segments reader.now) (32 * offset) 32 mask }
 {
     reader.get_data_field_mask(offset, mask)
 }
 
-/// A number of 64 bits, counted in its own width.
+/// Returns a number of 64 bits, at an offset in units of its width.
 fn number_64<A: ReaderArena>(reader: &StructReader<'_, A>, offset: usize, mask: u64) -> u64
     ensures { result ≡ masked_bits (seen_struct A.segments reader.now) (64 * offset) 64 mask }
 {
     reader.get_data_field_mask(offset, mask)
 }
 
-/// Whether values of a type are numbers, and a default has their width.
+/// Returns whether values of a type are numbers, and a default has their width.
 fn is_number(base: BaseType, default: u64) -> bool
     ensures { result ≡ true → IsNumberWithin (base_type (base_of base)) default }
 {
@@ -139,7 +139,7 @@ fn is_number(base: BaseType, default: u64) -> bool
     }
 }
 
-/// Appends a number of a struct, exclusive or its default.
+/// Appends a number of a struct, exclusive-or'ed with its default.
 fn push_number<A: ReaderArena>(
     out: &mut Vec<u8>,
     reader: &StructReader<'_, A>,
@@ -169,7 +169,7 @@ fn push_number<A: ReaderArena>(
 
 // ---- slots
 
-/// The text behind a pointer of a struct, without a budget; null is the empty one.
+/// Returns the text that a pointer of a struct leads to, without a budget; null is the empty text.
 #[tactic(auto, using(capnp_values::proofs::lemmas::Unlimited::answers_reading))]
 fn text_at<'a, A: ReaderArena>(reader: &StructReader<'a, A>, index: usize) -> Result<&'a [u8]>
     ensures { seen (λ r. r.now) result
@@ -181,7 +181,7 @@ fn text_at<'a, A: ReaderArena>(reader: &StructReader<'a, A>, index: usize) -> Re
         .get_text(&mut unlimited, None)
 }
 
-/// Appends a slot of a type that is no list, if it is a number, or a text without a default.
+/// Appends a slot of a type that is not a list, if it is a number, or a text without a default.
 fn push_base<A: ReaderArena>(
     out: &mut Vec<u8>,
     reader: &StructReader<'_, A>,
@@ -206,8 +206,8 @@ fn push_base<A: ReaderArena>(
     Ok(false)
 }
 
-/// Appends the text of a message's field that is a number, or a text without a default. Of another
-/// nothing is appended, and false is returned.
+/// Appends the text of a message's field that is a number, or a text without a default. For another
+/// field it appends nothing, and returns false.
 // Inlined, what it takes of the stack would be taken by each struct that is printed in another.
 #[inline(never)]
 pub(crate) fn push_slot<A: ReaderArena>(

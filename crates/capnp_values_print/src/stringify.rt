@@ -20,11 +20,11 @@ use capnp_wire_objects::arena::ReaderArena;
 use std::alloc::Global;
 use std::fmt;
 
-/// How many defaults of null pointers may be entered on one path down a value: one that holds its
-/// own null pointer would else print without end.
+/// The most defaults of null pointers that may be entered on one path down a value: a default that
+/// holds its own null pointer would otherwise print without end.
 const DEFAULTS: u32 = 64;
 
-/// The form of a whole value.
+/// Returns the form of a whole value.
 fn form(alternate: bool) -> Indent
     ensures { style_of result ≡ style_named alternate }
 {
@@ -35,7 +35,8 @@ fn form(alternate: bool) -> Indent
     }
 }
 
-/// Puts a text behind what stands there. Where nothing does, it is taken as it is and not copied.
+/// Appends a text to earlier bytes. If there are no earlier bytes, the text is moved and not
+/// copied.
 fn append(out: &mut Vec<u8>, text: Vec<u8>) -> Result<()>
     ensures { Joins out.old.items text.items result out.new.items }
 {
@@ -51,22 +52,25 @@ fn append(out: &mut Vec<u8>, text: Vec<u8>) -> Result<()>
 /// Appends the text of a value: on one line, or in the alternate form, which gives each item a
 /// line, with two blanks for each level.
 ///
-/// A number is in decimal, Void `()`, an enum the enumerant's name or its value where there is
-/// none, data its bytes in hex between `0x"` and `"`. A text is between quotes with `"`, `\` and
-/// ASCII control characters escaped, or, where its bytes aren't UTF-8, `<invalid utf-8: [104,
-/// 255]>`; characters past ASCII stand as they are. A list is `[a, b]`. A struct is `(name = value,
-/// ..)` with the fields that `has` tells of, in the order of their indices, and with the active
-/// union member. That is left out only where it is the first and null; a null one prints as its
-/// default, else as the empty value. An untyped pointer is `<opaque pointer>`, a capability
-/// `<external capability>`.
+/// - A number is in decimal, Void is `()`.
+/// - An enum is the enumerant's name, or its value if there is no such enumerant.
+/// - Data are their bytes in hexadecimal digits between `0x"` and `"`.
+/// - A text is between quotes with `"`, `\` and ASCII control characters escaped. If its bytes
+///   aren't UTF-8, it is `<invalid utf-8: [104, 255]>`. Characters beyond ASCII are unchanged.
+/// - A list is `[a, b]`.
+/// - A struct is `(name = value, ..)` with the fields for which `has` returns true, in the order of
+///   their indices, and with the active union member. The active member is only left out if it is
+///   the first member and null; another null member prints as its default, otherwise as the empty
+///   value.
+/// - An untyped pointer is `<opaque pointer>`, a capability `<external capability>`.
 ///
 /// It is refused, and nothing is appended,
-/// - by the kind of the first fault on the way, as `get` of fields and elements is;
-/// - with `NestingLimitExceeded` also where more than 64 defaults would be entered in one another;
-/// - with `OutOfMemory` where a growth is refused;
-/// - with `OutOfMemory` where more than 1,024 structs, groups and lists would be printed in one
-///   another, an empty list and a struct without fields apart. Each of these takes stack, and 1,024
-///   fit into 1 MiB.
+/// - with the kind of the first fault on the way, like `get` of fields and elements;
+/// - with `NestingLimitExceeded` also if more than 64 nested defaults would be entered;
+/// - with `OutOfMemory` if an allocation is refused;
+/// - with `OutOfMemory` if more than 1,024 nested structs, groups and lists would be printed,
+///   without counting an empty list or a struct without fields. Each of these takes stack, and
+///   1,024 fit into 1 MiB.
 pub fn print<A: ReaderArena>(
     value: dynamic_value::Reader<'_, A>,
     alternate: bool,
@@ -82,11 +86,11 @@ pub fn print<A: ReaderArena>(
 }
 
 /// Appends the text of one field of a struct, as a `get` of the field shows it. A group or a value
-/// is written as `print` writes it. A null pointer is written as its default, which is the first of
-/// the 64 that may be entered in one another, else as the empty value.
+/// is written like in `print`. A null pointer is written as its default, which is the first of the
+/// 64 nested defaults that may be entered, otherwise as the empty value.
 ///
-/// A union member that isn't the active one is refused with `InactiveMember`. Else it is refused as
-/// `print` is, also by the fault at the field's own pointer. Then nothing is appended.
+/// A union member that isn't the active one is refused with `InactiveMember`. Otherwise it is
+/// refused like `print`, also with the fault at the field's own pointer. Then nothing is appended.
 pub fn print_field<A: ReaderArena>(
     reader: dynamic_struct::Reader<'_, A>,
     field: Field<'_>,
@@ -109,11 +113,10 @@ pub fn print_field<A: ReaderArena>(
     append(out, text)
 }
 
-/// A value that `{}` and `{:?}` print as `print` does, and `{:#}` and `{:#?}` in the alternate
-/// form.
+/// A value that `{}` and `{:?}` print like `print`, and `{:#}` and `{:#?}` in the alternate form.
 ///
-/// A formatter hands out no memory, so the text takes it from the allocator that is given. Where
-/// `print` is refused nothing is written, and formatting is refused.
+/// A formatter hands out no memory, so the text takes it from the allocator that is given. If
+/// `print` is refused, nothing is written, and formatting is refused.
 #[derive_where(Clone, Copy)]
 pub struct Printed<'a, A> {
     alloc: Global,
@@ -124,14 +127,14 @@ impl<'a, A: ReaderArena> Printed<'a, A> {
     ghost use Rattle.std.specs.Prelude.{◌≡◌};
     ghost use Rattle.std.specs.Fmt.{DisplaysOnOk};
 
-    /// A value to print, and where its text takes memory.
+    /// Makes a value to print, with the allocator from which its text takes memory.
     pub fn new(alloc: Global, value: dynamic_value::Reader<'a, A>) -> Self
         ensures { result.value ≡ value.entry }
     {
         Printed { alloc, value }
     }
 
-    /// Writes the text of the value in the form that is asked for.
+    /// Writes the text of the value in the requested form.
     fn write_text<W: fmt::Write>(&self, f: &mut fmt::Formatter<W>) -> fmt::Result
         ensures { DisplaysOnOk W.write_str_gives f.old result
             (model_text on_one_line (shown A.segments self.now.value)) f.new }

@@ -70,7 +70,7 @@ fn push_struct<A: ReaderArena>(
     Ok(())
 }
 
-/// Appends the fields of a struct that are printed, each behind its mark and its name.
+/// Appends the fields of a struct that are printed, each after its mark and its name.
 #[cycle(text)]
 fn push_fields<A: ReaderArena>(
     reader: dynamic_struct::Reader<'_, A>,
@@ -99,8 +99,9 @@ fn push_fields<A: ReaderArena>(
     Ok(())
 }
 
-/// Appends the text of the value of a field that is no union member, or the active one; n defaults
-/// may be entered. A null pointer is its default, which is entered, else the empty value.
+/// Appends the text of the value of a field that is not a union member, or is the active one; n
+/// defaults may be entered. A null pointer is its default, which is entered, otherwise the empty
+/// value.
 // Inlined, since a frame of its own would be taken of the stack by each struct in another.
 #[inline(always)]
 #[cycle(text)]
@@ -149,7 +150,7 @@ fn push_list<A: ReaderArena>(
     Ok(())
 }
 
-/// Appends the elements of a list, each behind its mark.
+/// Appends the elements of a list, each after its mark.
 #[cycle(text)]
 fn push_elements<A: ReaderArena>(
     list: dynamic_list::Reader<'_, A>,

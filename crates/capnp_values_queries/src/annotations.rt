@@ -27,21 +27,21 @@ impl<'a> Annotation<'a> {
     ghost use Rattle.capnp_records.specs.Sets.{nodes_of};
     ghost use Rattle.capnp_values_queries.specs.Types.{ty_of, is_type_of};
 
-    /// The set that the annotation is of.
+    /// Returns the set of the annotation.
     pub fn set(&self) -> &'a SchemaSet
         ensures { result ≡ self.now.set }
     {
         self.set
     }
 
-    /// The id of the annotation's declaration.
+    /// Returns the id of the annotation's declaration.
     pub fn get_id(&self) -> u64
         ensures { result ≡ (annotation_of self.now.proto.now).id }
     {
         self.proto.id
     }
 
-    /// The type of the annotation's value.
+    /// Returns the type of the annotation's value.
     pub fn get_type(&self) -> Type
         ensures ty { ty_of result ≡ type_of (annotation_of self.now.proto.now).type }
         ensures of_set { is_type_of (nodes_of self.now.set.now) result ≡ true }
@@ -49,7 +49,7 @@ impl<'a> Annotation<'a> {
         type_in(self.set, self.proto.ty)
     }
 
-    /// The value as the node says it.
+    /// Returns the value as it is in the node.
     pub fn get_value(&self) -> &'a Value
         ensures { result.now ≡ self.now.proto.now.value }
     {
@@ -83,21 +83,21 @@ impl<'a> AnnotationList<'a> {
         AnnotationList { set, annotations }
     }
 
-    /// How many annotations there are, below 2^29.
+    /// Returns the number of annotations, below 2^29.
     pub fn len(&self) -> u32
         ensures { result ≡ length self.now.annotations.now }
     {
         self.annotations.len() as u32
     }
 
-    /// Whether there is no annotation.
+    /// Returns whether there is no annotation.
     pub fn is_empty(&self) -> bool
         ensures { result ≡ (length self.now.annotations.now == 0) }
     {
         self.len() == 0
     }
 
-    /// The annotation at an index, which is below the length.
+    /// Returns the annotation at an index, which is below the length.
     pub fn get(self, index: u32) -> Annotation<'a>
         requires { index < length self.annotations.now }
         ensures set { result.set ≡ self.entry.set }
@@ -110,7 +110,7 @@ impl<'a> AnnotationList<'a> {
         }
     }
 
-    /// The first annotation of an id.
+    /// Returns the first annotation of an id.
     pub fn find(self, id: u64) -> Option<Annotation<'a>>
         ensures annotation { option_map annotation_seen result
             ≡ find (λ a. a.id == id) self.entry.annotations.now }
@@ -125,7 +125,7 @@ impl<'a> AnnotationList<'a> {
         None
     }
 
-    /// The annotations in order, from both ends.
+    /// Returns the annotations in order, from both ends.
     pub fn iter(self) -> ListIter<AnnotationList<'a>, Annotation<'a>>
         ensures { items_left annotated_at result
             ≡ items_from (annotated_at self.entry) 0 (length self.entry.annotations.now) }

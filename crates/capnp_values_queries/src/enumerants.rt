@@ -14,7 +14,8 @@ use capnp_units::errors::Result;
 use capnp_units::iter::{IndexMove, ShortListIter};
 use std::hash::{Hash, Hasher};
 
-/// An enumerant of an enum. Two are equal where their enums' ids and their ordinals are.
+/// An enumerant of an enum. Two enumerants are equal if their enums' ids and their ordinals are
+/// equal.
 #[derive(Clone, Copy, Debug)]
 pub struct Enumerant<'a> {
     parent: EnumSchema<'a>,
@@ -36,28 +37,28 @@ impl<'a> Enumerant<'a> {
         Enumerant { parent, ordinal }
     }
 
-    /// The enum whose enumerant it is.
+    /// Returns the enum of the enumerant.
     pub fn get_containing_enum(self) -> EnumSchema<'a>
         ensures { result ≡ self.entry.parent }
     {
         self.parent
     }
 
-    /// The value, which is the place among the enumerants from 0 on.
+    /// Returns the value, which is the place among the enumerants from 0 on.
     pub fn get_ordinal(self) -> u16
         ensures { result ≡ self.entry.ordinal }
     {
         self.ordinal
     }
 
-    /// What the enum's node says of the enumerant.
+    /// Returns the description of the enumerant in the enum's node.
     pub fn get_proto(self) -> &'a EnumerantRecord
         ensures { IsEnumerantRecord self.entry.parent self.entry.ordinal (enumerant_of result.now) }
     {
         &self.parent.records()[self.ordinal as usize]
     }
 
-    /// The annotations of the enumerant.
+    /// Returns the annotations of the enumerant.
     pub fn get_annotations(self) -> Result<AnnotationList<'a>>
         ensures { let e = self.entry.parent in
             IsOkAnd result
@@ -113,21 +114,21 @@ impl<'a> EnumerantList<'a> {
         EnumerantList { parent }
     }
 
-    /// How many enumerants there are, 0 to 65,535.
+    /// Returns the number of enumerants, 0 to 65,535.
     pub fn len(&self) -> u16
         ensures { result ≡ enumerant_count self.now.parent }
     {
         self.parent.records().len() as u16
     }
 
-    /// Whether there is no enumerant.
+    /// Returns whether there is no enumerant.
     pub fn is_empty(&self) -> bool
         ensures { result ≡ (enumerant_count self.now.parent == 0) }
     {
         self.len() == 0
     }
 
-    /// The enumerant of an ordinal, which is below the length.
+    /// Returns the enumerant of an ordinal, which is below the length.
     pub fn get(self, ordinal: u16) -> Enumerant<'a>
         requires { ordinal < enumerant_count self.parent }
         ensures parent { result.parent ≡ self.entry.parent }
@@ -136,7 +137,7 @@ impl<'a> EnumerantList<'a> {
         Enumerant::new(self.parent, ordinal)
     }
 
-    /// The enumerants in order, from both ends.
+    /// Returns the enumerants in order, from both ends.
     pub fn iter(self) -> ShortListIter<EnumerantList<'a>, Enumerant<'a>>
         ensures { items_left enumerated_at result
             ≡ items_from (enumerated_at self.entry) 0 (enumerant_count self.entry.parent) }

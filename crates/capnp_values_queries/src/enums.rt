@@ -15,7 +15,7 @@ use capnp_records::set::SchemaSet;
 use capnp_units::errors::Result;
 use std::hash::{Hash, Hasher};
 
-/// The schema of an enum of a set. Two are equal where their ids are.
+/// The schema of an enum of a set. Two schemas are equal if their ids are equal.
 #[derive(Clone, Copy, Debug)]
 pub struct EnumSchema<'a> {
     set: &'a SchemaSet,
@@ -32,7 +32,7 @@ impl<'a> EnumSchema<'a> {
     ghost use Rattle.capnp_values_queries.specs.Enums.{nodes_of_enum, enum_id, AreEnumerantsOf};
     ghost use Rattle.capnp_values_queries.specs.Annotations.{AreAnnotations};
 
-    /// The schema of an enum of the set.
+    /// Makes the schema of an enum of the set.
     pub fn new(set: &'a SchemaSet, raw: RawEnumSchema) -> EnumSchema<'a>
         requires { IsEnumOf (nodes_of set.now) raw }
         ensures nodes { nodes_of_enum result ≡ nodes_of set.now }
@@ -41,21 +41,21 @@ impl<'a> EnumSchema<'a> {
         EnumSchema { set, raw }
     }
 
-    /// The set that the enum is of.
+    /// Returns the set of the enum.
     pub fn set(&self) -> &'a SchemaSet
         ensures { nodes_of result.now ≡ nodes_of_enum self.now }
     {
         self.set
     }
 
-    /// The raw schema of the enum.
+    /// Returns the raw schema of the enum.
     pub fn raw(&self) -> RawEnumSchema
         ensures { result ≡ self.now.raw }
     {
         self.raw
     }
 
-    /// The enum's node.
+    /// Returns the enum's node.
     pub fn get_proto(self) -> &'a NodeRecord
         ensures { find_node (nodes_of_enum self.entry) (enum_id self.entry)
             ≡ Some (node_of result.now) }
@@ -70,14 +70,14 @@ impl<'a> EnumSchema<'a> {
         self.set.enumerants(self.raw)
     }
 
-    /// The enumerants, by ordinal.
+    /// Returns the enumerants, by ordinal.
     pub fn get_enumerants(self) -> Result<EnumerantList<'a>>
         ensures { IsOkAnd result (λ list. list.parent ≡ self.entry) }
     {
         Ok(EnumerantList::new(self))
     }
 
-    /// The annotations of the enum.
+    /// Returns the annotations of the enum.
     pub fn get_annotations(self) -> Result<AnnotationList<'a>>
         ensures { let e = self.entry in
             IsOkAnd result

@@ -18,7 +18,8 @@ use capnp_units::errors::Result;
 use capnp_units::iter::{IndexMove, ShortListIter};
 use std::hash::{Hash, Hasher};
 
-/// A field of a struct or a group. Two are equal where their structs' ids and their indices are.
+/// A field of a struct or a group. Two fields are equal if their structs' ids and their indices are
+/// equal.
 #[derive(Clone, Copy, Debug)]
 pub struct Field<'a> {
     parent: StructSchema<'a>,
@@ -43,28 +44,28 @@ impl<'a> Field<'a> {
         Field { parent, index }
     }
 
-    /// The struct or the group whose field it is.
+    /// Returns the struct or the group of the field.
     pub fn parent(&self) -> StructSchema<'a>
         ensures { result ≡ self.now.parent }
     {
         self.parent
     }
 
-    /// The place among the struct's fields, from 0 on.
+    /// Returns the place among the struct's fields, from 0 on.
     pub fn get_index(&self) -> u16
         ensures { result ≡ self.now.index }
     {
         self.index
     }
 
-    /// What the struct's node says of the field.
+    /// Returns the description of the field in the struct's node.
     pub fn get_proto(&self) -> &'a FieldRecord
         ensures { IsFieldRecord self.now.parent self.now.index (field_of result.now) }
     {
         &self.parent.record().fields[self.index as usize]
     }
 
-    /// The field's type. A group's is the struct of its node.
+    /// Returns the field's type. The type of a group is the struct of its node.
     pub fn get_type(&self) -> Type
         ensures ty { option_map (λ e. type_of_body e.body) (entry_of_field self.now)
             ≡ Some (ty_of result) }
@@ -77,7 +78,7 @@ impl<'a> Field<'a> {
         }
     }
 
-    /// The annotations of the field.
+    /// Returns the annotations of the field.
     pub fn get_annotations(self) -> Result<AnnotationList<'a>>
         ensures { let s = self.entry.parent in
             IsOkAnd result
@@ -87,7 +88,7 @@ impl<'a> Field<'a> {
         Ok(AnnotationList::new(set, &self.get_proto().annotations))
     }
 
-    /// Where the field lies in its struct, with its default, or the group that it is.
+    /// Returns the place of the field in its struct, with its default, or the field's group.
     pub fn place(&self) -> FieldPlace<'a>
         ensures body { option_map (λ e. e.body) (entry_of_field self.now) ≡ Some
             (body_of_place result) }
@@ -152,21 +153,21 @@ impl<'a> FieldList<'a> {
         FieldList { parent }
     }
 
-    /// How many fields there are, 0 to 65,535.
+    /// Returns the number of fields, 0 to 65,535.
     pub fn len(&self) -> u16
         ensures { result ≡ field_count (fields_of_struct self.now.parent) }
     {
         self.parent.record().fields.len() as u16
     }
 
-    /// Whether there is no field.
+    /// Returns whether there is no field.
     pub fn is_empty(&self) -> bool
         ensures { result ≡ (field_count (fields_of_struct self.now.parent) == 0) }
     {
         self.len() == 0
     }
 
-    /// The field at an index, which is below the length.
+    /// Returns the field at an index, which is below the length.
     pub fn get(self, index: u16) -> Field<'a>
         requires { index < field_count (fields_of_struct self.parent) }
         ensures parent { result.parent ≡ self.entry.parent }
@@ -175,7 +176,7 @@ impl<'a> FieldList<'a> {
         Field::new(self.parent, index)
     }
 
-    /// The fields in order, from both ends.
+    /// Returns the fields in order, from both ends.
     pub fn iter(self) -> ShortListIter<FieldList<'a>, Field<'a>>
         ensures { items_left listed_at result
             ≡ items_from (listed_at self.entry) 0

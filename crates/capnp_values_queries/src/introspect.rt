@@ -12,7 +12,7 @@ use capnp_records::set::SchemaSet;
 use capnp_text::{data, text};
 use capnp_units::sizes::ElementSize;
 
-/// A type that is no list.
+/// A type that is not a list.
 #[derive(Clone, Copy, Debug, PartialEq, Eq, Hash)]
 pub(crate) enum Base {
     Void,
@@ -33,7 +33,7 @@ pub(crate) enum Base {
     Enum(RawEnumSchema),
 }
 
-/// A type. Two are equal where they are the same, structs and enums by their nodes' ids.
+/// A type. Two types are equal if they are the same; structs and enums compare by their nodes' ids.
 #[derive(Clone, Copy, Debug, PartialEq, Eq, Hash)]
 pub struct Type {
     base: Base,
@@ -70,14 +70,14 @@ impl Type {
         Type { base, list_count }
     }
 
-    /// How many times the type is a list.
+    /// Returns how many times the type is a list.
     pub fn list_count(&self) -> u32
         ensures { result ≡ self.now.list_count }
     {
         self.list_count
     }
 
-    /// Lists of a type, which is at most 2^32 - 2 times a list itself.
+    /// Returns the list of a type, which is at most 2^32 - 2 times a list itself.
     pub fn list_of(element_type: Type) -> Type
         requires { element_type.list_count < 2 ^ 32 - 1 }
         ensures ty { ty_of result ≡ list (ty_of element_type) }
@@ -90,7 +90,7 @@ impl Type {
         }
     }
 
-    /// What the type is: a list of a type, or a type that is no list.
+    /// Returns the variant of the type: a list of a type, or a type that is not a list.
     pub fn which(&self) -> TypeVariant
         ensures ty { ty_of_variant result ≡ ty_of self.now }
         ensures variant { type_of_variant result ≡ self.now }
@@ -121,7 +121,7 @@ impl Type {
         }
     }
 
-    /// The size of the elements of lists of the type.
+    /// Returns the size of the elements of lists of the type.
     pub fn expected_element_size(&self) -> ElementSize
         ensures { size_number result ≡ expected_size (ty_of self.now) }
     {
@@ -140,7 +140,7 @@ impl Type {
         }
     }
 
-    /// Whether values of the type stand behind a pointer.
+    /// Returns whether pointers lead to values of the type.
     pub fn is_pointer_type(&self) -> bool
         ensures { result ≡ is_pointer (ty_of self.now) }
     {
@@ -151,7 +151,7 @@ impl Type {
             )
     }
 
-    /// Whether the types are the same, structs and enums by their nodes' ids.
+    /// Returns whether the types are the same; structs and enums compare by their nodes' ids.
     pub fn loose_equals(&self, other: Type) -> bool
         ensures { result ≡ ⟦<Type as PartialEq>⟧.eq self.now other }
     {
@@ -206,12 +206,12 @@ impl OfSet for Type {
     }
 }
 
-/// A type of values that stand in messages.
+/// A type of values in messages.
 pub trait Introspect {
     /// The type that schemas name.
     ghost ty: { Ty };
 
-    /// The type that schemas name.
+    /// Returns the type that schemas name.
     fn introspect() -> Type
         ensures { ty_of result ≡ ty };
 }

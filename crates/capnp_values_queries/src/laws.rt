@@ -5,8 +5,8 @@ ghost use Rattle.capnp_model.specs.Schemas.{Node};
 ghost use Rattle.capnp_records.specs.Sets.{IsStructOf, IsNodeOf};
 ghost use Rattle.capnp_records.specs.declared.raw.RawBrandedStructSchema.{RawBrandedStructSchema};
 
-/// The raw schema of a struct, as a set finds it by its id, is one of a struct or a group, as a
-/// schema is made of.
+/// The raw schema of a struct, as a set finds it by its id, is that of a struct or a group, from
+/// which a schema is made.
 pub fn struct_is_node()
     ensures { (nodes : List Node) (raw : RawBrandedStructSchema) → IsStructOf nodes raw
         → IsNodeOf nodes raw }

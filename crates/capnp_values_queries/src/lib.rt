@@ -1,4 +1,4 @@
-//! What a schema set says: types, structs with their fields, enums with their enumerants, and
+//! The contents of a schema set: types, structs with their fields, enums with their enumerants, and
 //! annotations.
 #![tactic(auto)]
 

@@ -1,4 +1,4 @@
-//! What ids in node records name.
+//! The nodes and types that ids in node records name.
 
 ghost use Rattle.std.specs.Prelude.{◌≡◌, true};
 ghost use Rattle.capnp_model.specs.Schemas.{BaseType as ModelBase, base_type, type_of};
@@ -23,7 +23,7 @@ fn struct_in(set: &SchemaSet, id: u64) -> RawBrandedStructSchema
     raw
 }
 
-/// The group of a field.
+/// Returns the group of a field.
 pub(crate) fn group_in(set: &SchemaSet, id: u64) -> RawBrandedStructSchema
     requires { names_a is_group_node (nodes_of set.now) id ≡ true }
     ensures id { result.id ≡ id }
@@ -46,7 +46,7 @@ fn enum_in(set: &SchemaSet, id: u64) -> RawEnumSchema
     raw
 }
 
-/// The base of a type. A float, which no accepted schema names, counts as Void.
+/// Returns the base of a type. A float, which accepted schemas never name, counts as Void.
 fn base_in(set: &SchemaSet, base: BaseType) -> Base
     requires { names_its_sort (nodes_of set.now) (base_of base) ≡ true }
     ensures ty { ty_of_base result ≡ base_type (base_of base) }
@@ -72,7 +72,7 @@ fn base_in(set: &SchemaSet, base: BaseType) -> Base
     }
 }
 
-/// The type that a record of the set names.
+/// Returns the type that a record of the set names.
 pub(crate) fn type_in(set: &SchemaSet, ty: TypeRecord) -> Type
     requires { names_its_sort (nodes_of set.now) (base_of ty.base) ≡ true }
     ensures ty { ty_of result ≡ type_of (type_record_of ty) }

@@ -1,4 +1,4 @@
-//! Fields found by their names, with the comparisons counted.
+//! Search of fields by their names, with the comparisons counted.
 
 ghost use Rattle.std.specs.Prelude.{◌≡◌, ◌<◌, ◌≤◌, ◌^◌, ℕ, true, map, length};
 ghost use Rattle.capnp_model.specs.Accepted.{are_distinct};
@@ -20,14 +20,14 @@ impl NameCount {
     ghost use Rattle.std.specs.Ordering.{nat_cmp};
     ghost use Rattle.std.specs.Cmp.Lexicographic.{slice_cmp};
 
-    /// A count of no comparison.
+    /// Makes a count of no comparison.
     pub fn new() -> NameCount
         ensures { result.count ≡ 0 }
     {
         NameCount { count: 0 }
     }
 
-    /// How two names compare, by their bytes. The count is one more, and stops at 2^32 - 1.
+    /// Compares two names by their bytes. The count increases by one, and stops at 2^32 - 1.
     pub fn compare(&mut self, a: &str, b: &str) -> Ordering
         ensures ordering { result ≡ slice_cmp nat_cmp a.now b.now }
         ensures count { self.new.count ≡ min (self.old.count + 1) 4294967295 }
@@ -36,7 +36,7 @@ impl NameCount {
         a.cmp(b)
     }
 
-    /// How many comparisons there were.
+    /// Returns the number of comparisons.
     pub fn count(&self) -> u32
         ensures { result ≡ self.now.count }
     {
@@ -44,7 +44,7 @@ impl NameCount {
     }
 }
 
-/// The place of the field of a name, and how many names were compared.
+/// Returns the place of the field of a name, and the number of names that were compared.
 pub fn place_of(fields: &[FieldRecord], by_name: &[u16], name: &str) -> (Option<u16>, u32)
     requires by_name { AreByName (map field_of fields.now) by_name.now }
     requires distinct { are_distinct (map (λ f. f.name) (map field_of fields.now)) ≡ true }

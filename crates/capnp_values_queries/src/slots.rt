@@ -1,4 +1,4 @@
-//! Where fields lie in their structs.
+//! Places of fields in their structs.
 
 ghost use Rattle.std.specs.Prelude.{◌≡◌, ◌^◌, ◌<◌, true, option_map, option_copied};
 ghost use Rattle.capnp_model.specs.Schemas.{plain, type_of, width};
@@ -14,7 +14,7 @@ use capnp_records::node::{TypeRecord, Value};
 use capnp_records::raw::RawEnumSchema;
 use capnp_records::set::SchemaSet;
 
-/// The type of a plain value, which lies in the data section.
+/// The type of a plain value, which is in the data section.
 #[derive(Clone, Copy, Debug, PartialEq, Eq, Hash)]
 pub enum PlainType {
     Bool,
@@ -29,23 +29,23 @@ pub enum PlainType {
     Enum(RawEnumSchema),
 }
 
-/// Where a field lies in its struct.
+/// The place of a field in its struct.
 #[derive(Clone, Copy, Debug)]
 pub enum FieldPlace<'a> {
     /// Nowhere.
     Void {
-        /// The offset that the node says, which is of no use.
+        /// The offset in the node, which has no effect.
         offset: u32,
     },
     /// In the data section.
     Plain {
         ty: PlainType,
-        /// The place in the section, counted in values of the type.
+        /// The place in the section, in units of the type's width.
         offset: u32,
-        /// The default's bits, with which the stored bits are exclusive or.
+        /// The default's bits, which are exclusive-or'ed with the stored bits.
         default_bits: u64,
     },
-    /// Behind a pointer.
+    /// The value of a pointer.
     Pointer {
         /// The place in the pointer section.
         index: u32,
@@ -58,7 +58,7 @@ pub enum FieldPlace<'a> {
     },
 }
 
-/// The bits of a plain type's values.
+/// Returns the number of bits of a plain type's values.
 pub fn width_of(ty: PlainType) -> u32
     ensures { result ≡ width (plain_of ty) }
 {
@@ -71,7 +71,7 @@ pub fn width_of(ty: PlainType) -> u32
     }
 }
 
-/// The bits of a plain default.
+/// Returns the bits of a plain default.
 fn default_bits(default: Option<&Value>) -> u64
     ensures { result ≡ default_bits (option_map value_of (option_copied default.entry)) }
 {
@@ -90,7 +90,7 @@ fn default_bits(default: Option<&Value>) -> u64
     }
 }
 
-/// A slot of a node of the set.
+/// Returns the place of a slot of a node of the set.
 pub(crate) fn slot_place<'a>(
     set: &SchemaSet,
     offset: u32,

@@ -19,7 +19,7 @@ use capnp_units::errors::{Error, Result};
 use capnp_units::kinds::ErrorKind;
 use std::hash::{Hash, Hasher};
 
-/// The schema of a struct or a group of a set. Two are equal where their ids are.
+/// The schema of a struct or a group of a set. Two schemas are equal if their ids are equal.
 #[derive(Clone, Copy, Debug)]
 pub struct StructSchema<'a> {
     set: &'a SchemaSet,
@@ -38,7 +38,7 @@ impl<'a> StructSchema<'a> {
     ghost use Rattle.capnp_values_queries.specs.Annotations.{AreAnnotations};
     ghost use Rattle.capnp_values_queries.specs.Handles.{IsFieldAt, AreUnionMembers, AreOthers};
 
-    /// The schema of a struct or a group of the set.
+    /// Makes the schema of a struct or a group of the set.
     pub fn new(set: &'a SchemaSet, raw: RawBrandedStructSchema) -> StructSchema<'a>
         requires { IsNodeOf (nodes_of set.now) raw }
         ensures nodes { nodes_around result ≡ nodes_of set.now }
@@ -47,35 +47,35 @@ impl<'a> StructSchema<'a> {
         StructSchema { set, raw }
     }
 
-    /// The set that the struct is of.
+    /// Returns the set of the struct.
     pub fn set(&self) -> &'a SchemaSet
         ensures { nodes_of result.now ≡ nodes_around self.now }
     {
         self.set
     }
 
-    /// The raw schema of the struct.
+    /// Returns the raw schema of the struct.
     pub fn raw(&self) -> RawBrandedStructSchema
         ensures { result ≡ self.now.raw }
     {
         self.raw
     }
 
-    /// The struct's node.
+    /// Returns the struct's node.
     pub fn get_proto(&self) -> &'a NodeRecord
         ensures { find_node (nodes_around self.now) (id_of self.now) ≡ Some (node_of result.now) }
     {
         self.set.struct_node(self.raw)
     }
 
-    /// What the node says of the struct: its sizes, its union and its fields.
+    /// Returns the description of the struct in the node: its sizes, its union and its fields.
     pub fn record(&self) -> &'a StructRecord
         ensures { IsRecordOf (nodes_around self.now) (id_of self.now) (struct_of result.now) }
     {
         self.set.struct_record(self.raw)
     }
 
-    /// The place of the discriminant, counted in 16 bits, if the struct has a union.
+    /// Returns the place of the discriminant, in units of 16 bits, if the struct has a union.
     pub fn discriminant_offset(&self) -> Option<u32>
         ensures { option_map (λ offset. 16 * offset) result ≡ union_in (shape_of_struct self.now) }
     {
@@ -87,7 +87,7 @@ impl<'a> StructSchema<'a> {
         }
     }
 
-    /// The fields, by index.
+    /// Returns the fields, by index.
     pub fn get_fields(self) -> Result<FieldList<'a>>
         ensures { IsOkAnd result (λ list. list.parent ≡ self.entry) }
     {
@@ -100,7 +100,7 @@ impl<'a> StructSchema<'a> {
         self.set.field_tables(self.raw)
     }
 
-    /// The field that is the union's member of a discriminant.
+    /// Returns the field that is the union's member of a discriminant.
     pub fn get_field_by_discriminant(self, discriminant: u16) -> Result<Option<Field<'a>>>
         ensures { IsOkAnd result (λ found.
             IsFieldAt self.entry (index_of_member self.entry discriminant) found) }
@@ -113,7 +113,7 @@ impl<'a> StructSchema<'a> {
         Ok(Some(Field::new(self, index)))
     }
 
-    /// The union's members, by discriminant. Without a union there are none.
+    /// Returns the union's members, by discriminant. A struct without a union has no members.
     pub fn get_union_fields(self) -> Result<FieldSubset<'a>>
         ensures { IsOkAnd result (λ subset. AreUnionMembers self.entry subset) }
     {
@@ -121,7 +121,7 @@ impl<'a> StructSchema<'a> {
         Ok(FieldSubset::new(self, members))
     }
 
-    /// The fields that are no members, by index.
+    /// Returns the fields that are not members, by index.
     pub fn get_non_union_fields(self) -> Result<FieldSubset<'a>>
         ensures { IsOkAnd result (λ subset. AreOthers self.entry subset) }
     {
@@ -129,8 +129,8 @@ impl<'a> StructSchema<'a> {
         Ok(FieldSubset::new(self, others))
     }
 
-    /// The field of a name, and how many names were compared: at most as many as the number of
-    /// fields has binary digits. At least one is where there are fields.
+    /// Returns the field of a name, and the number of names that were compared: at most the number
+    /// of binary digits of the number of fields, and at least one if there are fields.
     pub fn find_field_by_name_counted(&self, name: &str) -> (Option<Field<'a>>, u32)
         ensures found { IsFieldAt self.now (index_named self.now name.now) result.0 }
         ensures few { (digits : ℕ) → field_count (fields_of_struct self.now) < 2 ^ digits
@@ -145,7 +145,7 @@ impl<'a> StructSchema<'a> {
         }
     }
 
-    /// The field of a name.
+    /// Returns the field of a name.
     pub fn find_field_by_name(&self, name: &str) -> Result<Option<Field<'a>>>
         ensures { IsOkAnd result
             (λ found. IsFieldAt self.now (index_named self.now name.now) found) }
@@ -153,7 +153,7 @@ impl<'a> StructSchema<'a> {
         Ok(self.find_field_by_name_counted(name).0)
     }
 
-    /// The field of a name. A name that the struct lacks is refused by `FieldNotFound`.
+    /// Returns the field of a name. A name that the struct lacks is refused with `FieldNotFound`.
     pub fn get_field_by_name(&self, name: &str) -> Result<Field<'a>>
         ensures found { IfOk result (λ field.
             IsFieldAt self.now (index_named self.now name.now) (Some field)) }
@@ -166,7 +166,7 @@ impl<'a> StructSchema<'a> {
         }
     }
 
-    /// The annotations of the struct.
+    /// Returns the annotations of the struct.
     pub fn get_annotations(self) -> Result<AnnotationList<'a>>
         ensures { IsOkAnd result
             (AreAnnotations (nodes_around self.entry) (annotations_recorded self.entry)) }

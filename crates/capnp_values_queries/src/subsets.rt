@@ -36,21 +36,21 @@ impl<'a> FieldSubset<'a> {
         FieldSubset { parent, indices }
     }
 
-    /// How many fields there are, 0 to 65,535.
+    /// Returns the number of fields, 0 to 65,535.
     pub fn len(&self) -> u16
         ensures { result ≡ length self.now.indices.now }
     {
         self.indices.len() as u16
     }
 
-    /// Whether there is no field.
+    /// Returns whether there is no field.
     pub fn is_empty(&self) -> bool
         ensures { result ≡ (length self.now.indices.now == 0) }
     {
         self.len() == 0
     }
 
-    /// The field at a place, which is below the length.
+    /// Returns the field at a place, which is below the length.
     pub fn get(self, index: u16) -> Field<'a>
         requires { index < length self.indices.now }
         ensures parent { result.parent ≡ self.entry.parent }
@@ -59,7 +59,7 @@ impl<'a> FieldSubset<'a> {
         Field::new(self.parent, self.indices[index as usize])
     }
 
-    /// The fields in order, from both ends.
+    /// Returns the fields in order, from both ends.
     pub fn iter(self) -> ShortListIter<FieldSubset<'a>, Field<'a>>
         ensures { items_left chosen_at result
             ≡ items_from (chosen_at self.entry) 0 (length self.entry.indices.now) }
