@@ -1,4 +1,4 @@
-//! Calls: a path from the root of a record, and what is done at its end.
+//! Calls: a path from the root of a record, and an action at its end.
 
 ghost use Rattle.std.specs.Prelude.{◌≢◌, [], IsTrue};
 ghost use Rattle.capnp_calls.specs.Actions.{is_in_range};
@@ -16,7 +16,7 @@ pub enum Step {
     Index(u32),
 }
 
-/// What a call does at the end of its path.
+/// The verb of a call at the end of its path.
 #[derive(Clone, Copy, Debug, PartialEq, Eq)]
 pub enum Verb {
     Get,
@@ -27,7 +27,7 @@ pub enum Verb {
     Clear,
 }
 
-/// What a call sets.
+/// A value that a call sets.
 #[derive(Debug, Drop)]
 pub enum CallValue {
     Number(i128),
@@ -39,7 +39,7 @@ pub enum CallValue {
     Message(Vec<u8>),
 }
 
-/// Why a call is refused.
+/// The reason for which a call is refused.
 #[derive(Clone, Copy, Debug, PartialEq, Eq, Error)]
 pub enum CallFault {
     #[error("the path has no step")]
@@ -65,7 +65,7 @@ pub enum SlotValue {
     Message(MessageValue),
 }
 
-/// What a call does, with what it takes for it.
+/// The action of a call, with its value.
 #[derive(Debug, Drop)]
 pub enum Action {
     Get,
@@ -75,7 +75,7 @@ pub enum Action {
     Clear,
 }
 
-/// A call: a path, which has a step, and what is done at its end.
+/// A call: a path, which has a step, and an action at its end.
 #[derive(Debug, Drop)]
 pub struct Call {
     pub(crate) path: Vec<Step>,
@@ -88,12 +88,12 @@ impl Call {
     ghost use Rattle.std.specs.Prelude.{◌≡◌, map, Ok, IfOk, IfErr};
     ghost use Rattle.capnp_calls.specs.CallViews.{step_view, action_view, verb_of, call_view, call_from, IsCallRefusal, SetsFrame};
 
-    /// A call along a path, which has a step. `Set` takes a value, the other verbs take none;
-    /// `Initn` at most 2^29 - 1 elements. A message is one frame of at most 2^23 words, nothing
-    /// behind it. Its value has no capability and at most 64 levels of pointers, and costs at most
-    /// 2^23 words to follow. Its canonical words are kept. The first of these rules that is broken
-    /// is told. `Memory`: a growth was refused, where the call sets a frame. What is given is gone
-    /// after a refusal.
+    /// Makes a call along a path, which has at least one step. `Set` takes a value, the other verbs
+    /// take no value; `Initn` takes at most 2^29 - 1 elements. A message is one frame of at most
+    /// 2^23 words, with nothing after it. Its value has no capability and at most 64 levels of
+    /// pointers, and costs at most 2^23 words to follow. The message's canonical words are kept.
+    /// The error is the first of these rules that is broken. `Memory`: an allocation was refused
+    /// while the call sets a frame. After a refusal the arguments are gone.
     pub fn new(
         alloc: Global,
         path: Vec<Step>,
@@ -111,14 +111,14 @@ impl Call {
         Ok(Call { path, action })
     }
 
-    /// The path, which has a step.
+    /// Returns the path, which has at least one step.
     pub fn path(&self) -> &[Step]
         ensures { map step_view result.now ≡ (call_view self.now).path }
     {
         &self.path
     }
 
-    /// What is done at its end, with the value that it takes.
+    /// Returns the action at the end of the path, with its value.
     pub fn action(&self) -> &Action
         ensures action { action_view result.now ≡ (call_view self.now).verb }
         ensures in_range { IsTrue (is_in_range result.now) }
@@ -126,7 +126,7 @@ impl Call {
         &self.action
     }
 
-    /// What is done at its end.
+    /// Returns the verb of the call.
     pub fn verb(&self) -> Verb
         ensures { result ≡ verb_of (call_view self.now).verb }
     {
@@ -144,7 +144,7 @@ impl Action {
     ghost use Rattle.std.specs.Prelude.{◌≡◌, Ok, IsTrue, IfOk, IfErr};
     ghost use Rattle.capnp_calls.specs.CallViews.{action_view, verb_from, IsCallRefusal, GivesFrame};
 
-    /// What the verb does with the value.
+    /// Makes the action of a verb with a value.
     fn new(alloc: Global, verb: Verb, value: Option<CallValue>) -> Result<Action, CallFault>
         ensures verb { IfOk result (λ a. verb_from verb value ≡ Ok (action_view a)) }
         ensures in_range { IfOk result (λ a. IsTrue (is_in_range a)) }
@@ -173,7 +173,7 @@ impl SlotValue {
     ghost use Rattle.std.specs.Prelude.{◌≡◌, Some, IfOk, IfErr};
     ghost use Rattle.capnp_calls.specs.CallViews.{slot_value_view, taken_value, set_verb, IsCallRefusal, IsFrame};
 
-    /// The value, with a message made canonical.
+    /// Makes the value, with a message made canonical.
     fn new(alloc: Global, value: CallValue) -> Result<SlotValue, CallFault>
         ensures value { IfOk result (λ v. taken_value value ≡ Some (slot_value_view v)) }
         ensures refused { IfErr result

@@ -1,4 +1,4 @@
-//! The canonical words of a message's value, within the limits of readers that are told no others.
+//! The canonical words of a message's value, within the default limits of readers.
 ghost use Rattle.std.specs.Prelude.{◌≡◌, ◌^◌, ◌≤◌, length, option_map, IfOk, OnErr};
 ghost use Rattle.capnp_units.specs.Segments.{words_in};
 ghost use Rattle.capnp_wire_canonical.specs.Writes.{filled, words_view};
@@ -15,17 +15,17 @@ use capnp_wire_objects::arena::ReaderArena;
 use capnp_wire_objects::place::ROOT;
 use std::alloc::{AllocError, Global};
 
-/// What following a message may cost, in words: as much as under the default reader options.
+/// The most words that following a message may cost: those of the default reader options.
 pub(crate) const MOST_WORDS: usize = 8_388_608;
 
-/// How many levels of pointers a message may have: as many as under the default reader options.
+/// The most levels of pointers of a message: those of the default reader options.
 pub(crate) const MOST_LEVELS: u32 = 64;
 
-/// Writes the canonical words of a message's value to the front of a slice, and returns how many
-/// they are. `None` where it has no value within the limits, or one with a capability.
+/// Writes the canonical words of a message's value to the front of a slice, and returns their
+/// number, or `None` if the message has no value within the limits, or a value with a capability.
 ///
-/// It is refused with `BufferNotLargeEnough` where the slice has no room for them, which is so only
-/// of one of at most 2^23 words.
+/// It is refused with `BufferNotLargeEnough` if the slice has no room for them, which can only
+/// happen if the slice has at most 2^23 words.
 fn write_words<A: ReaderArena>(arena: &A, into: &mut [Word]) -> Result<Option<usize>, Error>
     ensures words { IfOk result (λ count. option_map (λ n. filled n into.new) count
         ≡ canonical_words_in (words_in (A.segments arena.now))) }
@@ -43,7 +43,7 @@ fn write_words<A: ReaderArena>(arena: &A, into: &mut [Word]) -> Result<Option<us
     }
 }
 
-/// n words at the front of others, if any.
+/// Returns the first n words, if there is a number.
 fn front(mut words: Vec<Word>, count: Option<usize>) -> Option<Vec<Word>>
     ensures { option_map (λ w. words_view w.items) result
         ≡ option_map (λ n. filled n words.items) count }
@@ -57,11 +57,11 @@ fn front(mut words: Vec<Word>, count: Option<usize>) -> Option<Vec<Word>>
     }
 }
 
-/// The canonical words of a message's value; `None` where it has no value within the limits, or one
-/// with a capability.
+/// Returns the canonical words of a message's value; `None` if the message has no value within the
+/// limits, or a value with a capability.
 ///
-/// They are written into a buffer as long as the message, and only where they are more, since
-/// pointers share words, into one of 2^23 words and one.
+/// They are written into a buffer as long as the message. If there are more words, because pointers
+/// share words, they are written into a buffer of 2^23 + 1 words.
 pub(crate) fn canonical_words<A: ReaderArena>(
     alloc: Global,
     arena: &A,

@@ -23,38 +23,38 @@ use capnp_values_queries::introspect::{Type, TypeVariant};
 use capnp_values_queries::slots::FieldPlace;
 use capnp_values_queries::structs::StructSchema;
 
-/// Where a path ends.
+/// The end of a path.
 #[derive(Clone, Copy)]
 pub(crate) enum End<'a> {
     /// At a field.
     Slot(FieldPlace<'a>),
     /// At a value of a type: the root, or an element of a list.
     Value(Type),
-    /// At nothing that it fits.
+    /// At a place that it doesn't fit.
     Nowhere,
 }
 
-/// Where a step leads.
+/// The end of a step.
 #[derive(Clone, Copy)]
 pub(crate) struct Next<'a> {
     pub(crate) end: End<'a>,
-    /// What a name finds, where a struct or a group stands.
+    /// The field that a name finds, if the step begins at a struct or a group.
     pub(crate) found: Option<FoundField>,
-    /// Whether it leads to an element, or to a field that is no member of a union.
+    /// Whether the step leads to an element, or to a field that is not a member of a union.
     pub(crate) is_alone: bool,
-    /// The discriminant, where it leads to a member.
+    /// The discriminant, if the step leads to a member.
     pub(crate) mark: Option<PlainSet>,
 }
 
-/// Whether a field is no member of a union.
+/// Returns whether a field is not a member of a union.
 fn is_alone(field: Field<'_>) -> bool
     ensures { result ≡ true → option_map (λ e. e.member) (entry_of_field field.entry) ≡ Some None }
 {
     field.get_proto().discriminant_value == NO_DISCRIMINANT
 }
 
-/// The discriminant of a field in its struct's or group's data, where it is a member of the union
-/// there.
+/// Returns the discriminant of a field in the data of its struct or group, if the field is a member
+/// of the union there.
 fn mark_of(field: Field<'_>) -> Option<PlainSet>
     ensures { IfSome result (λ mark. MarksEntry mark (union_in (shape_of_struct field.entry.parent))
         (entry_of_field field.entry)) }
@@ -72,7 +72,7 @@ fn mark_of(field: Field<'_>) -> Option<PlainSet>
     })
 }
 
-/// Where a name leads from a struct or a group.
+/// Returns the end of a name from a struct or a group.
 fn field_named<'a>(schema: StructSchema<'a>, name: &str) -> Next<'a>
     ensures end { end_view result.end
         ≡ end_at (target_of name.now (fields_of_struct schema.entry)) }
@@ -104,7 +104,7 @@ fn field_named<'a>(schema: StructSchema<'a>, name: &str) -> Next<'a>
     }
 }
 
-/// Where a step into a value of a type leads.
+/// Returns the end of a step into a value of a type.
 fn step_into<'a>(set: &'a SchemaSet, step: &Step, ty: Type) -> Next<'a>
     requires known { is_type_of (nodes_of set.now) ty ≡ true }
     ensures end { end_view result.end
@@ -137,7 +137,7 @@ fn step_into<'a>(set: &'a SchemaSet, step: &Step, ty: Type) -> Next<'a>
     }
 }
 
-/// Where a step leads.
+/// Returns the end of a step.
 pub(crate) fn next_end<'a>(set: &'a SchemaSet, step: &Step, end: End<'a>) -> Next<'a>
     requires known { IsEndOf (nodes_of set.now) end }
     ensures end { end_view result.end

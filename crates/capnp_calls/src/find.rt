@@ -18,11 +18,11 @@ use capnp_values_queries::structs::StructSchema;
 pub struct FoundField {
     /// The id of the node of the struct or the group under which it was found.
     pub(crate) node: u64,
-    /// Its index there; `None` where that has no field of the name.
+    /// The index of the field there; `None` if the struct or group has no field of the name.
     pub(crate) place: Option<u16>,
 }
 
-/// The first field of a way.
+/// Returns the first field of a way.
 #[inline]
 fn first_found(way: &[FoundField]) -> Option<FoundField>
     ensures { result ≡ slice_get way.now 0 }
@@ -30,8 +30,8 @@ fn first_found(way: &[FoundField]) -> Option<FoundField>
     way.first().copied()
 }
 
-/// The index of the field that a name finds in the struct or the group of a node, `Some(None)`
-/// where that has no such field. `None` where a way doesn't say it.
+/// Returns the index of the field that a name finds in the struct or the group of a node,
+/// `Some(None)` if there is no such field. It returns `None` if the way doesn't have this node.
 #[inline]
 pub fn known_place(way: &[FoundField], node: u64) -> Option<Option<u16>>
     ensures { (s : Schema) (name : List ℕ) → FindsFirst s name way.now
@@ -43,7 +43,7 @@ pub fn known_place(way: &[FoundField], node: u64) -> Option<Option<u16>>
     }
 }
 
-/// The field of a name, as it was found under this very struct.
+/// Returns the field of a name, as it was found under this very struct.
 #[inline]
 fn known_field<'a>(
     schema: StructSchema<'a>,
@@ -61,8 +61,8 @@ fn known_field<'a>(
     }
 }
 
-/// The field of a name, of which a way says what it finds. Where the way was found under this very
-/// struct, no name is compared.
+/// Returns the field of a name, with a way that may have it already. If the way was found under
+/// this very struct, no name is compared.
 #[inline]
 pub fn find_field<'a>(
     schema: StructSchema<'a>,
@@ -81,7 +81,7 @@ pub fn find_field<'a>(
     schema.find_field_by_name(name)
 }
 
-/// The field of a name, as `find_field`. A name that the struct lacks is refused by
+/// Returns the field of a name, like `find_field`. A name that the struct lacks is refused with
 /// `FieldNotFound`.
 #[inline]
 pub fn get_field<'a>(schema: StructSchema<'a>, name: &str, way: &[FoundField]) -> Result<Field<'a>>
@@ -98,7 +98,7 @@ pub fn get_field<'a>(schema: StructSchema<'a>, name: &str, way: &[FoundField]) -
     }
 }
 
-/// What is known behind the first name of a path.
+/// Returns the rest of a way, after the first name of a path.
 #[inline]
 pub fn rest_of_way(way: &[FoundField]) -> &[FoundField]
     ensures { result.now ≡ fields_behind_first way.now }

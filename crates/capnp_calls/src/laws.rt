@@ -7,12 +7,12 @@ ghost use Rattle.capnp_calls.specs.CallViews.{call_view};
 ghost use Rattle.capnp_values_queries.specs.Structs.{schema_around, id_of};
 ghost use Rattle.capnp_calls.specs.Roots.{IsRoot};
 
-/// What calls set are values of their sorts.
+/// The values that calls set are values of their sorts.
 pub fn calls_are_given()
     ensures { (root : StructSchema) (calls : List Call) → AreGiven (map call_view calls) }
 {}
 
-/// A root, as a set finds a struct by its id, is no group.
+/// A root, as a set finds a struct by its id, is not a group.
 pub fn roots_are_no_groups()
     ensures { (root : StructSchema) → IsRoot root
         → (schema_around root).is_group (id_of root) ≡ false }

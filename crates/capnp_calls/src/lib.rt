@@ -1,5 +1,5 @@
-//! Calls, which read and edit the fields of a record: what they are, what they reply, the messages
-//! that they set, and all that a schema tells of them.
+//! Calls, which read and edit the fields of a record, their replies, the messages that they set,
+//! and their resolution under a schema.
 #![tactic(auto)]
 
 mod call;

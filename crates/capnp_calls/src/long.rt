@@ -1,4 +1,4 @@
-//! Lists that calls put which are too long for a message.
+//! Lists that calls make and that are too long for a message.
 ghost use Rattle.std.specs.Prelude.{◌≡◌, ◌+◌, ◌↔◌, ◌^◌, ◌≤◌, ◌<◌, true, false};
 ghost use Rattle.capnp_model.specs.Accepted.{schema_of};
 ghost use Rattle.capnp_model.specs.Schemas.{words_of_shape, pointers_of_shape, Schema};
@@ -20,7 +20,7 @@ use capnp_values_queries::introspect::{Type, TypeVariant};
 use capnp_values_queries::slots::FieldPlace;
 use capnp_values_queries::structs::StructSchema;
 
-/// How many words the structs of a schema have.
+/// Returns the number of words of the structs of a schema.
 fn struct_words(schema: StructSchema<'_>) -> u64
     ensures words { let g = shape_of_struct schema.entry in
         result ≡ words_of_shape g + pointers_of_shape g }
@@ -30,7 +30,8 @@ fn struct_words(schema: StructSchema<'_>) -> u64
     record.data_word_count as u64 + record.pointer_count as u64
 }
 
-/// How many elements a new list has; of structs the words, where these are more.
+/// Returns the number of elements of a new list; for structs the number of words, if that is
+/// greater.
 fn elements_len(set: &SchemaSet, element: Type, count: u32) -> u64
     requires known { is_type_of (nodes_of set.now) element ≡ true }
     ensures { result ≡ list_len (new_list (schema_of (nodes_of set.now)) count (ty_of element)) }
@@ -44,8 +45,9 @@ fn elements_len(set: &SchemaSet, element: Type, count: u32) -> u64
     }
 }
 
-/// How many elements what `initn` makes of a type has, a text's zero byte among them; of structs
-/// the words, where these are more. What is no list has none.
+/// Returns the number of elements of the list that `initn` makes of a type, including a text's zero
+/// byte; for structs the number of words, if that is greater. A type that is not a list has no
+/// elements.
 fn made_len(set: &SchemaSet, ty: Type, count: u32) -> u64
     requires known { is_type_of (nodes_of set.now) ty ≡ true }
     ensures { (k : Kind) → result
@@ -72,7 +74,7 @@ fn made_len(set: &SchemaSet, ty: Type, count: u32) -> u64
     }
 }
 
-/// Whether what `initn` makes of a type is too long.
+/// Returns whether `initn` makes a list of a type that is too long.
 fn is_long_list(set: &SchemaSet, ty: Type, count: u32) -> bool
     requires known { is_type_of (nodes_of set.now) ty ≡ true }
     ensures { (k : Kind) → (result ≡ true) ↔ (2 ^ 29
@@ -81,7 +83,7 @@ fn is_long_list(set: &SchemaSet, ty: Type, count: u32) -> bool
     made_len(set, ty, count) > MOST_WORDS as u64
 }
 
-/// Whether a value is a text or data that a slot of a type can be set to, and is too long.
+/// Returns whether a value is a text or data to which a slot of a type can be set, and is too long.
 fn is_long_value(value: &SlotValue, ty: Type) -> bool
     ensures long { is_message (slot_value_view value.now) ≡ false → (result ≡ true)
         ↔ (2 ^ 29 ≤ content_len (value_content (slot_value_view value.now) (ty_of ty))) }
@@ -100,7 +102,8 @@ fn is_long_value(value: &SlotValue, ty: Type) -> bool
     }
 }
 
-/// Whether a value is a text or data that an element of a type can be set to, and is too long.
+/// Returns whether a value is a text or data to which an element of a type can be set, and is too
+/// long.
 fn is_long_element(value: &SlotValue, ty: Type) -> bool
     ensures long { (s : Schema) → is_message (slot_value_view value.now) ≡ false
         → (result ≡ true) ↔ (2 ^ 29 ≤ content_len
@@ -113,8 +116,8 @@ fn is_long_element(value: &SlotValue, ty: Type) -> bool
     }
 }
 
-/// Whether an action, if it is done, puts a list that is too long where a path ends: a text or data
-/// of 2^29 bytes or more with its last zero, or 2^29 words or more of structs.
+/// Returns whether an action, if it is done, makes a list that is too long at the end of a path: a
+/// text or data of 2^29 bytes or more including the last zero, or structs of 2^29 words or more.
 pub(crate) fn puts_long_at(set: &SchemaSet, end: End<'_>, action: &Action) -> bool
     requires known { IsEndOf (nodes_of set.now) end }
     ensures long { sets_message (action_view action.now) ≡ false → (result ≡ true)

@@ -17,7 +17,7 @@ use capnp_wire_canonical::laws::segments_of_words;
 use capnp_wire_objects::arena::ReaderArenaImpl;
 use std::alloc::{AllocError, Global};
 
-/// The segments of bytes that are one frame, nothing behind it.
+/// Returns the segments of bytes that are one frame, with nothing after it.
 fn one_frame<'a>(bytes: &'a [u8]) -> Option<NoAllocSliceSegments<'a>>
     ensures { option_map (λ s. words_in (found_segments s)) result ≡ one_frame bytes.now }
 {
@@ -29,7 +29,7 @@ fn one_frame<'a>(bytes: &'a [u8]) -> Option<NoAllocSliceSegments<'a>>
     }
 }
 
-/// A copy of the bytes of whole words.
+/// Returns a copy of the bytes of whole words.
 fn copied(alloc: Global, bytes: &[u8]) -> Result<Vec<u8>, AllocError>
     requires { length bytes.now % 8 ≡ 0 }
     ensures { IfOk result (λ v. v.items ≡ bytes_of_words (whole_words bytes.now)) }
@@ -37,7 +37,7 @@ fn copied(alloc: Global, bytes: &[u8]) -> Result<Vec<u8>, AllocError>
     bytes.to_vec(alloc)
 }
 
-/// The bytes of words, the lowest byte of each first.
+/// Returns the bytes of words, the lowest byte of each first.
 fn bytes_of_words(alloc: Global, words: &[Word]) -> Result<Vec<u8>, AllocError>
     ensures { IfOk result (λ v. v.items ≡ bytes_of_words (words_view words.now)) }
 {
@@ -57,12 +57,12 @@ impl MessageValue {
     ghost use Rattle.capnp_calls.specs.Frames.{one_frame, value_in};
     ghost use Rattle.capnp_calls.specs.Messages.{tree_of_message};
 
-    /// The value of the bytes of one frame, nothing behind it. There is none where
-    /// - they are no frame, or the frame has more than 2^23 words;
-    /// - its value has a capability or a malformed pointer;
-    /// - its value has more than 64 levels, or costs more than 2^23 words to follow.
+    /// Returns the value of the bytes of one frame, with nothing after it. It returns `None` if
+    /// - the bytes are not a frame, or the frame has more than 2^23 words;
+    /// - the value has a capability or a malformed pointer;
+    /// - the value has more than 64 levels, or costs more than 2^23 words to follow.
     ///
-    /// The error is want of memory; none is taken for bytes that are no frame.
+    /// The error is lack of memory; bytes that are not a frame take no memory.
     pub fn new(alloc: Global, bytes: &[u8]) -> Result<Option<MessageValue>, AllocError>
         ensures value { IfOk result (λ m. option_map tree_of_message m ≡ value_in bytes.now) }
         ensures wanted { OnErr result (IsSome (one_frame bytes.now)) }
@@ -79,7 +79,7 @@ impl MessageValue {
         }
     }
 
-    /// The bytes of its canonical words.
+    /// Returns the bytes of the value's canonical words.
     pub fn segment(&self) -> &[u8]
         ensures { result.now ≡ self.now.segment.items }
     {

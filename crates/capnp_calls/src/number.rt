@@ -10,7 +10,7 @@ ghost use Rattle.capnp_calls.specs.Contents.{bits_content};
 use crate::SlotValue;
 use capnp_values_queries::slots::{PlainType, width_of};
 
-/// The bits of a number without a sign, if it is below 2^width.
+/// Returns the bits of an unsigned number, if it is below 2^width.
 pub fn unsigned_bits(number: i128, width: u32) -> Option<u64>
     requires { width ≤ 64 }
     ensures { bits_content result ≡ plain_content (uint width) (whole_number number) }
@@ -22,7 +22,7 @@ pub fn unsigned_bits(number: i128, width: u32) -> Option<u64>
     }
 }
 
-/// The bits of a number with a sign, in two's complement, if it is from -2^(width - 1) to
+/// Returns the bits of a signed number, in two's complement, if it is from -2^(width - 1) to
 /// 2^(width - 1) - 1.
 pub fn signed_bits(number: i128, width: u32) -> Option<u64>
     requires some { 0 < width }
@@ -44,7 +44,7 @@ pub fn signed_bits(number: i128, width: u32) -> Option<u64>
     }
 }
 
-/// The greatest number of n bits.
+/// Returns the greatest number of n bits.
 fn all_ones(width: u32) -> u64
     requires { width ≤ 64 }
     ensures { result ≡ 2 ^ width - 1 }
@@ -52,8 +52,8 @@ fn all_ones(width: u32) -> u64
     ((1u128 << width) - 1) as u64
 }
 
-/// The bits of a value in a slot of a plain type, the default not yet put to them; `None` where it
-/// is of another sort or out of range.
+/// Returns the bits of a value in a slot of a plain type, before they are exclusive-or'ed with the
+/// default; `None` if the value is of another sort or out of range.
 pub fn bits_for(ty: PlainType, value: &SlotValue) -> Option<u64>
     ensures content { bits_content result
         ≡ plain_content (plain_of ty) (slot_value_view value.now) }

@@ -1,8 +1,8 @@
-//! What calls reply.
+//! Replies of calls.
 
 use capnp_units::kinds::ErrorKind;
 
-/// What a call replies.
+/// The reply of a call.
 #[derive(Debug, Drop)]
 pub enum Reply {
     /// the text of a `get`

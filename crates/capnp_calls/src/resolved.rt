@@ -21,18 +21,18 @@ use capnp_values_queries::introspect::{Type, TypeVariant};
 use capnp_values_queries::structs::StructSchema;
 use std::alloc::Global;
 
-/// What a path leads to from a struct.
+/// The end of a path from a struct, with its fields and hops.
 #[derive(Drop)]
 struct Walk<'a> {
-    /// What its names find, in turn.
+    /// The fields that its names find, in order.
     fields: Vec<FoundField>,
     end: End<'a>,
-    /// The hops that it makes, where it goes by hops.
+    /// The hops that it makes, if the path goes by hops.
     hops: Vec<Hop>,
     course: Course,
 }
 
-/// Adds what a step finds. `OutOfMemory`: the list can't grow.
+/// Adds the field that a step finds. `OutOfMemory`: the list can't grow.
 fn note(fields: &mut Vec<FoundField>, found: Option<FoundField>) -> Result<()>
     ensures items { OnOk result (fields.new.items ≡ fields.old.items ++ found_fields found) }
     ensures kind { IfErr result (λ e. e.kind ≡ ErrorKind.OutOfMemory) }
@@ -43,7 +43,7 @@ fn note(fields: &mut Vec<FoundField>, found: Option<FoundField>) -> Result<()>
     Ok(())
 }
 
-/// Goes along a path from a struct on. `OutOfMemory`: memory for what its names find, or for its
+/// Follows a path from a struct on. `OutOfMemory`: memory for the fields of its names, or for its
 /// hops, was refused.
 fn walk_path<'a>(alloc: Global, root: StructSchema<'a>, path: &[Step]) -> Result<Walk<'a>>
     ensures way { IfOk result (λ w.
@@ -79,7 +79,7 @@ fn walk_path<'a>(alloc: Global, root: StructSchema<'a>, path: &[Step]) -> Result
     })
 }
 
-/// A call with all that the schema of a root tells of it.
+/// A call that is resolved under the schema of a root.
 #[derive(Debug, Drop)]
 pub struct Resolved<'a> {
     call: &'a Call,
@@ -92,8 +92,8 @@ impl<'a> Resolved<'a> {
     ghost use Rattle.std.specs.Prelude.{option_copied};
     ghost use Rattle.capnp_calls.specs.Resolved.{call_of, IsResolved, KnowsSplice};
 
-    /// A call from roots of this schema on. `OutOfMemory`: memory for what the names of its path
-    /// find, or for its splice, was refused.
+    /// Resolves a call from roots of this schema on. `OutOfMemory`: memory for the fields of its
+    /// path, or for its splice, was refused.
     pub fn new(alloc: Global, root: StructSchema<'_>, call: &'a Call) -> Result<Resolved<'a>>
         ensures resolved { IfOk result (IsResolved root.entry) }
         ensures call { IfOk result (λ r. call_of r ≡ call_view call.now) }
@@ -116,14 +116,14 @@ impl<'a> Resolved<'a> {
         })
     }
 
-    /// The call.
+    /// Returns the call.
     pub fn call(&self) -> &'a Call
         ensures { call_view result.now ≡ call_of self.now }
     {
         self.call
     }
 
-    /// The path, which has a step.
+    /// Returns the path, which has at least one step.
     #[inline]
     pub fn path(&self) -> &[Step]
         ensures { map step_view result.now ≡ (call_of self.now).path }
@@ -131,7 +131,7 @@ impl<'a> Resolved<'a> {
         self.call.path()
     }
 
-    /// What is done at its end, with the value that it takes.
+    /// Returns the action at the end of the path, with its value.
     #[inline]
     pub fn action(&self) -> &Action
         ensures { action_view result.now ≡ (call_of self.now).verb }
@@ -139,7 +139,7 @@ impl<'a> Resolved<'a> {
         self.call.action()
     }
 
-    /// What the names of the path find, in turn.
+    /// Returns the fields that the names of the path find, in order.
     #[inline]
     pub fn fields(&self) -> &[FoundField]
         ensures { result.now ≡ self.now.fields.items }
@@ -147,8 +147,9 @@ impl<'a> Resolved<'a> {
         &self.fields
     }
 
-    /// Whether the call, if it is done, puts a text or data of 2^29 bytes or more with its last
-    /// zero, or 2^29 words or more of structs. Values of messages aren't looked at.
+    /// Returns whether the call, if it is done, makes a text or data of 2^29 bytes or more
+    /// including the last zero, or structs of 2^29 words or more. Values of messages aren't looked
+    /// at.
     #[inline]
     pub fn is_long(&self) -> bool
         ensures { result ≡ self.now.is_long }
@@ -156,14 +157,15 @@ impl<'a> Resolved<'a> {
         self.is_long
     }
 
-    /// What it puts into canonical words where they stand, and by which hops from the root. There is
-    /// one for the `set` of these, to a value of its type:
+    /// Returns the write of the call into canonical words in place, and its hops from the root.
+    /// There is a splice for the `set` of these, to a value of its type:
     /// - a plain field, a text or data;
     /// - a plain or void member of a union;
     /// - an element of a list of plain values, texts or data.
     ///
-    /// `None` else, and where
-    /// - its path goes there elsewhere than by structs, groups and elements of lists of structs;
+    /// It returns `None` otherwise, and also if
+    /// - the path goes through something other than structs, groups and elements of lists of
+    ///   structs;
     /// - a field before the last, or the list of the element, is a member of a union.
     #[inline]
     pub fn splice(&self) -> Option<&Splice>
@@ -173,7 +175,8 @@ impl<'a> Resolved<'a> {
     }
 }
 
-/// Calls from roots of this schema on, in turn. `OutOfMemory`: memory for them was refused.
+/// Resolves calls from roots of this schema on, in order. `OutOfMemory`: memory for them was
+/// refused.
 pub fn resolve<'a>(
     alloc: Global,
     root: StructSchema<'_>,

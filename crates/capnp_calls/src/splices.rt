@@ -1,4 +1,4 @@
-//! What calls put into canonical words where they stand, and by which hops it is reached.
+//! Writes of calls into canonical words in place, and the hops to their places.
 ghost use Rattle.std.specs.Prelude.{◌≡◌, ◌+◌, ◌*◌, ◌^◌, ◌<◌, ◌++◌, true, Option, Some, IfOk, IfErr, IfSome};
 ghost use Rattle.capnp_units.specs.declared.kinds.ErrorKind.{ErrorKind};
 ghost use Rattle.capnp_model.specs.Schemas.{plain, width};
@@ -25,38 +25,40 @@ use capnp_values_queries::introspect::{Type, TypeVariant};
 use capnp_values_queries::slots::{FieldPlace, PlainType, width_of};
 use std::alloc::Global;
 
-/// An element of the list behind a pointer.
+/// An element of the list that a pointer leads to.
 #[derive(Clone, Copy)]
 pub(crate) struct ListPlace {
     pub(crate) pointer: u32,
     pub(crate) index: u32,
 }
 
-/// How a path goes on by a step.
+/// The next part of a path, by a step.
 #[derive(Clone, Copy)]
 pub(crate) enum Onward {
-    /// From the struct where it stands.
+    /// From the struct at which the path is.
     Here,
     /// From a struct that is a hop away.
     Behind(Hop),
-    /// To an element that is no struct.
+    /// To an element that is not a struct.
     Into(ListPlace),
-    /// In another way.
+    /// In a way that splices don't support.
     Astray,
 }
 
-/// How a path goes to where it ends.
+/// The course of a path to its end.
 #[derive(Clone, Copy)]
 pub(crate) struct Course {
-    /// Whether it goes by hops, and finds no member of a union.
+    /// Whether the path goes by hops, and finds no member of a union.
     pub(crate) is_straight: bool,
-    /// The discriminant, where it goes by hops to a member of a union, and finds no other.
+    /// The discriminant, if the path goes by hops to a member of a union, and finds no other
+    /// member.
     pub(crate) mark: Option<PlainSet>,
-    /// The element, where it goes by hops to one that is no struct, and finds no member of a union.
+    /// The element, if the path goes by hops to an element that is not a struct, and finds no
+    /// member of a union.
     pub(crate) element: Option<ListPlace>,
 }
 
-/// How a path goes by a step that leads there, by how it goes on as a whole.
+/// Returns the course of a path whose step leads there, from the next part of the path as a whole.
 pub(crate) fn course_after(onward: Onward, next: Next<'_>) -> Course
     ensures straight { result.is_straight ≡ true
         → (goes_straight onward ≡ true) × (next.entry.is_alone ≡ true) }
@@ -83,8 +85,8 @@ pub(crate) fn course_after(onward: Onward, next: Next<'_>) -> Course
     }
 }
 
-/// How a path goes on by a step from a pointer slot of a type: by a hop to a struct, or to an
-/// element of a list.
+/// Returns the next part of a path by a step from a pointer slot of a type: by a hop to a struct,
+/// or to an element of a list.
 fn step_behind(pointer: u32, ty: Type, step: &Step) -> Onward
     ensures { StepsBehind result pointer (ty_of ty) (step_view step.now) }
 {
@@ -101,7 +103,7 @@ fn step_behind(pointer: u32, ty: Type, step: &Step) -> Onward
     }
 }
 
-/// How a path goes on by a step from where it stands.
+/// Returns the next part of a path by a step from its end so far.
 pub(crate) fn next_hop(end: End<'_>, step: &Step) -> Onward
     ensures { GoesOn result (end_view end.entry) (step_view step.now) }
 {
@@ -113,8 +115,8 @@ pub(crate) fn next_hop(end: End<'_>, step: &Step) -> Onward
     }
 }
 
-/// Adds the hop that is made, if any, where the path was straight so far. It returns how the path
-/// as a whole goes on. `OutOfMemory`: the list can't grow.
+/// Adds the hop that is made, if any, if the path was straight so far. It returns the next part of
+/// the path as a whole. `OutOfMemory`: the list can't grow.
 pub(crate) fn note_hop(hops: &mut Vec<Hop>, was_straight: bool, onward: Onward) -> Result<Onward>
     ensures onward { IfOk result (λ whole. whole ≡ onward_if was_straight onward) }
     ensures hops { IfOk result (λ whole. hops.new.items ≡ hops.old.items ++ hops_made whole) }
@@ -129,8 +131,8 @@ pub(crate) fn note_hop(hops: &mut Vec<Hop>, was_straight: bool, onward: Onward) 
     Ok(onward)
 }
 
-/// A number of a plain type, in the word of the data that has the slot at an offset, which is
-/// counted in values of the type.
+/// Returns a number of a plain type, in the word of the data that has the slot at an offset, in
+/// units of the type's width.
 fn number_in(ty: PlainType, offset: u32, bits: u64) -> PlainSet
     requires { bits < 2 ^ width (plain_of ty) }
     ensures place { 64 * result.word + result.shift ≡ width (plain_of ty) * offset }
@@ -147,8 +149,9 @@ fn number_in(ty: PlainType, offset: u32, bits: u64) -> PlainSet
     }
 }
 
-/// The text or data that a slot of a type is set to by a value. `None` where the type is neither,
-/// the value isn't of it, or it is too long. `OutOfMemory`: the memory for its words was refused.
+/// Returns the text or data to which a value sets a slot of a type. `None` if the type is not a
+/// text or data, the value isn't of the type, or it is too long. `OutOfMemory`: the memory for its
+/// words was refused.
 fn blob_for(alloc: Global, ty: Type, value: &SlotValue) -> Result<Option<Blob>>
     ensures blob { IfOk result
         (λ found. IfSome found (λ b. IsBlobOf b (ty_of ty) (slot_value_view value.now))) }
@@ -161,8 +164,8 @@ fn blob_for(alloc: Global, ty: Type, value: &SlotValue) -> Result<Option<Blob>>
     }
 }
 
-/// The number that sets a plain slot to a value, at an offset that is counted in values of the
-/// type. `None` where the value isn't of the type.
+/// Returns the number that sets a plain slot to a value, at an offset in units of the type's width.
+/// `None` if the value isn't of the type.
 fn number_for(ty: PlainType, offset: u32, default_bits: u64, value: &SlotValue) -> Option<PlainSet>
     requires { default_bits < 2 ^ width (plain_of ty) }
     ensures { IfSome result (SetsPlainSlot (plain_of ty) (width (plain_of ty) * offset) default_bits
@@ -172,8 +175,8 @@ fn number_for(ty: PlainType, offset: u32, default_bits: u64, value: &SlotValue) 
     Some(number_in(ty, offset, bits ^ default_bits))
 }
 
-/// What sets a slot to a value. `None` where the slot is neither plain nor of a text or data, or
-/// the value isn't of its type. `OutOfMemory`: memory for it was refused.
+/// Returns the write that sets a slot to a value. `None` if the slot is not plain and not of a text
+/// or data, or the value isn't of its type. `OutOfMemory`: memory for it was refused.
 fn put_at(alloc: Global, place: FieldPlace<'_>, value: &SlotValue) -> Result<Option<Put>>
     requires { HasSmallDefault (body_of_place place) }
     ensures put { IfOk result (λ found. IfSome found
@@ -200,7 +203,7 @@ fn put_at(alloc: Global, place: FieldPlace<'_>, value: &SlotValue) -> Result<Opt
     }
 }
 
-/// The plain type that a type is, if it is one.
+/// Returns the plain type of a type, if the type is plain.
 fn plain_type(ty: Type) -> Option<PlainType>
     ensures { IfSome result (λ q. ty_of ty ≡ plain (plain_of q)) }
 {
@@ -219,8 +222,8 @@ fn plain_type(ty: Type) -> Option<PlainType>
     }
 }
 
-/// What sets the element of a plain type at a place to a value. `None` where the value isn't of the
-/// type.
+/// Returns the write that sets the element of a plain type at a place to a value. `None` if the
+/// value isn't of the type.
 fn number_at(place: ListPlace, ty: PlainType, value: &SlotValue) -> Option<Put>
     ensures { IfSome result
         (λ put. IsElementOf put place (plain (plain_of ty)) (slot_value_view value.now)) }
@@ -234,8 +237,9 @@ fn number_at(place: ListPlace, ty: PlainType, value: &SlotValue) -> Option<Put>
     })
 }
 
-/// What sets the element of a type at a place to a value. `None` where the type is neither plain
-/// nor that of a text or data, or the value isn't of it. `OutOfMemory`: memory for it was refused.
+/// Returns the write that sets the element of a type at a place to a value. `None` if the type is
+/// not plain and not a text or data, or the value isn't of the type. `OutOfMemory`: memory for it
+/// was refused.
 fn element_at(alloc: Global, place: ListPlace, ty: Type, value: &SlotValue) -> Result<Option<Put>>
     ensures put { IfOk result (λ found. IfSome found
         (λ put. IsElementOf put place (ty_of ty) (slot_value_view value.now))) }
@@ -255,8 +259,8 @@ fn element_at(alloc: Global, place: ListPlace, ty: Type, value: &SlotValue) -> R
     }
 }
 
-/// What sets a member with this discriminant to a value. `None` where its slot is a pointer or a
-/// group, or the value isn't of its type.
+/// Returns the write that sets a member with this discriminant to a value. `None` if its slot is a
+/// pointer or a group, or the value isn't of its type.
 fn member_at(mark: PlainSet, place: FieldPlace<'_>, value: &SlotValue) -> Option<Put>
     requires { HasSmallDefault (body_of_place place) }
     ensures { IfSome result (λ put. (p : Option PlainSet) × (put ≡ puts.Member mark p)
@@ -279,8 +283,8 @@ fn member_at(mark: PlainSet, place: FieldPlace<'_>, value: &SlotValue) -> Option
     }
 }
 
-/// What sets the slot where a path ends to a value: where the path is straight, or goes to a member
-/// of a union. `None` and `OutOfMemory` as `put_at` and `member_at` have it.
+/// Returns the write that sets the slot at the end of a path to a value, if the path is straight or
+/// goes to a member of a union. `None` and `OutOfMemory` come as from `put_at` and `member_at`.
 fn put_by(
     alloc: Global,
     course: Course,
@@ -300,8 +304,8 @@ fn put_by(
     }
 }
 
-/// What sets the element of a type where a path ends to a value. `None` where it goes there in
-/// another way; `None` and `OutOfMemory` else as `element_at` has it.
+/// Returns the write that sets the element of a type at the end of a path to a value. `None` if the
+/// path goes there in another way; otherwise `None` and `OutOfMemory` come as from `element_at`.
 fn put_into(alloc: Global, course: Course, ty: Type, value: &SlotValue) -> Result<Option<Put>>
     ensures put { IfOk result (λ found. IfSome found (λ put.
         SetsEnd put course (at_value (ty_of ty)) (set_to (slot_value_view value.now)))) }
@@ -313,7 +317,8 @@ fn put_into(alloc: Global, course: Course, ty: Type, value: &SlotValue) -> Resul
     }
 }
 
-/// What sets an end to a value. `None` and `OutOfMemory` as `put_by` and `put_into` have it.
+/// Returns the write that sets an end to a value. `None` and `OutOfMemory` come as from `put_by`
+/// and `put_into`.
 fn put_for(alloc: Global, course: Course, end: End<'_>, value: &SlotValue) -> Result<Option<Put>>
     requires { EndsSmall (end_view end) }
     ensures put { IfOk result (λ found. IfSome found (λ put.
@@ -327,10 +332,11 @@ fn put_for(alloc: Global, course: Course, end: End<'_>, value: &SlotValue) -> Re
     }
 }
 
-/// What an action sets where a path ends, and the hops to it: where the path is straight, or goes
-/// to a member with this discriminant or to an element. `None` where it goes in another way, or the
-/// action doesn't set what is there: a slot or an element to a number, a text or data of its type,
-/// or a member to a number or to nothing. `OutOfMemory`: memory for it was refused.
+/// Returns the write of an action at the end of a path, and the hops to it, if the path is
+/// straight, or goes to a member with this discriminant or to an element. `None` if the path goes
+/// in another way, or if the action doesn't set the end: a slot or an element to a number, a text
+/// or data of its type, or a member to a number or to nothing. `OutOfMemory`: memory for it was
+/// refused.
 pub(crate) fn splice_to(
     alloc: Global,
     hops: Vec<Hop>,

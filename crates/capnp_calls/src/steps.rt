@@ -6,8 +6,8 @@ ghost use Rattle.capnp_calls.specs.Steps.{BeginsWithIndex};
 
 use crate::Step;
 
-/// The name with which a path begins, and the steps behind it; `None` where it doesn't begin with a
-/// name.
+/// Returns the name at the beginning of a path, and the later steps; `None` if the path doesn't
+/// begin with a name.
 pub fn first_name(path: &[Step]) -> Option<(&str, &[Step])>
     ensures split { BeginsWith (map step_view path.now)
         (option_map (λ p. (p.0.now, map step_view p.1.now)) result) }
@@ -20,15 +20,15 @@ pub fn first_name(path: &[Step]) -> Option<(&str, &[Step])>
     }
 }
 
-/// Whether a path begins with a name.
+/// Returns whether a path begins with a name.
 pub fn begins_with_name(path: &[Step]) -> bool
     ensures { result ≡ starts_with_name (map step_view path.now) }
 {
     first_name(path).is_some()
 }
 
-/// The index with which a path begins, and the steps behind it; `None` where it doesn't begin with
-/// an index.
+/// Returns the index at the beginning of a path, and the later steps; `None` if the path doesn't
+/// begin with an index.
 pub fn first_index(path: &[Step]) -> Option<(u32, &[Step])>
     ensures split { BeginsWithIndex (map step_view path.now)
         (option_map (λ p. (p.0, map step_view p.1.now)) result) }

@@ -31,7 +31,7 @@ use capnp_units::errors::Result;
 use capnp_values_queries::structs::StructSchema;
 use std::alloc::Global;
 
-/// Whether calls are admitted.
+/// The answer whether calls are admitted.
 #[derive(Clone, Copy, PartialEq, Eq, Debug)]
 pub enum Admission {
     Admitted,
@@ -39,7 +39,7 @@ pub enum Admission {
     Refused(usize),
 }
 
-/// Where the walk along a path stands.
+/// The position of the walk along a path.
 #[derive(Clone, Copy)]
 enum At {
     /// at a group of both versions, n levels above the last
@@ -58,21 +58,21 @@ enum At {
         older: TypeRecord,
         newer: TypeRecord,
     },
-    /// at nothing that a step fits
+    /// at a place that no step fits
     Nowhere,
 }
 
-/// What a step leads to.
+/// The result of a step.
 #[derive(Clone, Copy)]
 enum Next {
     /// The older version has no field of the name.
     Unknown,
-    /// The step does not fit: nothing behind it is looked at.
+    /// The step does not fit: later steps aren't looked at.
     Unfit,
     To(At),
 }
 
-/// At a field of both versions.
+/// Returns the position at a field of both versions.
 fn at_fields(levels: Levels, older: &FieldBody, newer: &FieldBody) -> At
     ensures { (v : Versions) (path : List ModelStep) (verb : ModelVerb)
         → goes_on v path verb
@@ -98,7 +98,7 @@ fn at_fields(levels: Levels, older: &FieldBody, newer: &FieldBody) -> At
     }
 }
 
-/// Where a name leads from a struct or a group, which a way may say of the older.
+/// Follows a name from a struct or a group; a way may have the older field already.
 fn into_fields(
     versions: &Versions<'_>,
     levels: Levels,
@@ -132,7 +132,7 @@ fn into_fields(
     }
 }
 
-/// The struct that a type names.
+/// Returns the struct that a type names.
 fn struct_id(ty: TypeRecord) -> Option<u64>
     ensures { result ≡ struct_id_in (type_of (type_record_of ty)) }
 {
@@ -145,7 +145,7 @@ fn struct_id(ty: TypeRecord) -> Option<u64>
     }
 }
 
-/// The type of a list's elements.
+/// Returns the type of a list's elements.
 fn element_of(ty: TypeRecord) -> Option<TypeRecord>
     ensures { option_map (λ t. type_of (type_record_of t)) result
         ≡ element_in (type_of (type_record_of ty)) }
@@ -159,7 +159,7 @@ fn element_of(ty: TypeRecord) -> Option<TypeRecord>
     })
 }
 
-/// Where a step leads behind a pointer of a type.
+/// Follows a step from a pointer of a type.
 fn into_type(
     versions: &Versions<'_>,
     step: &Step,
@@ -199,7 +199,7 @@ fn into_type(
     }
 }
 
-/// Where a step leads.
+/// Follows a step.
 fn into_at(versions: &Versions<'_>, step: &Step, way: &[FoundField], at: At) -> Next
     requires way { FindsStep (held_schema versions.now.older) (step_view step.now) way.now }
     ensures { (path : List ModelStep) (verb : ModelVerb)
@@ -222,7 +222,7 @@ fn into_at(versions: &Versions<'_>, step: &Step, way: &[FoundField], at: At) -> 
     }
 }
 
-/// Whether the verb writes a group as a whole.
+/// Returns whether the verb writes a whole group.
 fn is_group_write(verb: Verb) -> bool
     ensures { result ≡ writes_group verb }
 {
@@ -235,7 +235,7 @@ fn is_set(verb: Verb) -> bool
     matches!(verb, Verb::Set)
 }
 
-/// Whether a call that ends here is admitted.
+/// Returns whether a call that ends here is admitted.
 fn is_admitted_end(versions: &Versions<'_>, call: &Call, at: At) -> bool
     ensures { result ≡ is_admitted_end (names_in versions.now.names) (call_view call.now).verb
         (at_seen versions.now at) }
@@ -256,7 +256,7 @@ fn is_admitted_end(versions: &Versions<'_>, call: &Call, at: At) -> bool
     }
 }
 
-/// What is known behind a step.
+/// Returns the rest of a way after a step.
 fn way_behind<'a>(step: &Step, way: &'a [FoundField]) -> &'a [FoundField]
     ensures { result.now ≡ way_behind (step_view step.now) way.now }
 {
@@ -266,8 +266,8 @@ fn way_behind<'a>(step: &Step, way: &'a [FoundField]) -> &'a [FoundField]
     }
 }
 
-/// Whether a call is admitted from the two roots. Where a way says what its names find under the
-/// older schema, no name is looked for there.
+/// Returns whether a call is admitted from the two roots. If a way has the fields of its names
+/// under the older schema, these names aren't looked up there.
 fn is_admitted(
     versions: &Versions<'_>,
     older: u64,
@@ -307,11 +307,11 @@ fn struct_type(id: u64) -> TypeRecord
     }
 }
 
-/// Whether each call under the older schema is admitted beside the newer, where fields are renamed.
-/// An admitted call goes by fields that the older has, writes no group as a whole that the newer
-/// extends, and sets no list element of struct type. It takes two binary searches by name for each
-/// step of a call, and one or two for each field of a group that is written as a whole. Memory is
-/// taken for the renamings alone. `OutOfMemory` is the one error.
+/// Returns whether each call under the older schema is admitted beside the newer, if fields are
+/// renamed. An admitted call uses fields that the older schema has, writes no whole group that the
+/// newer schema extends, and sets no list element of struct type. It takes two binary searches by
+/// name for each step of a call, and one or two for each field of a group that is written whole.
+/// Memory is only taken for the renamings. The only error is `OutOfMemory`.
 pub fn admitted_with(
     alloc: Global,
     calls: &[Call],
@@ -333,8 +333,8 @@ pub fn admitted_with(
     Ok(Admission::Admitted)
 }
 
-/// As `admitted_with`, of calls that are resolved under the older schema, whose names aren't looked
-/// for there again. It takes one binary search by name for each step of a call.
+/// Answers like `admitted_with`, for calls that are resolved under the older schema, whose names
+/// aren't looked up there again. It takes one binary search by name for each step of a call.
 pub fn admitted_resolved(
     alloc: Global,
     calls: &[Resolved<'_>],
@@ -361,10 +361,10 @@ pub fn admitted_resolved(
     Ok(Admission::Admitted)
 }
 
-/// Whether each call under the older schema is admitted beside the newer. An admitted call goes by
-/// fields that the older has, writes no group as a whole that the newer extends, and sets no list
-/// element of struct type. Takes two binary searches by name for each step of a call, and one for
-/// each field of a group that is written as a whole. `OutOfMemory` is the one error.
+/// Returns whether each call under the older schema is admitted beside the newer. An admitted call
+/// uses fields that the older schema has, writes no whole group that the newer schema extends, and
+/// sets no list element of struct type. It takes two binary searches by name for each step of a
+/// call, and one for each field of a group that is written whole. The only error is `OutOfMemory`.
 pub fn admitted(
     alloc: Global,
     calls: &[Call],

@@ -17,8 +17,8 @@ use crate::root::Root;
 use capnp_units::errors::Result;
 use std::alloc::{AllocError, Global};
 
-/// The break of each pair that is not kept, of those that are reached from the roots by pairs that
-/// are kept.
+/// Returns the break of each pair that is not kept, among those that are reached from the roots by
+/// pairs that are kept.
 fn all_broken(
     alloc: Global,
     versions: &Versions<'_>,
@@ -48,11 +48,11 @@ fn all_broken(
     Err(AllocError)
 }
 
-/// The first break of each pair of structs that is reached from the roots by pairs that are kept
-/// and is not kept itself. They stand in the order in which they are reached. There is none where
-/// `compatible_with` says yes. Roots of which one alone is a group are the one break then. Takes
-/// the time of `compatible_with`, but that enumerants are compared again for each pair.
-/// `OutOfMemory` is the one error.
+/// Returns the first break of each pair of structs that is reached from the roots by pairs that are
+/// kept and is not kept itself. The breaks are in the order in which the pairs are reached. There
+/// is no break if `compatible_with` says yes. If only one root is a group, that is the one break.
+/// It takes the time of `compatible_with`, except that enumerants are compared again for each pair.
+/// The only error is `OutOfMemory`.
 pub fn all_breaks(
     alloc: Global,
     older: Root<'_>,

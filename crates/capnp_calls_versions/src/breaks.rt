@@ -1,14 +1,14 @@
-//! What breaks the compatibility of two versions.
+//! Breaks of the compatibility of two versions.
 
-/// How a newer field fails to keep the older one whose partner it is.
+/// The reason for which a newer field fails to keep its older partner.
 #[derive(Clone, Copy, PartialEq, Eq, Debug)]
 pub enum FieldRule {
-    /// Their values in the union differ, or one alone is a member.
+    /// Their values in the union differ, or only one is a member.
     Value,
     /// One is a slot, the other a group.
     Kind,
-    /// Their types are not related. Both are of enums, in lists of one depth: then the enumerants
-    /// of the older are not the first of the newer's.
+    /// Their types are not related. If both are of enums, in lists of the same depth, the older
+    /// enumerants are not the first of the newer ones.
     Type,
     /// Their types are related, and their places differ.
     Place,
@@ -16,10 +16,10 @@ pub enum FieldRule {
     Default,
 }
 
-/// A rule of compatible versions. Fields are told by their index among the fields of their node.
+/// A rule of compatible versions. Fields are given by their index among the fields of their node.
 #[derive(Clone, Copy, PartialEq, Eq, Debug)]
 pub enum Rule {
-    /// One root is a group, the other is none.
+    /// One root is a group, the other is not.
     Roots,
     /// The newer data section has fewer words.
     Words,
@@ -27,14 +27,14 @@ pub enum Rule {
     Pointers,
     /// The older node has a union, and the newer has none at its place.
     Union,
-    /// The older field has no partner behind the partners of those before it: there is none, or the
-    /// order is another.
+    /// The older field has no partner after the partners of the fields before it: there is no
+    /// partner, or the order differs.
     Missing {
         older: usize,
     },
-    /// The newer field stands before the partner of the older field that is due there, and has the
+    /// The newer field comes before the partner of the older field that is due there, and has the
     /// value of an older member, which a new field must not have. `due` is the index of the older
-    /// field; where none is due it is past the last.
+    /// field; if no field is due, it is past the last.
     Taken {
         due: usize,
         newer: usize,
@@ -50,15 +50,15 @@ pub enum Rule {
 /// A pair of nodes, structs or groups, that break a rule.
 #[derive(Clone, Copy, PartialEq, Eq, Debug)]
 pub struct Break {
-    /// The id of the older node; 0 where the older set has no such struct or group.
+    /// The id of the older node; 0 if the older set has no such struct or group.
     pub older: u64,
-    /// The id of the newer node; 0 where the newer set has no such struct or group.
+    /// The id of the newer node; 0 if the newer set has no such struct or group.
     pub newer: u64,
     /// The rule that they break.
     pub rule: Rule,
 }
 
-/// What is wrong with a newer field where an older one is due.
+/// The fault of a newer field when an older one is due.
 #[derive(Clone, Copy)]
 pub(crate) enum Fault {
     /// It is not the partner of the field that is due, and may not be new.

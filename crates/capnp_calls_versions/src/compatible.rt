@@ -42,14 +42,14 @@ pub(crate) fn versions<'a>(
     })
 }
 
-/// Whether both hold or neither does.
+/// Returns whether both hold or neither holds.
 pub(crate) fn are_alike(older: bool, newer: bool) -> bool
     ensures { result ≡ are_alike older newer }
 {
     if older { newer } else { !newer }
 }
 
-/// The first pair that is reached from the roots and is not kept, and why.
+/// Returns the first pair that is reached from the roots and is not kept, and the reason.
 fn first_broken(
     alloc: Global,
     versions: &Versions<'_>,
@@ -77,11 +77,11 @@ fn first_broken(
     Err(AllocError)
 }
 
-/// The first break of the newer schema's compatibility with the older from the two roots on, where
-/// fields are renamed: `None` exactly where `compatible_with` says yes. A break is at a pair of
-/// structs that is reached from the roots by pairs that are kept, or at a pair of groups of one. It
-/// tells a rule that this pair breaks. Takes the time of `compatible_with`. `OutOfMemory` is the
-/// one error.
+/// Returns the first break of the newer schema's compatibility with the older from the two roots
+/// on, if fields are renamed: `None` exactly if `compatible_with` says yes. A break is at a pair of
+/// structs that is reached from the roots by pairs that are kept, or at a pair of groups of such a
+/// pair. The break has a rule that this pair breaks. It takes the time of `compatible_with`. The
+/// only error is `OutOfMemory`.
 pub fn first_break(
     alloc: Global,
     older: Root<'_>,
@@ -111,12 +111,12 @@ pub fn first_break(
     Ok(first_broken(alloc, &versions, levels, older.id, newer.id)?)
 }
 
-/// Whether the newer schema is compatible with the older from the two roots on, where fields are
-/// renamed. Each older field is kept by its partner, the newer field of its renamed name, and no
-/// two have one partner. Where it says yes, the older record of each value is the older view of its
+/// Returns whether the newer schema is compatible with the older from the two roots on, if fields
+/// are renamed. Each older field is kept by its partner, the newer field of its renamed name, and
+/// no two have the same partner. On a yes, the older record of each value is the older view of its
 /// newer record, each field by its older name. A renaming of a node or field that isn't reached has
-/// no effect. Takes time linear in the pairs of structs that are reached times their fields.
-/// `OutOfMemory` is the one error.
+/// no effect. It takes time linear in the pairs of structs that are reached times their fields. The
+/// only error is `OutOfMemory`.
 pub fn compatible_with(
     alloc: Global,
     older: Root<'_>,
@@ -134,10 +134,10 @@ pub fn compatible_with(
     Ok(first_break(alloc, older, newer, renamings)?.is_none())
 }
 
-/// Whether the newer schema is compatible with the older from the two roots on: whatever is written
-/// under the older reads the same under the newer, field by field. Where it says yes, the older
-/// record of each value is the older view of its newer record. Takes time linear in the pairs of
-/// structs that are reached times their fields. `OutOfMemory` is the one error.
+/// Returns whether the newer schema is compatible with the older from the two roots on: messages
+/// that are written under the older read the same under the newer, field by field. On a yes, the
+/// older record of each value is the older view of its newer record. It takes time linear in the
+/// pairs of structs that are reached times their fields. The only error is `OutOfMemory`.
 pub fn compatible(alloc: Global, older: Root<'_>, newer: Root<'_>) -> Result<bool>
     ensures answer { IfOk result (λ b.
         MatchBool b (AreRootsCompatible older.entry newer.entry)

@@ -8,7 +8,7 @@ ghost use Rattle.capnp_calls_versions.specs.Defaults.{AllBytes, default_value_by
 
 use capnp_records::node::Value;
 
-/// The bits of a plain value, else 0.
+/// Returns the bits of a plain value, otherwise 0.
 fn bits_of(value: &Value) -> u64
     ensures { result ≡ default_bits (Some (value_of value.now)) }
 {
@@ -33,7 +33,7 @@ fn bits_of(value: &Value) -> u64
     }
 }
 
-/// The bytes, each of which is below 256.
+/// Returns the bytes, which are all below 256.
 fn small(bytes: &[u8]) -> &[u8]
     ensures same { result.now ≡ bytes.now }
     ensures small { AreBytes result.now }
@@ -41,7 +41,7 @@ fn small(bytes: &[u8]) -> &[u8]
     bytes
 }
 
-/// The bytes of a text, of data, of a list or of a struct.
+/// Returns the bytes of a text, of data, of a list or of a struct.
 fn bytes_of(value: &Value) -> Option<&[u8]>
     ensures bytes { option_copied result ≡ default_value_bytes (Some (value_of value.now)) }
     ensures small { AllBytes (default_value_bytes (Some (value_of value.now))) }
@@ -98,7 +98,7 @@ fn same_bytes(older: Option<&[u8]>, newer: Option<&[u8]>) -> bool
     }
 }
 
-/// Whether the defaults of related types are equal.
+/// Returns whether the defaults of related types are equal.
 pub(crate) fn same_default(older: &Option<Value>, newer: &Option<Value>) -> bool
     ensures same { result ≡ same_value (option_map value_of older.now)
         (option_map value_of newer.now) }

@@ -15,7 +15,7 @@ use crate::names::Names;
 use crate::nodes::Holder;
 use capnp_records::node::{FieldBody, FieldRecord};
 
-/// The first of two places.
+/// Returns the first of two places.
 fn first_of(a: Option<u16>, b: Option<u16>) -> Option<u16>
     ensures { result ≡ earlier a b }
 {
@@ -28,8 +28,8 @@ fn first_of(a: Option<u16>, b: Option<u16>) -> Option<u16>
     }
 }
 
-/// The first field of an older node whose partner has the name: it is renamed to it, or has it and
-/// keeps it.
+/// Returns the first field of an older node whose partner has the name: the field is renamed to it,
+/// or has it and keeps it.
 fn find_partner<'a>(names: &Names<'_>, node: Holder<'a>, name: &str) -> Option<&'a FieldRecord>
     requires { AreFoundByName node }
     ensures { option_copied result
@@ -50,7 +50,8 @@ fn find_partner<'a>(names: &Names<'_>, node: Holder<'a>, name: &str) -> Option<&
     }
 }
 
-/// Whether the newer group has a field that the older lacks, in it or in a group nested in it.
+/// Returns whether the newer group has a field that the older lacks, in the group itself or in a
+/// group nested in it.
 #[cycle(extended)]
 pub(crate) fn is_extended(versions: &Versions<'_>, levels: Levels, older: u64, newer: u64) -> bool
     ensures { result ≡ is_extended
@@ -69,8 +70,8 @@ pub(crate) fn is_extended(versions: &Versions<'_>, levels: Levels, older: u64, n
     extends_fields(versions, below, a, b.fields)
 }
 
-/// Whether one of the newer fields is lacking among those of an older node, or is an extended
-/// group.
+/// Returns whether one of the newer fields is missing among those of an older node, or is an
+/// extended group.
 #[cycle(extended)]
 fn extends_fields(
     versions: &Versions<'_>,
@@ -96,7 +97,7 @@ fn extends_fields(
     false
 }
 
-/// Whether the newer field is an extended group.
+/// Returns whether the newer field is an extended group.
 #[cycle(extended)]
 fn extends_field(
     versions: &Versions<'_>,

@@ -1,4 +1,4 @@
-//! Whether a newer struct keeps an older one, field by field.
+//! The test whether a newer struct keeps an older one, field by field.
 
 ghost use Rattle.std.specs.Prelude.{◌≡◌, ◌==◌, ◌&&◌, ◌∷◌, true, false, not, nat_le, count_by, string_bytes, is_none, IfOk, IfErr, IfSome, IfNone};
 ghost use Rattle.std.specs.Str.{bytes_eq};
@@ -20,7 +20,7 @@ use crate::types::related;
 use capnp_records::node::{FieldBody, FieldRecord, NO_DISCRIMINANT};
 use std::alloc::AllocError;
 
-/// The nodes of two versions, and the newer names of the older's fields.
+/// The nodes of two versions, and the newer names of the older fields.
 #[derive(Drop)]
 pub(crate) struct Versions<'a> {
     pub(crate) older: Nodes<'a>,
@@ -31,7 +31,7 @@ pub(crate) struct Versions<'a> {
 impl<'a> Versions<'a> {
     ghost use Rattle.capnp_calls_versions.specs.Walks.{AreEnough};
 
-    /// Enough levels for all groups.
+    /// Returns enough levels for all groups.
     pub(crate) fn levels(&self) -> Levels
         ensures { AreEnough self.now result }
     {
@@ -42,14 +42,14 @@ impl<'a> Versions<'a> {
     }
 }
 
-/// How many levels of groups are left in each version.
+/// The number of levels of groups that are left in each version.
 #[derive(Clone, Copy)]
 pub(crate) struct Levels {
     pub(crate) older: usize,
     pub(crate) newer: usize,
 }
 
-/// How many fields are union members.
+/// Returns the number of fields that are union members.
 fn member_count(fields: &[FieldRecord]) -> usize
     ensures { result ≡ count_by (λ f. not (f.discriminant_value == 65535)) fields.now }
 {
@@ -59,7 +59,7 @@ fn member_count(fields: &[FieldRecord]) -> usize
         .count()
 }
 
-/// Whether a field may be new where the older union has n members.
+/// Returns whether a field may be new if the older union has n members.
 #[tactic(auto, using(crate::proofs::Slots::new_members))]
 fn is_new(count: usize, field: &FieldRecord) -> bool
     ensures { result ≡ is_new count (member_of field.now.discriminant_value) }
@@ -67,7 +67,7 @@ fn is_new(count: usize, field: &FieldRecord) -> bool
     field.discriminant_value == NO_DISCRIMINANT || count <= usize::from(field.discriminant_value)
 }
 
-/// Whether an older union keeps its discriminant's place.
+/// Returns whether an older union keeps its discriminant's place.
 fn keeps_union(older: Option<u64>, newer: Option<u64>) -> bool
     ensures { result ≡ keeps_union older newer }
 {
@@ -80,7 +80,7 @@ fn keeps_union(older: Option<u64>, newer: Option<u64>) -> bool
     }
 }
 
-/// The rule of sections or of unions that the newer breaks.
+/// Returns the rule of sections or of unions that the newer node breaks.
 fn broken_sections(older: Holder<'_>, newer: Holder<'_>) -> Option<Rule>
     ensures room { is_none result ≡ has_room older.entry newer.entry }
     ensures rule { IfSome result (BreaksSections older.entry newer.entry) }
@@ -97,7 +97,7 @@ fn broken_sections(older: Holder<'_>, newer: Holder<'_>) -> Option<Rule>
     None
 }
 
-/// The first of a node's fields, where its partner has the name, and those behind it.
+/// Returns the first of a node's fields, if its partner has the name, and the later fields.
 fn partner<'f>(
     names: &Names<'_>,
     node: u64,
@@ -120,16 +120,16 @@ fn partner<'f>(
     Some((first, others))
 }
 
-/// Whether a field has the name.
+/// Returns whether a field has the name.
 fn has_name(fields: &[FieldRecord], name: &str) -> bool
     ensures { result ≡ list_any (λ f. bytes_eq name.now (string_bytes f.name)) fields.now }
 {
     fields.iter().any(|field| name == field.name.as_str())
 }
 
-/// The rule that is broken where these older fields are due and the first of these newer ones, at
-/// the index `at`, may not be new. The first of the older, at the index `due`, is missing, or has
-/// its partner further on.
+/// Returns the rule that is broken if these older fields are due and the first of these newer ones,
+/// at the index `at`, may not be new. The first of the older, at the index `due`, is missing, or
+/// has its partner further on.
 fn taken_rule(
     names: &Names<'_>,
     node: u64,
@@ -150,7 +150,7 @@ fn taken_rule(
     }
 }
 
-/// The break that a fault is between two nodes, where these older fields are due and these newer
+/// Returns the break of a fault between two nodes, if these older fields are due and these newer
 /// ones are left, from the indices `due` and `at` on.
 fn break_of(
     names: &Names<'_>,
@@ -177,8 +177,8 @@ fn break_of(
     Break { older, newer, rule }
 }
 
-/// What breaks between an older struct or group and a newer, each of an id, where the structs that
-/// they name are kept; these pairs are reached.
+/// Returns the break between an older struct or group and a newer, each of an id, if the structs
+/// that they name are kept; these pairs are reached.
 #[cycle(keeps)]
 pub(crate) fn keeps(
     versions: &Versions<'_>,
@@ -212,8 +212,8 @@ pub(crate) fn keeps(
     keeps_fields(versions, below, a.id, b.id, a.fields, b.fields, reached)
 }
 
-/// What breaks between the fields of an older node, which have to stand in the newer's order, each
-/// kept, and the newer's.
+/// Returns the break between the fields of an older node and the newer fields. Each older field has
+/// to be kept, in the newer order.
 #[cycle(keeps)]
 fn keeps_fields(
     versions: &Versions<'_>,
@@ -264,8 +264,8 @@ fn keeps_fields(
     }))
 }
 
-/// What is left of the older fields behind a newer one, which keeps the first of them or is new;
-/// else its fault.
+/// Returns the older fields that are left after a newer field, which keeps the first of them or is
+/// new; otherwise its fault.
 #[cycle(keeps)]
 fn keeps_next<'f>(
     versions: &Versions<'_>,
@@ -300,8 +300,8 @@ fn keeps_next<'f>(
     Ok(Ok(others))
 }
 
-/// Why the newer field does not keep the older: its value in the union, its place, its type or its
-/// default.
+/// Returns the reason for which the newer field does not keep the older: its value in the union,
+/// its place, its type or its default.
 #[cycle(keeps)]
 fn keeps_field(
     versions: &Versions<'_>,
@@ -329,7 +329,7 @@ fn keeps_field(
     keeps_body(versions, levels, &older.body, &newer.body, reached)
 }
 
-/// Why the newer slot or group does not keep the older.
+/// Returns the reason for which the newer slot or group does not keep the older.
 #[cycle(keeps)]
 fn keeps_body(
     versions: &Versions<'_>,

@@ -1,5 +1,5 @@
-//! Versions of schemas: whether a newer schema keeps an older one, and which calls under the older
-//! may be answered under the newer.
+//! Versions of schemas: the tests whether a newer schema keeps an older one, and whether calls
+//! under the older schema may be answered under the newer.
 #![tactic(auto)]
 
 pub mod admitted;

@@ -28,7 +28,7 @@ impl<'a> Names<'a> {
     ghost use Rattle.capnp_calls_versions.specs.Renamings.{is_to};
     ghost use Rattle.capnp_calls_versions.specs.Renamed.{names_in, renamings_of};
 
-    /// The names that renamings give.
+    /// Collects the names that renamings give.
     pub(crate) fn new(alloc: Global, renamings: &'a Renamings) -> Result<Names<'a>, AllocError>
         ensures { IfOk result (λ ns. names_in ns ≡ renamings_of renamings.now) }
     {
@@ -51,7 +51,7 @@ impl<'a> Names<'a> {
         })
     }
 
-    /// The name of the partner of an older node's field.
+    /// Returns the name of the partner of an older node's field.
     pub(crate) fn partner<'s>(&'s self, node: u64, name: &'s str) -> &'s str
         ensures { result.now ≡ partner_name (names_in self.now) node name.now }
     {
@@ -61,7 +61,7 @@ impl<'a> Names<'a> {
         }
     }
 
-    /// The older name of the field of an older node to which a renaming gives the name.
+    /// Returns the older name of the field of an older node to which a renaming gives the name.
     pub(crate) fn older(&self, node: u64, name: &str) -> Option<&'a str>
         ensures { option_map (λ s. s.now) result
             ≡ option_map (λ (r : ModelRenaming). r.older)

@@ -1,4 +1,4 @@
-//! What a schema set says at an id.
+//! The nodes of a schema set by their ids.
 
 ghost use Rattle.std.specs.Prelude.{◌≡◌, ℕ, true, map};
 ghost use Rattle.capnp_model.specs.Schemas.{Shape};
@@ -16,7 +16,8 @@ pub(crate) struct Nodes<'a> {
     set: &'a SchemaSet,
 }
 
-/// What a struct or a group says: its sections, the first bit of its discriminant, and its fields.
+/// The parts of a struct or a group: its sections, the first bit of its discriminant, and its
+/// fields.
 #[derive(Clone, Copy)]
 pub(crate) struct Holder<'a> {
     pub(crate) id: u64,
@@ -28,7 +29,7 @@ pub(crate) struct Holder<'a> {
     by_name: &'a [u16],
 }
 
-/// What an id says that names no struct.
+/// Returns the parts of an id that doesn't name a struct.
 fn nothing() -> Holder<'static>
     ensures shape { (groups : ℕ → Shape) → shape_by groups result ≡ no_shape }
     ensures sound { are_sound result.fields.now ≡ true }
@@ -44,7 +45,7 @@ fn nothing() -> Holder<'static>
     }
 }
 
-/// The first bit of the discriminant, if there is a union.
+/// Returns the first bit of the discriminant, if there is a union.
 fn union_place(record: &StructRecord) -> Option<u64>
     ensures { result ≡ union_place (struct_of record.now) }
 {
@@ -62,7 +63,7 @@ impl<'a> Holder<'a> {
     ghost use Rattle.capnp_calls_versions.specs.Holders.{AreFoundByName};
     ghost use Rattle.capnp_calls_versions.specs.Ways.{first_named};
 
-    /// The place of the field of a name.
+    /// Returns the place of the field of a name.
     pub(crate) fn place(&self, name: &str) -> Option<u16>
         requires { AreFoundByName self.now }
         ensures { result ≡ place_named name.now 0 (map field_of self.now.fields.now) }
@@ -70,7 +71,7 @@ impl<'a> Holder<'a> {
         place_of(self.fields, self.by_name, name).0
     }
 
-    /// The place of the field of a name, which may be known: then no name is compared.
+    /// Returns the place of the field of a name. If the place is known, no name is compared.
     fn known_or_found(&self, name: &str, known: Option<Option<u16>>) -> Option<u16>
         requires named { AreFoundByName self.now }
         requires known { IfSome known
@@ -83,7 +84,7 @@ impl<'a> Holder<'a> {
         }
     }
 
-    /// The field of a name, whose place may be known.
+    /// Returns the field of a name, whose place may be known.
     pub(crate) fn field(&self, name: &str, known: Option<Option<u16>>) -> Option<&'a FieldRecord>
         requires named { AreFoundByName self.now }
         requires known { IfSome known
@@ -104,21 +105,21 @@ impl<'a> Nodes<'a> {
     ghost use Rattle.capnp_records.specs.Sets.{nodes_of};
     ghost use Rattle.capnp_calls_versions.specs.Holders.{held_nodes, held_schema, shape_by, are_sound, AreFoundByName};
 
-    /// The nodes of a set.
+    /// Makes the nodes of a set.
     pub(crate) fn new(set: &'a SchemaSet) -> Nodes<'a>
         ensures { held_nodes result ≡ nodes_of set.now }
     {
         Nodes { set }
     }
 
-    /// How many levels of groups there are at most.
+    /// Returns the most levels of groups.
     pub(crate) fn levels(&self) -> usize
         ensures { result ≡ length (held_nodes self.now) }
     {
         self.set.nodes().len()
     }
 
-    /// What the struct or the group of an id says, at n levels of groups.
+    /// Returns the parts of the struct or the group of an id, at n levels of groups.
     pub(crate) fn holder(&self, levels: usize, id: u64) -> Holder<'a>
         ensures shape { shape_in (held_nodes self.now) levels id
             ≡ shape_by (λ g. shape_in (held_nodes self.now) (levels - 1) g) result }
@@ -142,7 +143,7 @@ impl<'a> Nodes<'a> {
         }
     }
 
-    /// The enumerants of the enum of an id.
+    /// Returns the enumerants of the enum of an id.
     pub(crate) fn enumerants(&self, id: u64) -> &'a [EnumerantRecord]
         ensures { map (λ e. e.name) (map enumerant_of result.now)
             ≡ (held_schema self.now).names_of id }
@@ -153,7 +154,7 @@ impl<'a> Nodes<'a> {
         }
     }
 
-    /// Whether the id is a group's.
+    /// Returns whether the id is a group's.
     pub(crate) fn is_group(&self, id: u64) -> bool
         ensures { result ≡ (held_schema self.now).is_group id }
     {

@@ -23,7 +23,7 @@ impl Reached {
     ghost use Rattle.capnp_model.specs.Compatible.{Pairs, has_pair, same_names};
     ghost use Rattle.capnp_calls_versions.specs.Pairs.{has_each, pairs_of, IsSound, IsFront};
 
-    /// None is reached.
+    /// Makes an empty set of pairs.
     pub(crate) fn new(alloc: Global) -> Reached
         ensures none { pairs_of result ≡ [] }
         ensures sound { (o n : Schema) → IsSound o n result }
@@ -71,14 +71,14 @@ impl Reached {
         Err(AllocError)
     }
 
-    /// The pair of structs of a number, in the order in which they were reached.
+    /// Returns the pair of structs of a number, in the order in which they were reached.
     pub(crate) fn pair(&self, i: usize) -> Option<(u64, u64)>
         ensures { result ≡ slice_get (pairs_of self.now) i }
     {
         self.pairs.get(i).copied()
     }
 
-    /// Whether the pair of enums is known to be related.
+    /// Returns whether the pair of enums is known to be related.
     pub(crate) fn knows(&self, older: u64, newer: u64) -> bool
         ensures { (o n : Schema) → IsSound o n self.now → result ≡ true
             → same_names (o.names_of older) (n.names_of newer) ≡ true }
@@ -86,7 +86,7 @@ impl Reached {
         self.related.contains(&(older, newer))
     }
 
-    /// Knows that the pair of enums is related.
+    /// Records that the pair of enums is related.
     pub(crate) fn know(&mut self, older: u64, newer: u64) -> Result<(), AllocError>
         ensures pairs { IfOk result (λ _. pairs_of self.new ≡ pairs_of self.old) }
         ensures sound { IfOk result (λ _.
@@ -98,7 +98,7 @@ impl Reached {
     }
 }
 
-/// Whether the names of the older are the beginning of the newer's.
+/// Returns whether the older names are the beginning of the newer names.
 pub(crate) fn same_names(older: &[EnumerantRecord], newer: &[EnumerantRecord]) -> bool
     ensures { result ≡ same_names (map (λ e. e.name) (map enumerant_of older.now))
         (map (λ e. e.name) (map enumerant_of newer.now)) }

@@ -8,7 +8,7 @@ ghost use Rattle.capnp_calls_versions.specs.Renamings.{renaming_of, name_in, key
 use std::alloc::{AllocError, Global};
 use std::collections::HashSet;
 
-/// A field of an older schema that a newer one has by another name.
+/// A field of an older schema that has another name in a newer one.
 #[derive(Debug, Drop)]
 pub struct Renaming {
     /// The id of the older node that has the field.
@@ -19,7 +19,7 @@ pub struct Renaming {
     pub newer: String,
 }
 
-/// Why renamings are refused.
+/// The reason for which renamings are refused.
 #[derive(Clone, Copy, Debug, PartialEq, Eq, thiserror::Error)]
 pub enum RenamingFault {
     /// Two renamings of one node have the same older or the same newer name.
@@ -47,7 +47,7 @@ enum Version {
     Newer,
 }
 
-/// The name of the field in a version.
+/// Returns the name of the field in a version.
 fn name_in(renaming: &Renaming, version: Version) -> &str
     ensures { result.now ≡ name_in version renaming.now }
 {
@@ -57,7 +57,7 @@ fn name_in(renaming: &Renaming, version: Version) -> &str
     }
 }
 
-/// Whether no two renamings of one node have the same name in a version.
+/// Returns whether all renamings of one node have distinct names in a version.
 fn are_apart(alloc: Global, list: &[Renaming], version: Version) -> Result<bool, AllocError>
     ensures { IfOk result (λ b. b ≡ are_distinct_names (map (key_in version) list.now)) }
 {
@@ -73,7 +73,7 @@ fn are_apart(alloc: Global, list: &[Renaming], version: Version) -> Result<bool,
     Ok(true)
 }
 
-/// Renamings, of which no two of one node have the same older or the same newer name.
+/// Renamings whose older names are distinct in each node, and whose newer names are too.
 #[derive(Debug, Drop)]
 pub struct Renamings {
     list: Vec<Renaming>,
@@ -85,8 +85,8 @@ impl Renamings {
     ghost use Rattle.capnp_model.specs.Partners.{are_one_to_one};
     ghost use Rattle.capnp_calls_versions.specs.Renamed.{renamings_of, IsRenamingRefusal};
 
-    /// The renamings of a list. `Twice`: two of one node have the same older or the same newer
-    /// name.
+    /// Makes the renamings of a list. `Twice`: two renamings of one node have the same older or the
+    /// same newer name.
     pub fn new(list: Vec<Renaming>) -> Result<Renamings, RenamingFault>
         ensures list { IfOk result (λ rs. renamings_of rs ≡ map renaming_of list.items) }
         ensures distinct { IfOk result (λ rs. are_one_to_one (renamings_of rs) ≡ true) }
@@ -102,7 +102,7 @@ impl Renamings {
         Ok(Renamings { list })
     }
 
-    /// No field is renamed.
+    /// Makes an empty list: no field is renamed.
     pub fn none(alloc: Global) -> Renamings
         ensures { renamings_of result ≡ [] }
     {
@@ -111,7 +111,7 @@ impl Renamings {
         }
     }
 
-    /// The renamings, in the order in which they were given.
+    /// Returns the renamings, in the order in which they were given.
     pub fn list(&self) -> &[Renaming]
         ensures { map renaming_of result.now ≡ renamings_of self.now }
     {

@@ -1,4 +1,4 @@
-//! Where a version of a schema begins.
+//! The struct at which a version of a schema begins.
 ghost use Rattle.std.specs.Prelude.{◌≡◌};
 ghost use Rattle.capnp_records.specs.Sets.{nodes_of};
 ghost use Rattle.capnp_values_queries.specs.Structs.{nodes_around, id_of};
@@ -14,7 +14,7 @@ pub struct Root<'a> {
 }
 
 impl<'a> Root<'a> {
-    /// The struct of a schema.
+    /// Makes the root of the struct of a schema.
     pub fn of(schema: StructSchema<'a>) -> Root<'a>
         ensures set { nodes_of result.set.now ≡ nodes_around schema.entry }
         ensures id { result.id ≡ id_of schema.entry }

@@ -1,4 +1,4 @@
-//! Related types: equal but for enums and structs, which are versions of one another.
+//! Related types: equal except for enums and structs, which are versions of one another.
 
 ghost use Rattle.std.specs.Prelude.{◌≡◌, false, ◌==◌, ◌&&◌, IfOk};
 ghost use Rattle.capnp_model.specs.Schemas.{base_type, type_of};
@@ -14,7 +14,7 @@ use crate::reached::{Reached, same_names};
 use capnp_records::node::{BaseType, TypeRecord};
 use std::alloc::AllocError;
 
-/// The sort of a base and the bits of its numbers.
+/// Returns the sort of a base and the bits of its numbers.
 fn sort_of(base: BaseType) -> (u8, u8)
     ensures { result ≡ (sort (base_type (base_of base)), bits (base_type (base_of base))) }
 {
@@ -38,7 +38,7 @@ fn sort_of(base: BaseType) -> (u8, u8)
     }
 }
 
-/// Whether bases are of one sort, their numbers of the same bits.
+/// Returns whether bases are of one sort, and their numbers have the same bits.
 fn same_sort(older: BaseType, newer: BaseType) -> bool
     ensures { result ≡ (sort (base_type (base_of older)) == sort (base_type (base_of newer)) &&
         bits (base_type (base_of older)) == bits (base_type (base_of newer))) }
@@ -48,7 +48,7 @@ fn same_sort(older: BaseType, newer: BaseType) -> bool
     sort == other_sort && bits == other_bits
 }
 
-/// The id of an enum's or a struct's node, else 0.
+/// Returns the id of an enum's or a struct's node, otherwise 0.
 fn id_of(base: BaseType) -> u64
     ensures { result ≡ id_in (base_type (base_of base)) }
 {
@@ -58,7 +58,7 @@ fn id_of(base: BaseType) -> u64
     }
 }
 
-/// Whether the names of the older enum are the beginning of the newer's.
+/// Returns whether the names of the older enum are the beginning of the newer names.
 fn related_enums(
     versions: &Versions<'_>,
     older: u64,
@@ -87,7 +87,7 @@ fn related_enums(
     Ok(true)
 }
 
-/// Whether bases are related where the structs that they name are; this pair is reached.
+/// Returns whether bases are related if the structs that they name are; this pair is reached.
 fn related_bases(
     versions: &Versions<'_>,
     older: BaseType,
@@ -131,7 +131,7 @@ fn related_bases(
     }
 }
 
-/// Whether types are related where the structs that they name are; this pair is reached.
+/// Returns whether types are related if the structs that they name are; this pair is reached.
 pub(crate) fn related(
     versions: &Versions<'_>,
     older: TypeRecord,

@@ -1,5 +1,5 @@
-//! The relay layer under one name: calls and what they reply, versions of schemas, the relay in
-//! both its forms, shown messages, and the program with its files.
+//! The relay layer under one name: calls and their replies, versions of schemas, the relay in both
+//! its forms, shown messages, and the program with its files.
 #![tactic(auto)]
 
 pub mod laws;

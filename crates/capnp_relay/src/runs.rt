@@ -1,4 +1,4 @@
-//! Calls in turn at a record.
+//! Sequences of calls at a record.
 ghost use Rattle.std.specs.Prelude.{◌≡◌, map, IfOk, IfErr};
 ghost use Rattle.capnp_copy_arenas.specs.Deep.{IsDeep};
 ghost use Rattle.capnp_copy_arenas.specs.Refusals.{IsSizeOrRefusal};
@@ -20,14 +20,14 @@ use capnp_units::errors::{Error, Result};
 use capnp_units::kinds::ErrorKind;
 use std::alloc::Global;
 
-/// Answers calls in turn at a struct. Each is tested whole on what the struct reads as, then
-/// written; one that is refused changes nothing, and doesn't stop the next. The handle stays where
-/// it was.
+/// Answers calls in order at a struct. Each call is tested whole on the reading of the struct, then
+/// written. A call that is refused changes nothing, and doesn't stop the next call. The handle
+/// stays at its place.
 ///
-/// It is refused, and the calls before it are written then,
-/// - with `SizeOverflow` where a call puts a text or data of 2^29 bytes or more, its last zero
-///   counted, or a list of structs of 2^29 words or more;
-/// - else with `OutOfMemory`, or as the allocator refuses.
+/// It is refused, and then the earlier calls are written,
+/// - with `SizeOverflow` if a call makes a text or data of 2^29 bytes or more, including the last
+///   zero, or a list of structs of 2^29 words or more;
+/// - otherwise with `OutOfMemory`, or with the allocator's error.
 pub fn run<A: BuilderArena>(
     alloc: Global,
     root: &mut dynamic_struct::Builder<'_, A>,

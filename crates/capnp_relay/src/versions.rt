@@ -19,7 +19,7 @@ use capnp_units::errors::Result;
 use capnp_values_queries::structs::StructSchema;
 use std::alloc::Global;
 
-/// Where a version begins.
+/// Returns the root of a version.
 fn root_of(schema: StructSchema<'_>) -> Root<'_>
     ensures set { nodes_of result.set.now ≡ nodes_around schema.entry }
     ensures id { result.id ≡ id_of schema.entry }
@@ -30,10 +30,11 @@ fn root_of(schema: StructSchema<'_>) -> Root<'_>
     }
 }
 
-/// Whether the newer schema is compatible with the older: whatever is written under the older reads
-/// the same under the newer, field by field. Where it says yes, the older record of each value is
-/// the older view of its newer record. Takes time linear in the pairs of structs that are reached
-/// times their fields. `OutOfMemory` is the one error. (Schema language, "Evolving Your Protocol")
+/// Returns whether the newer schema is compatible with the older: messages that are written under
+/// the older read the same under the newer, field by field. On a yes, the older record of each
+/// value is the older view of its newer record. It takes time linear in the pairs of structs that
+/// are reached times their fields. The only error is `OutOfMemory`. (Schema language, "Evolving
+/// Your Protocol")
 pub fn compatible(alloc: Global, older: StructSchema<'_>, newer: StructSchema<'_>) -> Result<bool>
     ensures answer { IfOk result (λ b. MatchBool b (AreVersions older.entry newer.entry)
         (AreVersions older.entry newer.entry → ⊥)) }
@@ -43,9 +44,9 @@ pub fn compatible(alloc: Global, older: StructSchema<'_>, newer: StructSchema<'_
     versions::compatible(alloc, root_of(older), root_of(newer))
 }
 
-/// As `compatible`, where fields are renamed: each older field is kept by its partner, the newer
-/// field of its renamed name, and no two have one partner. A renaming of a node or field that isn't
-/// reached has no effect.
+/// Answers like `compatible`, if fields are renamed: each older field is kept by its partner, the
+/// newer field of its renamed name, and no two have the same partner. A renaming of a node or field
+/// that isn't reached has no effect.
 pub fn compatible_with(
     alloc: Global,
     older: StructSchema<'_>,
@@ -62,9 +63,9 @@ pub fn compatible_with(
     versions::compatible_with(alloc, root_of(older), root_of(newer), renamings)
 }
 
-/// What breaks first where `compatible_with` says no, and `None` where it says yes. It is two nodes
-/// that are reached, a struct or a group of each schema, and a rule that they break. Fields are
-/// told by their index among those of their node. `OutOfMemory` is the one error.
+/// Returns the first break if `compatible_with` says no, and `None` if it says yes. A break has two
+/// nodes that are reached, a struct or a group of each schema, and a rule that they break. Fields
+/// are given by their index among those of their node. The only error is `OutOfMemory`.
 pub fn first_break(
     alloc: Global,
     older: StructSchema<'_>,
@@ -81,9 +82,9 @@ pub fn first_break(
     versions::first_break(alloc, root_of(older), root_of(newer), renamings)
 }
 
-/// The first break of each pair of structs that is reached by pairs that are kept and is not kept
-/// itself, in the order in which they are reached. There is none where `compatible_with` says yes.
-/// `OutOfMemory` is the one error.
+/// Returns the first break of each pair of structs that is reached by pairs that are kept and is
+/// not kept itself, in the order in which they are reached. There is no break if `compatible_with`
+/// says yes. The only error is `OutOfMemory`.
 pub fn all_breaks(
     alloc: Global,
     older: StructSchema<'_>,
@@ -101,11 +102,11 @@ pub fn all_breaks(
     breaks::all_breaks(alloc, root_of(older), root_of(newer), renamings)
 }
 
-/// Whether each call under the older schema is admitted beside the newer, else which is the first
-/// that isn't, counted from 1. A call that is admitted goes by fields that the older has, writes no
-/// group as a whole that the newer extends, and sets no list element of struct type. Takes time
-/// linear in the steps of the calls times the fields of the structs on their ways, and of the
-/// groups that they write. `OutOfMemory` is the one error.
+/// Returns whether each call under the older schema is admitted beside the newer, otherwise the
+/// first call that isn't, counted from 1. A call that is admitted uses fields that the older schema
+/// has, writes no whole group that the newer schema extends, and sets no list element of struct
+/// type. It takes time linear in the steps of the calls times the fields of the structs on their
+/// ways, and of the groups that they write. The only error is `OutOfMemory`.
 pub fn admitted(
     alloc: Global,
     calls: &[Call],
@@ -119,7 +120,7 @@ pub fn admitted(
     admissions::admitted(alloc, calls, root_of(older), root_of(newer))
 }
 
-/// As `admitted`, where fields are renamed; calls keep the older names.
+/// Answers like `admitted`, if fields are renamed; calls keep the older names.
 pub fn admitted_with(
     alloc: Global,
     calls: &[Call],

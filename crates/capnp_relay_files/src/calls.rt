@@ -14,10 +14,10 @@ use capnp_calls::{CallValue, Step, Verb};
 use serde_json::{Number, Value as Json};
 use std::alloc::Global;
 
-/// What a call is made of: its path, what is done at its end, and what is set.
+/// The parts of a call: its path, its verb, and the value that it sets.
 pub type CallParts = (Vec<Step>, Verb, Option<CallValue>);
 
-/// A step: a name, or an index.
+/// Returns a step: a name, or an index.
 fn step_of(alloc: Global, json: &Json) -> Result<Step, FileFault>
     ensures ok { IfOk result (λ s. step_in (view json.now) ≡ Some (step_view s)) }
     ensures refused { IfErr result (IsFileRefusal (step_in (view json.now))) }
@@ -45,7 +45,7 @@ fn path_of(alloc: Global, items: &[Json]) -> Result<Vec<Step>, FileFault>
     Ok(path)
 }
 
-/// The verb of a name that has no size.
+/// Returns the verb of a name that has no size.
 fn verb_named(name: &str) -> Option<Verb>
     ensures { result ≡ find_named name.now named_verbs }
 {
@@ -58,7 +58,7 @@ fn verb_named(name: &str) -> Option<Verb>
     }
 }
 
-/// A verb; `initn` and no other has a size.
+/// Returns a verb; only `initn` has a size.
 fn verb_by(name: &str, json: &Json) -> Option<Verb>
     ensures { result ≡ verb_by name.now (view json.now) }
 {
@@ -73,7 +73,7 @@ fn verb_by(name: &str, json: &Json) -> Option<Verb>
     }
 }
 
-/// What stands under the one key of a value.
+/// Returns the value of the one key of a value's object.
 fn value_by(alloc: Global, key: &str, json: &Json) -> Result<CallValue, FileFault>
     ensures ok { IfOk result (λ v. given_by key.now (view json.now) ≡ Some (given_of v)) }
     ensures refused { IfErr result (IsFileRefusal (given_by key.now (view json.now))) }
@@ -98,7 +98,7 @@ fn value_by(alloc: Global, key: &str, json: &Json) -> Result<CallValue, FileFaul
     }
 }
 
-/// A value: an object with one key.
+/// Returns a value: an object with one key.
 fn value_of(alloc: Global, json: &Json) -> Result<CallValue, FileFault>
     ensures ok { IfOk result (λ v. given_in (view json.now) ≡ Some (given_of v)) }
     ensures refused { IfErr result (IsFileRefusal (given_in (view json.now))) }
@@ -108,7 +108,7 @@ fn value_of(alloc: Global, json: &Json) -> Result<CallValue, FileFault>
     value_by(alloc, key, value)
 }
 
-/// The value of a call, which may be absent.
+/// Returns the value of a call, which may be absent.
 fn value_of_call(alloc: Global, json: &Json) -> Result<Option<CallValue>, FileFault>
     ensures ok { IfOk result (λ v. value_of_call (view json.now) ≡ Some (option_map given_of v)) }
     ensures refused { IfErr result (IsFileRefusal (value_of_call (view json.now))) }
@@ -141,7 +141,7 @@ fn call_of(alloc: Global, json: &Json) -> Result<CallParts, FileFault>
     Ok((path, verb, value))
 }
 
-/// The calls of an array.
+/// Returns the calls of an array.
 pub(crate) fn calls_of(alloc: Global, items: &[Json]) -> Result<Vec<CallParts>, FileFault>
     ensures ok { IfOk result (λ v. each_item call_in (items_view items.now)
         ≡ Some (map parts_of v.items)) }

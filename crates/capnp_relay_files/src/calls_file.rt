@@ -12,18 +12,18 @@ use crate::json::{items_at, number_or, value_in, with_keys};
 use serde_json::Value as Json;
 use std::alloc::Global;
 
-/// What a calls file says.
+/// The contents of a calls file.
 #[derive(Debug, Drop)]
 pub struct CallsFile {
-    /// For each call what `Call::new` takes.
+    /// The arguments of `Call::new` for each call.
     pub calls: Vec<CallParts>,
-    /// How many words a message may have.
+    /// The most words that a message may have.
     pub words: usize,
-    /// How deep a message may be nested.
+    /// The most levels that a message may have.
     pub nesting: i32,
 }
 
-/// How deep messages may be nested; 64 where nothing is said.
+/// Returns the most levels of messages; 64 if the file has no such key.
 fn nesting_of(json: &Json) -> Option<i32>
     ensures { result ≡ nesting_in (view json.now) }
 {
@@ -58,10 +58,10 @@ fn file_of(alloc: Global, json: &Json) -> Result<CallsFile, FileFault>
     })
 }
 
-/// The calls of a calls file, in their order, and the limits of messages: 8,388,608 words and a
-/// nesting of 64 where the file doesn't say other ones. It is refused with `Form` exactly where the
-/// text is no JSON or has another form, and with `Memory` where memory is wanting. Which calls are
-/// refused `Call::new` decides.
+/// Reads a calls file: its calls, in order, and the limits of messages. The limits are 8,388,608
+/// words and a nesting of 64 if the file doesn't have others. It is refused with `Form` exactly if
+/// the text is not JSON or has another form, and with `Memory` if memory is lacking. `Call::new`
+/// decides which calls are refused.
 pub fn calls_file(alloc: Global, bytes: &[u8]) -> Result<CallsFile, FileFault>
     ensures ok { IfOk result (λ f. calls_in bytes.now ≡ Some (file_of f)) }
     ensures refused { IfErr result (IsFileRefusal (calls_in bytes.now)) }

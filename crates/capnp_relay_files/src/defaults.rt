@@ -13,7 +13,7 @@ use capnp_records::node::{BaseType, TypeRecord, Value};
 use serde_json::Value as Json;
 use std::alloc::Global;
 
-/// The default of a slot of numbers, bools or enumerants; none of another.
+/// Returns the default of a slot of numbers, bools or enumerants; `None` for another slot.
 fn plain_default(base: BaseType, json: &Json) -> Option<Value>
     ensures { option_map value_of result ≡ plain_default (base_of base) (view json.now) }
 {
@@ -39,7 +39,7 @@ fn plain_default(base: BaseType, json: &Json) -> Option<Value>
     }
 }
 
-/// The default of a slot of a base.
+/// Returns the default of a slot of a base.
 fn base_default(alloc: Global, base: BaseType, json: &Json) -> Result<Value, FileFault>
     ensures ok { IfOk result (λ v. base_default (base_of base) (view json.now)
         ≡ Some (value_of v)) }
@@ -70,7 +70,7 @@ fn base_default(alloc: Global, base: BaseType, json: &Json) -> Result<Value, Fil
     }
 }
 
-/// The default that the file gives to a slot of a type.
+/// Returns the default that the file gives to a slot of a type.
 fn default_in(alloc: Global, ty: TypeRecord, json: &Json) -> Result<Value, FileFault>
     ensures ok { IfOk result (λ v. default_in_file (type_record_of ty) (view json.now)
         ≡ Some (value_of v)) }
@@ -84,8 +84,8 @@ fn default_in(alloc: Global, ty: TypeRecord, json: &Json) -> Result<Value, FileF
     }
 }
 
-/// What a slot has where the file gives no default: nothing or zero in a plain one, none in
-/// another.
+/// Returns the default of a slot for which the file gives no default: nothing or zero for a plain
+/// slot, `None` for another.
 fn absent_default(ty: TypeRecord) -> Option<Value>
     ensures { option_map value_of result ≡ absent_default (type_record_of ty) }
 {
@@ -108,7 +108,7 @@ fn absent_default(ty: TypeRecord) -> Option<Value>
     }
 }
 
-/// The default of a slot.
+/// Returns the default of a slot.
 pub(crate) fn slot_default(
     alloc: Global,
     ty: TypeRecord,

@@ -1,8 +1,8 @@
-//! Why a file is refused.
+//! The reasons for which a file is refused.
 
 use std::alloc::{AllocError, AllocFailed};
 
-/// Why a file is refused.
+/// The reason for which a file is refused.
 #[derive(Clone, Copy, Debug, PartialEq, Eq, thiserror::Error)]
 pub enum FileFault {
     #[error("no file of this form")]

@@ -14,7 +14,7 @@ use capnp_records::node::{FieldBody, FieldRecord, NO_DISCRIMINANT};
 use serde_json::Value as Json;
 use std::alloc::Global;
 
-/// The discriminant value of a field, which has none where the key is absent.
+/// Returns the discriminant value of a field, if the field has that key.
 fn discriminant_of(json: &Json) -> Option<u16>
     ensures { option_map member_of result ≡ member_in (view json.now) }
 {
@@ -76,7 +76,7 @@ fn group_of(alloc: Global, json: &Json) -> Result<FieldRecord, FileFault>
     })
 }
 
-/// A field: a group where it has that key, else a slot.
+/// Returns a field: a group if it has that key, otherwise a slot.
 pub(crate) fn field_of(alloc: Global, json: &Json) -> Result<FieldRecord, FileFault>
     ensures ok { IfOk result (λ f. field_in (view json.now) ≡ Some (field_of f)) }
     ensures refused { IfErr result (IsFileRefusal (field_in (view json.now))) }

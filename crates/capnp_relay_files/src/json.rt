@@ -1,4 +1,4 @@
-//! Looking into JSON values that have a form.
+//! Reading of JSON values that have a form.
 
 ghost use Rattle.std.specs.Prelude.{◌≡◌, option_map, option_and_then, map, Some, IfOk, IfErr};
 ghost use Rattle.std.specs.List.{list_any};
@@ -13,7 +13,7 @@ use hex::FromHexError;
 use serde_json::{Map, Value as Json};
 use std::alloc::Global;
 
-/// The value that a file's bytes spell.
+/// Returns the value that a file's bytes spell.
 pub(crate) fn value_in(alloc: Global, bytes: &[u8]) -> Result<Json, FileFault>
     ensures ok { IfOk result (λ json. json_value_in bytes.now ≡ Some (view json)) }
     ensures refused { IfErr result (IsFileRefusal (json_value_in bytes.now)) }
@@ -54,7 +54,7 @@ fn has_only(members: &Map<String, Json>, keys: &[&str]) -> bool
     true
 }
 
-/// The value, where it is an object without other keys than these.
+/// Returns the value, if it is an object without other keys than these.
 pub(crate) fn with_keys<'j>(json: &'j Json, keys: &[&str]) -> Option<&'j Json>
     ensures { option_map (λ v. view v.now) result
         ≡ with_keys (map (λ k. k.now) keys.now) (view json.now) }
@@ -66,7 +66,7 @@ pub(crate) fn with_keys<'j>(json: &'j Json, keys: &[&str]) -> Option<&'j Json>
     }
 }
 
-/// The key and the value of the only member.
+/// Returns the key and the value of the only member.
 pub(crate) fn only_member(members: &Map<String, Json>) -> Option<(&str, &Json)>
     ensures { option_map (λ m. (m.0.now, view m.1.now)) result
         ≡ only_member (members_view members.now.entries) }
@@ -79,7 +79,7 @@ pub(crate) fn only_member(members: &Map<String, Json>) -> Option<(&str, &Json)>
     }
 }
 
-/// A number that is at most so much.
+/// Returns a number that is at most `most`.
 pub(crate) fn number_in(json: &Json, most: u64) -> Option<u64>
     ensures { result ≡ number_in most (view json.now) }
 {
@@ -87,14 +87,14 @@ pub(crate) fn number_in(json: &Json, most: u64) -> Option<u64>
     if number <= most { Some(number) } else { None }
 }
 
-/// The number of a key.
+/// Returns the number of a key.
 pub(crate) fn number_at(json: &Json, key: &str, most: u64) -> Option<u64>
     ensures { result ≡ number_at key.now most (view json.now) }
 {
     number_in(json.get(key)?, most)
 }
 
-/// The number of a key that may be absent.
+/// Returns the number of a key that may be absent.
 pub(crate) fn number_or(absent: u64, json: &Json, key: &str, most: u64) -> Option<u64>
     ensures { result ≡ number_or absent key.now most (view json.now) }
 {
@@ -104,14 +104,14 @@ pub(crate) fn number_or(absent: u64, json: &Json, key: &str, most: u64) -> Optio
     }
 }
 
-/// The text of a key.
+/// Returns the text of a key.
 pub(crate) fn text_at<'j>(json: &'j Json, key: &str) -> Option<&'j str>
     ensures { option_map (λ t. t.now) result ≡ text_at key.now (view json.now) }
 {
     json.get(key)?.as_str()
 }
 
-/// The items of a key.
+/// Returns the items of a key.
 pub(crate) fn items_at<'j>(json: &'j Json, key: &str) -> Option<&'j [Json]>
     ensures { option_map (λ v. items_view v.now) result
         ≡ option_and_then as_array (get key.now (view json.now)) }
@@ -119,7 +119,7 @@ pub(crate) fn items_at<'j>(json: &'j Json, key: &str) -> Option<&'j [Json]>
     Some(json.get(key)?.as_array()?.as_slice())
 }
 
-/// The bytes that a text spells in hex.
+/// Returns the bytes that a text spells in hexadecimal digits.
 pub(crate) fn hex_in(alloc: Global, json: &Json) -> Result<Vec<u8>, FileFault>
     ensures ok { IfOk result (λ bytes. hex_in (view json.now) ≡ Some bytes.items) }
     ensures refused { IfErr result (IsFileRefusal (hex_in (view json.now))) }

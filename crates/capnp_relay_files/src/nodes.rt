@@ -30,7 +30,7 @@ fn fields_of(alloc: Global, items: &[Json]) -> Result<Vec<FieldRecord>, FileFaul
     Ok(fields)
 }
 
-/// How many fields are union members, 65535 where there are more.
+/// Returns the number of fields that are union members, at most 65535.
 fn members_among(fields: &[FieldRecord]) -> u16
     ensures { result ≡ members_among (map field_of fields.now) }
 {
@@ -43,7 +43,7 @@ fn members_among(fields: &[FieldRecord]) -> u16
     count
 }
 
-/// Whether the struct is a group; it is none where nothing is said.
+/// Returns whether the struct is a group; without the key it is not a group.
 fn group_mark(json: &Json) -> Option<bool>
     ensures { result ≡ group_mark (view json.now) }
 {
@@ -138,7 +138,7 @@ fn enum_of(alloc: Global, json: &Json) -> Result<NodeRecord, FileFault>
     })
 }
 
-/// A node: an enum where it has enumerants, else a struct.
+/// Returns a node: an enum if it has enumerants, otherwise a struct.
 pub(crate) fn node_of(alloc: Global, json: &Json) -> Result<NodeRecord, FileFault>
     ensures ok { IfOk result (λ n. node_in (view json.now) ≡ Some (node_of n)) }
     ensures refused { IfErr result (IsFileRefusal (node_in (view json.now))) }

@@ -57,10 +57,10 @@ fn renamings_in(alloc: Global, json: &Json) -> Result<Vec<Renaming>, FileFault>
     renamings_of(alloc, items)
 }
 
-/// The renamings of a renames file: a JSON array of objects with the keys `node`, `from` and `to`,
-/// in their order. It is refused with `Form` exactly where the text is no JSON or has another form,
-/// and with `Memory` where memory is wanting. Whether a field is renamed twice `Renamings::new`
-/// decides.
+/// Reads a renames file: a JSON array of objects with the keys `node`, `from` and `to`. The
+/// renamings are in the file's order. It is refused with `Form` exactly if the text is not JSON or
+/// has another form, and with `Memory` if memory is lacking. `Renamings::new` decides whether a
+/// field is renamed twice.
 pub fn renames_file(alloc: Global, bytes: &[u8]) -> Result<Vec<Renaming>, FileFault>
     ensures ok { IfOk result (λ v. renames_in bytes.now ≡ Some (map renaming_of v.items)) }
     ensures refused { IfErr result (IsFileRefusal (renames_in bytes.now)) }

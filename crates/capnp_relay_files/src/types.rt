@@ -43,7 +43,7 @@ fn no_list(base: BaseType) -> TypeRecord
     }
 }
 
-/// A list of a type.
+/// Returns the list of a type.
 fn list_type(ty: TypeRecord) -> Option<TypeRecord>
     ensures { option_map type_record_of result ≡ list_type (type_record_of ty) }
 {
@@ -54,7 +54,7 @@ fn list_type(ty: TypeRecord) -> Option<TypeRecord>
     })
 }
 
-/// A struct or an enum by its id.
+/// Returns a struct or an enum by its id.
 fn type_with_id(key: &str, json: &Json) -> Option<TypeRecord>
     ensures { option_map type_record_of result ≡ type_with_id key.now (view json.now) }
 {
@@ -65,7 +65,7 @@ fn type_with_id(key: &str, json: &Json) -> Option<TypeRecord>
     }
 }
 
-/// A type: a name, or an object whose one key is `list`, `struct` or `enum`.
+/// Returns a type: a name, or an object whose one key is `list`, `struct` or `enum`.
 #[tactic(auto, using(crate::proofs::OnlyMembers::types))]
 pub(crate) fn type_of(json: &Json) -> Option<TypeRecord>
     ensures { option_map type_record_of result ≡ type_in (view json.now) }

@@ -1,4 +1,4 @@
-//! What answers messages.
+//! The trait of types that answer messages.
 ghost use Rattle.std.specs.Prelude.{◌≡◌, IfOk, Err};
 ghost use Rattle.capnp_model.specs.Segments.{Segments};
 ghost use Rattle.capnp_model.specs.Answers.{Answer};
@@ -12,7 +12,7 @@ use capnp_stream::buffers::NoAllocSliceSegments;
 use capnp_units::sizes::Word;
 use std::alloc::Global;
 
-/// What answers a message.
+/// A type that answers messages.
 pub trait Answers {
     /// Whether this is an answer to the message of these segments.
     ghost is_answer: { Self → Segments → Answer → Type 0 };
@@ -20,11 +20,11 @@ pub trait Answers {
     /// Whether the message is too large to be answered.
     ghost is_too_large: { Self → Segments → Type 0 };
 
-    /// The answer to a message; what is written stands at the front of the words, whatever they
-    /// held before. The region is all zeros, before and after.
+    /// Returns the answer to a message. The words that are written are at the front of `words`,
+    /// whatever they held before. The region is all zeros, before and after.
     ///
-    /// `Memory`: a growth was refused. `Size`: the message is too large to be answered. After both
-    /// nothing is promised of the words.
+    /// `Memory`: an allocation was refused. `Size`: the message is too large to be answered. After
+    /// either, nothing is promised of the words.
     fn answer(
         &self,
         alloc: Global,

@@ -1,4 +1,4 @@
-//! How a run ends: what it counted, and why it ended before the end of input.
+//! Ends of runs: the counts, and the faults that end a run before the end of input.
 
 use capnp_units::kinds::ErrorKind;
 
@@ -10,13 +10,13 @@ pub struct Counts {
     pub refused: u64,
 }
 
-/// Why a run ends before the end of input.
+/// The reason for which a run ends before the end of input.
 #[derive(Clone, Copy, Debug, PartialEq, Eq, thiserror::Error)]
 pub enum Fault {
     /// The source's device failed.
     #[error("source")]
     Source,
-    /// The bytes that are left begin with no message.
+    /// The bytes that are left don't begin with a message.
     #[error("framing {0}")]
     Framing(ErrorKind),
     /// The output refused a frame.
@@ -25,21 +25,21 @@ pub enum Fault {
     /// The log refused a line.
     #[error("log")]
     Log,
-    /// - A growth was refused.
-    /// - Or a value has more than 1,024 levels, where more are allowed.
-    /// - Or a `get` would print more than 1,024 structs, groups and lists in one another.
+    /// - An allocation was refused.
+    /// - Or a value has more than 1,024 levels, although more are allowed.
+    /// - Or a `get` would print more than 1,024 nested structs, groups and lists.
     #[error("memory")]
     Memory,
-    /// - A call puts a text, data or list that is too long for a message.
-    /// - Or the words of one message in memory, those that calls abandon among them, would pass
-    /// 2^29 - 1.
+    /// - A call makes a text, data or list that is too long for a message.
+    /// - Or the words of one message in memory, including those that calls abandon, would exceed
+    ///   2^29 - 1.
     /// - Or a message in the plain form has more than 511 segments, or its number would pass its
-    /// bound.
+    ///   bound.
     #[error("size")]
     Size,
 }
 
-/// Why a run ended before the end of input, and what it did until then.
+/// The reason for which a run ended before the end of input, and its counts until then.
 #[derive(Clone, Copy, Debug, PartialEq, Eq, thiserror::Error)]
 #[error("fault: {fault}")]
 pub struct RelayFault {

@@ -1,5 +1,5 @@
-//! The loop of a relay: each message of a source is answered in turn, whatever answers it, and its
-//! answer written and logged.
+//! The loop of a relay: each message of a source is answered in order, by any implementation of
+//! `Answers`, and its answer written and logged.
 #![tactic(auto)]
 
 pub mod answer;

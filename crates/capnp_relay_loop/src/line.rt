@@ -9,22 +9,22 @@ use crate::answer::MessageAnswer;
 use crate::logging::log_line;
 use std::alloc::{AllocError, Global};
 
-/// The line of a message. The next message's often differs in the last digit of its number alone,
-/// which is then put in its place.
+/// The line of a message. The line of the next message often differs only in the last digit of its
+/// number, which is then replaced.
 #[derive(Drop)]
 pub(crate) struct Line {
     pub(crate) bytes: Vec<u8>,
-    /// Where the last digit of the number stands in the line of a message whose calls are all done;
-    /// 0 in any other.
+    /// The position of the last digit of the number in the line of a message whose calls are all
+    /// done; 0 in any other line.
     digit: usize,
     /// The number of that message.
     number: u64,
-    /// How many calls it had.
+    /// The number of its calls.
     calls: usize,
 }
 
 impl Line {
-    /// A line that has taken no memory yet.
+    /// Makes a line that has taken no memory yet.
     pub(crate) fn new(alloc: Global) -> Line
         ensures { KeepsLine result }
     {
@@ -36,8 +36,8 @@ impl Line {
         }
     }
 
-    /// Makes the line of the message before into that of this one, whose calls are all done, where
-    /// they differ in the last digit of the number alone. Else nothing changes.
+    /// Changes the line of the previous message into that of this message, whose calls are all
+    /// done, if the lines differ only in the last digit of the number. Otherwise nothing changes.
     #[inline(always)]
     fn count_on(&mut self, number: u64, calls: usize) -> bool
         requires { KeepsLine self.old }
@@ -59,8 +59,8 @@ impl Line {
         true
     }
 
-    /// Puts the line of the answer to message `number` in place of the bytes; they grow where they
-    /// have no room for it.
+    /// Replaces the bytes by the line of the answer to message `number`; the buffer grows if it has
+    /// no room for the line.
     #[inline(always)]
     pub(crate) fn set(&mut self, number: u64, answer: &MessageAnswer) -> Result<(), AllocError>
         requires { KeepsLine self.old }
@@ -76,7 +76,7 @@ impl Line {
         self.put(number, answer)
     }
 
-    /// Puts the line of the answer to message `number` in place of the bytes, byte by byte.
+    /// Replaces the bytes by the line of the answer to message `number`, byte by byte.
     #[inline(never)]
     fn put(&mut self, number: u64, answer: &MessageAnswer) -> Result<(), AllocError>
         ensures line { (words : List (List ℕ)) → OnOk result

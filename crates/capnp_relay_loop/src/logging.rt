@@ -26,7 +26,7 @@ fn push_reply(line: &mut Vec<u8>, reply: &Reply) -> Result<(), AllocError>
     }
 }
 
-/// Appends each reply behind a semicolon.
+/// Appends each reply after a semicolon.
 fn push_replies(line: &mut Vec<u8>, replies: &[Reply]) -> Result<(), AllocError>
     ensures { OnOk result
         (line.new.items
@@ -39,7 +39,7 @@ fn push_replies(line: &mut Vec<u8>, replies: &[Reply]) -> Result<(), AllocError>
     Ok(())
 }
 
-/// Appends the replies of n calls that are done, each behind a semicolon.
+/// Appends the replies of n calls that are done, each after a semicolon.
 fn push_done(line: &mut Vec<u8>, calls: usize) -> Result<(), AllocError>
     ensures { OnOk result (line.new.items ≡ line.old.items
         ++ flat_map (λ r. codes "; " ++ reply_words r) (replicate calls reply_done)) }
@@ -50,7 +50,7 @@ fn push_done(line: &mut Vec<u8>, calls: usize) -> Result<(), AllocError>
     Ok(())
 }
 
-/// What the log says of a message that is skipped.
+/// Returns the log's text for a message that is skipped.
 #[inline]
 fn refusal_words(reason: Reason) -> &'static [u8]
     ensures { result.now ≡ answer_words (refusal_view reason) }
@@ -62,7 +62,7 @@ fn refusal_words(reason: Reason) -> &'static [u8]
     }
 }
 
-/// Appends what the log says of an answer.
+/// Appends the log's text for an answer.
 fn push_answer(line: &mut Vec<u8>, answer: &MessageAnswer) -> Result<(), AllocError>
     ensures { (words : List (List ℕ)) → OnOk result
         (line.new.items ≡ line.old.items ++ answer_words (answer_view words answer.now)) }
@@ -96,8 +96,8 @@ fn push_number(line: &mut Vec<u8>, number: u64) -> Result<(), AllocError>
     line.extend_from_slice(buffer.format(number).as_bytes())
 }
 
-/// Puts the line of the answer to message `number` in place of the bytes; they grow where they have
-/// no room for it. It answers where the last digit of the number stands.
+/// Replaces the bytes by the line of the answer to message `number`; the buffer grows if it has no
+/// room for the line. It returns the position of the last digit of the number.
 pub(crate) fn log_line(
     line: &mut Vec<u8>,
     number: u64,

@@ -1,4 +1,4 @@
-//! What is done before a message is read.
+//! Actions of a run before it reads a message.
 ghost use Rattle.std.specs.Prelude.{OnOk, IfErr, ⊤};
 ghost use Rattle.capnp_relay_loop.specs.Streams.{sink_of};
 ghost use Rattle.capnp_relay_loop.specs.Pauses.{SinkRests, FailsInPause};
@@ -6,21 +6,22 @@ ghost use Rattle.capnp_relay_loop.specs.Pauses.{SinkRests, FailsInPause};
 use crate::ends::Fault;
 use capnp_stream_io::traits::{BufRead, Read, Write};
 
-/// What a run does before it reads a message, as to flush its sinks where the source may wait.
+/// The action of a run before it reads a message, such as flushing its sinks if the source may
+/// wait.
 pub trait Pause<R: BufRead, W: Write, L: Write> {
     ghost use Rattle.capnp_relay_loop.specs.declared.ends.Fault.{Fault};
 
     /// Whether it may fail.
     ghost may_fail: { Type 0 };
 
-    /// What holds of the source and the sinks behind a pause that ended well.
+    /// The condition on the source and the sinks after a pause that succeeded.
     ghost holds: { R → W → L → Type 0 } = { λ _ _ _. ⊤ };
 
-    /// What holds of the sinks behind a pause that ended with a fault.
+    /// The condition on the sinks after a pause that ended with a fault.
     ghost fails: { Fault → W → L → Type 0 } = { λ _ _ _. ⊤ };
 
-    /// Gives no byte to a sink, and ends the run where a sink's device failed: `Out` the output's,
-    /// `Log` the log's. What `holds` or `fails` says is known when it returns.
+    /// Gives no byte to a sink, and ends the run if a sink's device failed: `Out` for the output's,
+    /// `Log` for the log's. When it returns, `holds` or `fails` is known.
     fn pause(source: &R, out: &mut W, log: &mut L) -> Result<(), Fault>
         ensures ok { let sink = sink_of ⟦<W as Write>⟧ in let line = sink_of ⟦<L as Write>⟧ in
             OnOk result (SinkRests (sink out.old) (sink out.new)
@@ -32,7 +33,7 @@ pub trait Pause<R: BufRead, W: Write, L: Write> {
             (line log.old) (line log.new)) };
 }
 
-/// Nothing is done before a message is read.
+/// A pause that does nothing.
 #[derive(Clone, Copy, Debug)]
 pub struct NoPause;
 

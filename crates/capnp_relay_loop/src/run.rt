@@ -13,16 +13,16 @@ use capnp_stream::forms::MessageForm;
 use capnp_stream_io::traits::{BufRead, Read, Write};
 use std::alloc::Global;
 
-/// Answers each message of the source in turn, in one form: a message in the other for each written
-/// answer, and a line for each. It goes to the end of input, or the first bytes that begin with no
-/// message of n words at most. Before each read there is a pause. The region is all zeros, before
-/// and after.
+/// Answers each message of the source in order: it writes a message in the output form for each
+/// written answer, and a line for each message. It stops at the end of input, or at the first bytes
+/// that don't begin with a message of at most n words. Before each read there is a pause. The
+/// region is all zeros, before and after.
 ///
-/// `Framing`: what is left of the source begins with no message. `Source`, `Out`, `Log`: the device
-/// failed, or a sink has no room for what it is given. `Memory`: a growth was refused. `Size`: a
-/// message is too large to be answered, or it is message number 2^64. A fault of a pause is `Out`
-/// or `Log`. What was written before stands; the counts are the frames that were written whole and
-/// the refusals that were logged whole.
+/// `Framing`: the rest of the source doesn't begin with a message. `Source`, `Out`, `Log`: the
+/// device failed, or a sink has no room for the bytes. `Memory`: an allocation was refused. `Size`:
+/// a message is too large to be answered, or it is message number 2^64. A fault of a pause is `Out`
+/// or `Log`. Earlier output remains; the counts are the frames that were written whole and the
+/// refusals that were logged whole.
 pub fn answer_all<
     I: MessageForm,
     O: MessageForm,

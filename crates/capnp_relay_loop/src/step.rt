@@ -32,15 +32,15 @@ use capnp_units::sizes::{Word, words_as_bytes};
 use capnp_wire_canonical::laws::segments_of_words;
 use std::alloc::Global;
 
-/// What a run keeps from message to message: the counts, and buffers, which grow only where a
-/// message wants more of them than those before.
+/// The state of a run from message to message: the counts, and buffers, which only grow if a
+/// message needs larger ones than those before.
 #[derive(Drop)]
 pub(crate) struct Progress {
     alloc: Global,
     pub(crate) counts: Counts,
-    /// The message that was read lies at the front.
+    /// The message that was read is at the front.
     message: MessageBuffer,
-    /// What is written of an answer stands at the front.
+    /// The written words of an answer are at the front.
     words: Vec<Word>,
     /// The text of a message of several segments.
     text: Vec<u8>,
@@ -49,7 +49,7 @@ pub(crate) struct Progress {
 }
 
 impl Progress {
-    /// Nothing is counted, and no buffer has taken memory yet.
+    /// Makes a state with no counts, whose buffers have taken no memory yet.
     pub(crate) fn new(alloc: Global) -> Progress
         ensures line { KeepsLine result.line }
         ensures counts { (result.counts.written ≡ 0) × (result.counts.refused ≡ 0) }
@@ -69,8 +69,8 @@ impl Progress {
     }
 }
 
-/// Puts the text of the message of these segments in place of the bytes; they grow where they have
-/// no room for it.
+/// Replaces the bytes by the text of the message of these segments; the buffer grows if it has no
+/// room for the text.
 #[inline(never)]
 fn spell<O: MessageForm>(
     alloc: Global,
@@ -89,8 +89,8 @@ fn spell<O: MessageForm>(
     }
 }
 
-/// The answer to a message, of which `answered` came before. Its words stand at the front of the
-/// buffer, its text, where it has several segments, and its line are put in place of the bytes.
+/// Returns the answer to a message after `answered` others. Its words are at the front of the
+/// buffer. Its text, if it has several segments, and its line replace the bytes of their buffers.
 #[inline(always)]
 fn prepare<O: MessageForm, A: Answers>(
     alloc: Global,
@@ -147,7 +147,7 @@ fn end_at_read(e: Error) -> Result<bool, Fault>
     }
 }
 
-/// What a refused write is told as: want of memory, or else the fault of the sink.
+/// Returns the fault of a refused write: lack of memory, or otherwise the fault of the sink.
 fn sink_fault(e: Error, sink: Fault) -> Fault
     ensures memory { e.kind ≡ ErrorKind.OutOfMemory → result ≡ Fault.Memory }
     ensures other { e.kind ≢ ErrorKind.OutOfMemory → result ≡ sink }
@@ -158,7 +158,7 @@ fn sink_fault(e: Error, sink: Fault) -> Fault
     }
 }
 
-/// The first n words, as the bytes of a segment.
+/// Returns the first n words, as the bytes of a segment.
 #[inline]
 fn segment_of(words: &[Word], count: usize) -> &[u8]
     requires there { count ≤ length words.now }
@@ -171,8 +171,8 @@ fn segment_of(words: &[Word], count: usize) -> &[u8]
     words_as_bytes(front)
 }
 
-/// How many words at the front of a buffer are written for an answer; `None` where it has no words
-/// there.
+/// Returns the number of words at the front of a buffer that are written for an answer; `None` if
+/// the answer has no words there.
 #[inline]
 fn written_count(answer: &MessageAnswer) -> Option<usize>
     ensures front { (words : List (List ℕ)) → StandsInBuffer words answer.now
@@ -199,7 +199,7 @@ fn put_bytes<W: Write>(out: &mut W, text: &[u8]) -> Result<(), Fault>
     Ok(())
 }
 
-/// Writes the text of a message of several segments, if it is one, and counts it.
+/// Writes the text of a message of several segments, if the answer has one, and counts the message.
 #[inline(never)]
 fn put_text<O: MessageForm, W: Write>(
     out: &mut W,
@@ -231,8 +231,8 @@ fn put_text<O: MessageForm, W: Write>(
     Ok(())
 }
 
-/// Writes a written answer, whose words stand at the front of these, or whose text this is, as one
-/// message, and counts it.
+/// Writes a written answer as one message, from its words at the front of the buffer or from its
+/// text, and counts the message.
 #[inline(always)]
 fn put_out<O: MessageForm, W: Write>(
     out: &mut W,

@@ -42,7 +42,8 @@ impl ReaderSegments for CanonicalMessage {
     }
 }
 
-/// The canonical words of the value of a message, which is within the limits and has no capability.
+/// Returns the canonical words of the value of a message, which is within the limits and has no
+/// capability.
 pub(crate) fn copied<A: ReaderArena>(
     alloc: Global,
     message: &A,

@@ -13,7 +13,8 @@ use capnp_model::laws::texts_in_slices;
 use capnp_units::errors::{Error, Result};
 use capnp_units::kinds::ErrorKind;
 
-/// The kind by which a stream of bytes is refused, where a slice of them is refused by this one.
+/// Returns the kind with which a stream of bytes is refused, if a slice of them is refused with
+/// this kind.
 fn stream_kind(is_empty: bool, kind: ErrorKind) -> ErrorKind
     ensures empty { is_empty ≡ true → result ≡ ErrorKind.PrematureEndOfFile }
     ensures some { is_empty ≡ false → kind_of result ≡ streamed (kind_of kind) }
@@ -27,8 +28,8 @@ fn stream_kind(is_empty: bool, kind: ErrorKind) -> ErrorKind
     }
 }
 
-/// The framed message at the front of bytes, lent in place. It is refused by the kind of the first
-/// part that can't be read, as from a stream of them.
+/// Returns the framed message at the front of bytes, lent in place. It is refused with the kind of
+/// the first part that can't be read, like a message from a stream of the bytes.
 pub(crate) fn first_message<'a>(
     bytes: &'a [u8],
     options: ReaderOptions,

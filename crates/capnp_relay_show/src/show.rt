@@ -1,4 +1,4 @@
-//! What a framed message holds, as text.
+//! The contents of a framed message, as text.
 ghost use Rattle.std.specs.Prelude.{◌≡◌, ◌≢◌, Ok, IfOk, IfErr};
 ghost use Rattle.capnp_model.specs.Answers.{levels};
 ghost use Rattle.capnp_units.specs.Segments.{words_in};
@@ -24,10 +24,10 @@ use capnp_wire::pointer::PointerReader;
 use capnp_wire_objects::arena::{ReaderArena, ReaderArenaImpl};
 use std::alloc::Global;
 
-/// Why a message isn't shown.
+/// The reason for which a message isn't shown.
 #[derive(Clone, Copy, Debug, PartialEq, Eq, thiserror::Error)]
 pub enum ShowFault {
-    /// The bytes begin with no framed message within the limit of words; the kind is that of
+    /// The bytes don't begin with a framed message within the limit of words; the kind is that of
     /// `read_message`.
     #[error("framing {0}")]
     Framing(ErrorKind),
@@ -38,12 +38,12 @@ pub enum ShowFault {
     /// The root is a list.
     #[error("root")]
     Root,
-    /// A field or an element can't be read as its type, or more than 64 defaults would be entered
-    /// in one another.
+    /// A field or an element can't be read as its type, or more than 64 nested defaults would be
+    /// entered.
     #[error("unreadable")]
     Unreadable,
-    /// A growth was refused, or more than 1,024 structs, groups and lists would be printed in one
-    /// another.
+    /// An allocation was refused, or more than 1,024 nested structs, groups and lists would be
+    /// printed.
     #[error("memory")]
     Memory,
     /// The canonical copy would have more than the 2^29 - 1 words of a message.
@@ -51,7 +51,7 @@ pub enum ShowFault {
     Size,
 }
 
-/// Why no text was printed.
+/// Returns the fault for which no text was printed.
 fn fault_of(e: Error) -> ShowFault
     ensures memory { e.kind ≡ ErrorKind.OutOfMemory → result ≡ ShowFault.Memory }
     ensures other { e.kind ≢ ErrorKind.OutOfMemory → result ≡ ShowFault.Unreadable }
@@ -62,14 +62,14 @@ fn fault_of(e: Error) -> ShowFault
     }
 }
 
-/// The levels that a value may have in an arena, if it may have any.
+/// Returns the levels that a value may have in an arena, if it may have any.
 fn levels_in<A: ReaderArena>(arena: &A) -> Option<u32>
     ensures { result ≡ levels (A.nesting arena.now) }
 {
     levels_of(arena.nesting_limit())
 }
 
-/// The arena of a copy, with as many levels as another.
+/// Makes the arena of a copy, with as many levels as another.
 fn arena_like<A: ReaderArena>(
     arena: &A,
     copy: CanonicalMessage,
@@ -80,7 +80,7 @@ fn arena_like<A: ReaderArena>(
     ReaderArenaImpl::new(copy, arena.nesting_limit())
 }
 
-/// The text of the record of a message's root.
+/// Returns the text of the record of a message's root.
 fn text_of<'a, A: ReaderArena>(
     alloc: Global,
     arena: &'a A,
@@ -109,17 +109,17 @@ fn text_of<'a, A: ReaderArena>(
     }
 }
 
-/// The text of the framed message at the front of bytes, on one line, as `print` writes it. It is
-/// of the record that its root has under the schema, a null root that of the empty struct. Bytes
-/// behind the message aren't looked at.
+/// Returns the text of the framed message at the front of bytes, on one line, as `print` writes it.
+/// The text is of the root's record under the schema; a null root has the record of the empty
+/// struct. Bytes after the message aren't looked at.
 ///
-/// The message is read under the options, and its value copied canonically, so that trailing zeros
-/// and nulls count for nothing. Without a limit of words no sum of lengths and no cost is too high.
-/// The copy takes at most a word more than the value costs.
+/// The message is read under the options, and its value copied canonically, so trailing zeros and
+/// nulls have no effect. Without a limit of words, sizes and costs are unlimited. The copy takes at
+/// most one word more than the value costs.
 ///
-/// Faults are told in the order of `ShowFault`, but `Memory` and `Size` where they are met. These
-/// two come only where the value is there, and `Size` only where its canonical words are 2^29 or
-/// more.
+/// Faults are reported in the order of `ShowFault`, except `Memory` and `Size`, which come when
+/// they are met. These two only come if the message has a value, and `Size` only if its canonical
+/// words are 2^29 or more.
 pub fn show(
     alloc: Global,
     bytes: &[u8],

@@ -13,8 +13,9 @@ use capnp_stream::buffers::NoAllocSliceSegments;
 use capnp_units::sizes::Word;
 use std::alloc::Global;
 
-/// What `relay` answers messages by in the canonical form: calls at the roots of messages, and how
-/// far a message is followed. With it a loop of one's own over `Answers` answers as `relay` does.
+/// The answers of `relay` in the canonical form: calls at the roots of messages, and the limits of
+/// following a message. A caller's own loop over `Answers` that uses this type answers like
+/// `relay`.
 #[derive(Drop)]
 pub struct CallsAtRoot<'a> {
     pub calls: RootCalls<'a>,
@@ -49,8 +50,7 @@ impl<'a> Answers for CallsAtRoot<'a> {
     }
 }
 
-/// What `relay` answers messages by in the plain form: the same calls, but messages go out as they
-/// are built.
+/// The answers of `relay` in the plain form: the same calls, but messages go out as they are built.
 #[derive(Drop)]
 pub struct PlainCallsAtRoot<'a> {
     pub calls: RootCalls<'a>,

@@ -29,7 +29,7 @@ use capnp_stream_io::traits::{BufRead, Read, Write};
 use capnp_values_queries::structs::StructSchema;
 use std::alloc::Global;
 
-/// Why a relay between two versions ends before the end of input.
+/// The reason for which a relay between two versions ends before the end of input.
 #[derive(Clone, Copy, Debug, PartialEq, Eq, thiserror::Error)]
 pub enum BetweenFault {
     /// The newer schema isn't compatible with the older.
@@ -38,7 +38,7 @@ pub enum BetweenFault {
     /// The call of this number, counted from 1, is the first that isn't admitted.
     #[error("call {0} not admitted")]
     NotAdmitted(usize),
-    /// A growth was refused before a message was read.
+    /// An allocation was refused before a message was read.
     #[error("memory")]
     Memory,
     /// The relay met a fault.
@@ -46,7 +46,7 @@ pub enum BetweenFault {
     Relay(RelayFault),
 }
 
-/// The calls, resolved, which may be relayed between the two versions.
+/// Resolves the calls, if they may be relayed between the two versions.
 fn resolve_between<'a>(
     alloc: Global,
     root: StructSchema<'a>,
@@ -77,15 +77,16 @@ fn resolve_between<'a>(
     }
 }
 
-/// Relays under the root's schema what is read under a newer one, as `relay` does, where the newer
-/// schema is compatible with the older and each call is admitted. Then the newer record of each
-/// message that is written is what the newer schema's record machine makes of that of the message
-/// that was read. Lists have to be in kind for it. So what only the newer schema knows stays.
+/// Relays under the root's schema messages that are read under a newer one, like `relay`, if the
+/// newer schema is compatible with the older and each call is admitted. Then the newer record of
+/// each message that is written is the result of the newer schema's record machine for the record
+/// of the message that was read, if lists are in kind. So everything that only the newer schema
+/// knows is kept.
 ///
 /// The region has 8 bytes for each word of the word limit and 8 more. `NotCompatible`,
 /// `NotAdmitted` and `Memory` come, in this order, before a byte is read: source, sinks and region
-/// are as they were. `Relay` tells how `relay` ended; at that exit, and where all was answered, the
-/// region is all zeros.
+/// are unchanged. `Relay` reports the end of `relay`; at that exit, and if everything was answered,
+/// the region is all zeros.
 pub fn relay_between<R: BufRead, W: Write, L: Write>(
     alloc: Global,
     source: &mut R,
@@ -114,9 +115,9 @@ pub fn relay_between<R: BufRead, W: Write, L: Write>(
     )
 }
 
-/// As `relay_between`, where the newer schema has fields by other names. Calls keep the older
-/// names, and the newer schema's record machine makes them with each name of a field replaced by
-/// that of its partner. A renaming of a node or field that isn't reached has no effect.
+/// Relays like `relay_between`, if the newer schema has other names for fields. Calls keep the
+/// older names, and the newer schema's record machine makes them with each name of a field replaced
+/// by that of its partner. A renaming of a node or field that isn't reached has no effect.
 pub fn relay_between_with<R: BufRead, W: Write, L: Write>(
     alloc: Global,
     source: &mut R,
@@ -146,9 +147,9 @@ pub fn relay_between_with<R: BufRead, W: Write, L: Write>(
     )
 }
 
-/// As `relay_between_with`, with a pause before each message is read and a region of any length.
-/// What the pause promises holds when a message is read. A fault of a pause ends the run as `Out`
-/// or `Log`.
+/// Relays like `relay_between_with`, with a pause before each message is read and a region of any
+/// length. The promise of the pause holds when a message is read. A fault of a pause ends the run
+/// with `Out` or `Log`.
 pub fn relay_between_pausing<R: BufRead, W: Write, L: Write, P: Pause<R, W, L>>(
     alloc: Global,
     source: &mut R,

@@ -27,9 +27,9 @@ fn reads_fronts<I: MessageForm>()
     ensures { ReadsFronts I.reader }
 {}
 
-/// Where the source tells its bytes, a run that ends at the end of input or at a framing fault goes
+/// If the source exposes its bytes, a run that ends at the end of input or at a framing fault goes
 /// over all of them. They begin with the messages that were answered, in order, and their rest ends
-/// the run. What was written and logged is that of the answers.
+/// the run. The output and the log are those of the answers.
 pub fn runs_over_known_bytes<W: Write, L: Write>()
     ensures finished { (root : StructSchema) (calls : List Call) (options : RelayOptions)
         (old new : Streams) (counts : Counts)
@@ -49,8 +49,8 @@ pub fn runs_over_known_bytes<W: Write, L: Write>()
 }
 
 /// The plain output of a run, relayed again in the canonical form without calls under the same
-/// schema, gives the canonical output of that run. That holds where each plain message is within
-/// the second run's word limit and the second run writes every message.
+/// schema, gives the canonical output of that run. This holds if each plain message is within the
+/// second run's word limit and the second run writes every message.
 pub fn plain_output_again()
     ensures { (root : StructSchema) (calls : List Call) (first again : RelayOptions)
         (bytes plain canonical others log lines said : List ℕ) (end last : End)

@@ -1,5 +1,5 @@
-//! A relay of messages: calls are made at the root of each message of a source, and what they make
-//! of it is written and logged. `between` relays under an older schema what is read under a newer
+//! A relay of messages: calls are made at the root of each message of a source, and their result is
+//! written and logged. `between` relays under an older schema messages that are read under a newer
 //! one.
 #![tactic(auto)]
 

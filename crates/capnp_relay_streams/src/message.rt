@@ -9,12 +9,12 @@ use capnp_units::sizes::SegmentId;
 use capnp_wire_objects::arena::{ReaderArena, ReaderArenaImpl};
 use std::alloc::Global;
 
-/// The most segments of a message that are looked up in its table, whose lengths each look-up sums.
-/// Of more the sums are made once.
+/// The most segments of a message that are looked up in its table; each look-up sums the lengths
+/// there. For more segments the sums are made once.
 const FEW_SEGMENTS: usize = 16;
 
-/// The segments of a message of many, found by where each lies; `None` where they are few, or where
-/// the memory for that was refused.
+/// Returns the segments of a message of many, indexed by the place at which each begins; `None` if
+/// they are few, or if the memory for the index was refused.
 // A look-up in the table sums the lengths in front of the segment: 511 segments would cost a
 // message of far pointers three times the rest.
 #[inline(always)]
@@ -30,8 +30,8 @@ pub(crate) fn indexed<'a>(
     indexed_many(alloc, message)
 }
 
-/// The segments of a message, found by where each lies; `None` where the memory for that was
-/// refused.
+/// Returns the segments of a message, indexed by the place at which each begins; `None` if the
+/// memory for the index was refused.
 #[inline(never)]
 fn indexed_many<'a>(alloc: Global, message: &NoAllocSliceSegments<'a>) -> Option<SliceSegments<'a>>
     ensures { ForSome result (λ s. buffer_segments s ≡ found_segments message.now) }
@@ -42,8 +42,8 @@ fn indexed_many<'a>(alloc: Global, message: &NoAllocSliceSegments<'a>) -> Option
     }
 }
 
-/// The segments of a message that lie in a buffer, and the same found by where each lies, where it
-/// has many. The bounds tell how deep the message is followed.
+/// The segments of a message in a buffer, and an index of their places if there are many. The
+/// bounds limit the depth to which the message is followed.
 #[derive(Drop)]
 pub(crate) struct Message<'a> {
     pub(crate) segments: &'a NoAllocSliceSegments<'a>,
@@ -52,7 +52,7 @@ pub(crate) struct Message<'a> {
 }
 
 impl Message<'_> {
-    /// A segment behind the first four, for which few messages ask.
+    /// Returns a segment after the first four, which few messages need.
     #[inline(never)]
     fn other_segment(&self, id: SegmentId) -> Option<&[u8]>
         ensures { option_copied result ≡ slice_get (found_segments self.now.segments.now) id }

@@ -6,7 +6,7 @@ pub use capnp_message::options::ReaderOptions;
 use capnp_relay_answers::bounds::Bounds;
 use capnp_units::limits::MOST_WORDS;
 
-/// How messages are spelled.
+/// The form in which messages are written as bytes.
 #[derive(Clone, Copy, Debug, PartialEq, Eq)]
 pub enum Form {
     /// A table of the segments' lengths, and the segments.
@@ -15,7 +15,7 @@ pub enum Form {
     Packed,
 }
 
-/// Why options are refused.
+/// The reason for which options are refused.
 #[derive(Clone, Copy, Debug, PartialEq, Eq, thiserror::Error)]
 pub enum OptionsFault {
     /// There is no limit of words.
@@ -29,8 +29,8 @@ pub enum OptionsFault {
     NegativeNesting,
 }
 
-/// The forms of a relay's input and output, how far it follows messages, and in which form they go
-/// out: the plain one or, as by `new`, the canonical one.
+/// The forms of a relay's input and output, its limits of following messages, and the form in which
+/// they go out: the plain form or, from `new`, the canonical form.
 #[derive(Clone, Copy)]
 pub struct RelayOptions {
     pub(crate) input: Form,
@@ -40,7 +40,7 @@ pub struct RelayOptions {
 }
 
 impl RelayOptions {
-    /// The options of these forms and limits, in the canonical form.
+    /// Makes the options of these forms and limits, in the canonical form.
     pub fn new(
         input: Form,
         output: Form,
@@ -69,8 +69,8 @@ impl RelayOptions {
         })
     }
 
-    /// These options in the plain form: each message goes out as one frame of its 1 to 511 segments
-    /// as they are built, not trimmed.
+    /// Returns these options in the plain form: each message goes out as one frame of its 1 to 511
+    /// segments as they are built, not trimmed.
     pub fn plain(self) -> RelayOptions
         ensures { result ≡ as_plain self }
     {
@@ -80,7 +80,8 @@ impl RelayOptions {
         }
     }
 
-    /// How many bytes the region of a relay has: 8 for each word of the word limit, and 8 more.
+    /// Returns the number of bytes of the region of a relay: 8 for each word of the word limit, and
+    /// 8 more.
     pub fn region_len(&self) -> usize
         ensures { result ≡ 8 * (self.now.bounds.words + 1) }
     {

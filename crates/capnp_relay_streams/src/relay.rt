@@ -24,39 +24,38 @@ use capnp_stream_packed::form::Packed;
 use capnp_values_queries::structs::StructSchema;
 use std::alloc::Global;
 
-/// Answers each message of the source, to the end of input or the first bytes that begin with no
-/// message.
+/// Answers each message of the source, up to the end of input or the first bytes that don't begin
+/// with a message.
 ///
 /// A message is read within the options' limits. Its trimmed value is copied into the region, and
-/// the calls run there at its root, a null root as the empty struct. What they make of it is
-/// written as one canonical message of fewer than 2^29 words, in the output form. Where each call
-/// sets a plain field of the root, and no word is put or trimmed by that, the value isn't copied,
-/// but edited where it is written from. A message is skipped
-/// - as `value`, where it has no value within the limits, or one with a capability;
-/// - as `root`, where its root is a list;
-/// - as `depth`, where the calls nest it too deep.
+/// the calls run there at its root; a null root is the empty struct. The result is written as one
+/// canonical message of fewer than 2^29 words, in the output form. If each call sets a plain field
+/// of the root, and this adds or trims no word, the value isn't copied, but edited in the buffer
+/// from which it is written. A message is skipped
+/// - as `value`, if it has no value within the limits, or a value with a capability;
+/// - as `root`, if its root is a list;
+/// - as `depth`, if the calls nest it too deeply.
 ///
-/// Written or skipped, it gets one line in the log. Where the lists of a message are in kind, what
-/// is written reads as the record that the calls make of the message's record.
+/// Written or skipped, the message gets one line in the log. If the lists of a message are in kind,
+/// the output reads as the record that the calls make of the message's record.
 ///
 /// In the plain form the message that the calls make goes out as it is built, not trimmed, in 1 to
-/// 511 segments of fewer than 2^29 words each. Only their used words are written. It means what the
-/// calls make of the message.
-/// Every word but the root word that no object or pad reached from the root covers is zero: nothing
-/// of an overwritten value goes out.
+/// 511 segments of fewer than 2^29 words each. Only their used words are written. The output means
+/// the result of the calls on the message. Except for the root word, every word is zero that is not
+/// covered by an object or pad reached from the root: nothing of an overwritten value goes out.
 ///
-/// The region has 8 bytes for each word of the word limit and 8 more; what doesn't fit into it
-/// comes from `alloc`. Whatever is in it before, it is all zeros at every exit.
+/// The region has 8 bytes for each word of the word limit and 8 more; anything that doesn't fit
+/// into it comes from `alloc`. Whatever the region holds before, it is all zeros at every exit.
 ///
-/// The run ends before the end of input, and what was written before stands:
-/// - `Framing`: what is left of the source begins with no message;
+/// The run ends before the end of input, and earlier output remains:
+/// - `Framing`: the rest of the source doesn't begin with a message;
 /// - `Source`, `Out`, `Log`: the device failed, or a slice was too short;
-/// - `Memory`: a growth was refused;
-/// - `Memory` too: a value has more than 1,024 levels, where more are allowed;
-/// - `Size`: a call puts a text or data of 2^29 bytes or more with its last zero, or a list of
-///   structs of 2^29 words or more;
-/// - `Size` too: the words of one message in memory, those that calls abandon among them, would
-///   pass 2^29 - 1;
+/// - `Memory`: an allocation was refused;
+/// - `Memory` too: a value has more than 1,024 levels, although more are allowed;
+/// - `Size`: a call makes a text or data of 2^29 bytes or more including the last zero, or a list
+///   of structs of 2^29 words or more;
+/// - `Size` too: the words of one message in memory, including those that calls abandon, would
+///   exceed 2^29 - 1;
 /// - `Size` too: a message in the plain form has more than 511 segments, or it is message number
 ///   2^64.
 pub fn relay<R: BufRead, W: Write, L: Write>(
@@ -79,7 +78,7 @@ pub fn relay<R: BufRead, W: Write, L: Write>(
     relay_pausing::<R, W, L, NoPause>(alloc, source, out, log, root, calls, options, region)
 }
 
-/// A run that wants memory before it answers a message.
+/// Returns the fault of a run that lacks memory before it answers a message.
 fn wants_memory() -> RelayFault
     ensures fault { result.fault ≡ Fault.Memory }
     ensures counts { (result.counts.written ≡ 0) × (result.counts.refused ≡ 0) }
@@ -93,7 +92,7 @@ fn wants_memory() -> RelayFault
     }
 }
 
-/// Answers each message of the source in turn, in the forms and within the limits of the options.
+/// Answers each message of the source in order, in the forms and within the limits of the options.
 fn answer_in_forms<R: BufRead, W: Write, L: Write, A: Answers, P: Pause<R, W, L>>(
     alloc: Global,
     source: &mut R,
@@ -131,7 +130,7 @@ fn answer_in_forms<R: BufRead, W: Write, L: Write, A: Answers, P: Pause<R, W, L>
     }
 }
 
-/// As `relay_pausing`, with calls that are resolved and a region of zeros.
+/// Relays like `relay_pausing`, with calls that are resolved and a region of zeros.
 pub(crate) fn relay_calls<R: BufRead, W: Write, L: Write, P: Pause<R, W, L>>(
     alloc: Global,
     source: &mut R,
@@ -165,10 +164,10 @@ pub(crate) fn relay_calls<R: BufRead, W: Write, L: Write, P: Pause<R, W, L>>(
     )
 }
 
-/// As `relay`, with a pause before each message is read and a region of any length: a message that
-/// doesn't fit into it is edited in memory from `alloc`. What the pause promises holds when a
-/// message is read. A fault of a pause ends the run as `Out` or `Log`: the messages before it are
-/// answered whole.
+/// Relays like `relay`, with a pause before each message is read and a region of any length: a
+/// message that doesn't fit into the region is edited in memory from `alloc`. The promise of the
+/// pause holds when a message is read. A fault of a pause ends the run with `Out` or `Log`: the
+/// earlier messages are answered whole.
 pub fn relay_pausing<R: BufRead, W: Write, L: Write, P: Pause<R, W, L>>(
     alloc: Global,
     source: &mut R,
