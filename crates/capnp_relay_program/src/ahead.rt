@@ -1,4 +1,4 @@
-//! Whether a message is there as a whole before it is read.
+//! Tests whether a message is present as a whole before it is read.
 ghost use Rattle.std.specs.Prelude.{◌≡◌, ℕ, Option, List, [], ◌∷◌, ◌*◌, ◌%◌, ◌^◌, ◌<◌, ◌≤◌, length, sum, Ok, IsTrue};
 ghost use Rattle.capnp_units.specs.Segments.{whole_words};
 ghost use Rattle.capnp_model.specs.Messages.{halves, behind_first, message_at};
@@ -8,14 +8,14 @@ ghost use Rattle.capnp_relay_program.specs.Ahead.{SplitsFirstWord};
 use capnp_stream::forms::{Framed, MessageForm};
 use capnp_stream_packed::form::Packed;
 
-/// How many words of a table are looked at behind its first one: those of a message of at most 31
-/// segments.
+/// The number of words of a table that are looked at after its first: those of a message of at most
+/// 31 segments.
 const OTHER_WORDS: usize = 15;
 
-/// How many numbers a half of a word holds.
+/// The number of values of a half of a word.
 const HALF: u64 = 1 << 32;
 
-/// A form of messages that tells how many bytes words take at most.
+/// A form of messages with a bound of the bytes that words take.
 pub trait BoundedForm: MessageForm {
     /// The most bytes that a word takes.
     ghost MOST_BYTES: { ℕ };
@@ -23,15 +23,15 @@ pub trait BoundedForm: MessageForm {
     /// The most bytes that a word takes.
     const MOST_BYTES: usize;
 
-    /// A word takes some.
+    /// A word takes at least one byte.
     ghost some: { 0 < MOST_BYTES };
 
-    /// The word that a reader reads from the front of the bytes, and the bytes behind it; `None`
-    /// where it reads none there.
+    /// Returns the word that a reader reads from the front of the bytes, and the later bytes;
+    /// `None` if the reader reads no word there.
     fn split_first_word(bytes: &[u8]) -> Option<(u64, &[u8])>
         ensures { SplitsFirstWord Self.reader bytes.now result };
 
-    /// No bytes are read for no word.
+    /// For no words no bytes are read.
     ghost none: { (bytes : List ℕ) → Self.reader 0 bytes ≡ Ok ([], bytes) };
 
     /// Pieces don't end early in n bytes for each of their words.
@@ -80,8 +80,8 @@ impl BoundedForm for Packed {
     ghost enough = { unpacked_enough };
 }
 
-/// The word at the front of the bytes, read as a piece, and the bytes behind it; `None` where none
-/// is read there.
+/// Returns the word at the front of the bytes, read as a piece, and the later bytes; `None` if no
+/// word is read there.
 fn read_first_word<F: MessageForm>(bytes: &[u8]) -> Option<(u64, &[u8])>
     ensures { SplitsFirstWord F.reader bytes.now result }
 {
@@ -93,7 +93,7 @@ fn read_first_word<F: MessageForm>(bytes: &[u8]) -> Option<(u64, &[u8])>
     }
 }
 
-/// The sum of the numbers in the halves of a table's words.
+/// Returns the sum of the numbers in the halves of a table's words.
 fn sum_of_halves(table: &[u8]) -> u64
     requires whole { length table.now % 8 ≡ 0 }
     requires few { length table.now ≤ 8 * 15 }
@@ -110,16 +110,16 @@ fn sum_of_halves(table: &[u8]) -> u64
     sum
 }
 
-/// Whether n words, and any fewer, or what is wrong with them, can be read from these bytes alone.
-/// Where it can't be told cheaply it is denied.
+/// Returns whether n words, and any fewer, or their fault, can be read from these bytes only. If
+/// this can't be found cheaply, it returns false.
 fn holds_words<F: BoundedForm>(bytes: &[u8], words: u64) -> bool
     ensures { IsTrue result → (n : ℕ) → n ≤ words → EndsEarly (F.reader n bytes.now) → ⊥ }
 {
     words <= (bytes.len() / F::MOST_BYTES) as u64
 }
 
-/// Whether this can be read of what lies behind the first word of a message of more than three
-/// segments. One of more than 31 is denied.
+/// Does the test of `holds_behind` for the bytes after the first word of a message of more than
+/// three segments. For more than 31 segments it returns false.
 #[inline(never)]
 fn holds_behind_table<F: BoundedForm>(first: u64, bytes: &[u8]) -> bool
     ensures { IsTrue result → (limit : Option ℕ) → EndsEarly
@@ -138,8 +138,8 @@ fn holds_behind_table<F: BoundedForm>(first: u64, bytes: &[u8]) -> bool
     holds_words::<F>(left, first / HALF + sum_of_halves(others))
 }
 
-/// Whether what lies behind the first word of a message, or what is wrong with it, can be read from
-/// these bytes alone.
+/// Returns whether the rest of a message after its first word, or its fault, can be read from these
+/// bytes only.
 #[inline(always)]
 fn holds_behind<F: BoundedForm>(first: u64, bytes: &[u8]) -> bool
     ensures { IsTrue result → (limit : Option ℕ) → EndsEarly
@@ -160,8 +160,8 @@ fn holds_behind<F: BoundedForm>(first: u64, bytes: &[u8]) -> bool
     }
 }
 
-/// Whether the next message, or what is wrong with it, can be read from these bytes alone. Where it
-/// can't be told cheaply it is denied.
+/// Returns whether the next message, or its fault, can be read from these bytes only. If this can't
+/// be found cheaply, it returns false.
 #[inline(always)]
 pub(crate) fn holds_next<F: BoundedForm>(bytes: &[u8]) -> bool
     ensures { IsTrue result → (limit : Option ℕ)

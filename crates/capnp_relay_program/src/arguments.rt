@@ -1,4 +1,4 @@
-//! The words behind the program's name.
+//! The arguments of the program.
 ghost use Rattle.std.specs.Prelude.{◌≡◌, map, string_bytes};
 ghost use Rattle.capnp_relay_program.specs.Arguments.{decimal_in, forms_named, arguments_of, arguments_in, is_help};
 
@@ -13,19 +13,20 @@ pub struct Forms {
     pub plain: bool,
 }
 
-/// What the words of a run say, but for the names of its files.
+/// The contents of a run's arguments, except for the names of its files.
 #[derive(Clone, Copy, Debug, PartialEq, Eq)]
 pub struct Arguments {
     /// The id of the root's node.
     pub root: u64,
     pub forms: Forms,
-    /// Whether a fifth word names a newer schema file.
+    /// Whether a fifth argument names a newer schema file.
     pub newer: bool,
-    /// Whether a sixth word names a renames file.
+    /// Whether a sixth argument names a renames file.
     pub renames: bool,
 }
 
-/// The number that decimal digits alone spell, at least one, where 64 bits hold it.
+/// Returns the number that at least one decimal digit, and nothing else, spells, if 64 bits hold
+/// it.
 fn decimal(word: &str) -> Option<u64>
     ensures { result ≡ decimal_in word.now }
 {
@@ -35,7 +36,7 @@ fn decimal(word: &str) -> Option<u64>
     word.parse::<u64>().ok()
 }
 
-/// The forms that a word names.
+/// Returns the forms that an argument names.
 fn forms_named(word: &str) -> Option<Forms>
     ensures { result ≡ forms_named word.now }
 {
@@ -57,7 +58,7 @@ fn forms_named(word: &str) -> Option<Forms>
     })
 }
 
-/// What the root's word and the forms' say, where these files are named.
+/// Makes the arguments of a root and of forms, if these files are named.
 fn arguments_of(root: &str, form: &str, newer: bool, renames: bool) -> Option<Arguments>
     ensures { result ≡ arguments_of root.now form.now newer renames }
 {
@@ -72,14 +73,14 @@ fn arguments_of(root: &str, form: &str, newer: bool, renames: bool) -> Option<Ar
 }
 
 impl Arguments {
-    /// What the words say, one after the other:
+    /// Reads the arguments, which are in this order:
     /// - a schema file and a calls file;
-    /// - the root's id in decimal digits alone;
+    /// - the root's id, only in decimal digits;
     /// - the forms, the input's and then the output's: `framed`, `packed`, `framed-packed` or
-    ///   `packed-framed`, with `+plain` behind it where messages are written as they were built;
-    /// - a newer schema file, if any, and behind that a renames file, if any.
+    ///   `packed-framed`, followed by `+plain` if messages are written as they were built;
+    /// - a newer schema file, if any, and then a renames file, if any.
     ///
-    /// `None` where they are other words, or more or fewer.
+    /// It returns `None` if they are other arguments, or more or fewer.
     pub fn new(words: &[String]) -> Option<Arguments>
         ensures { result ≡ arguments_in (map string_bytes words.now) }
     {
@@ -101,7 +102,7 @@ impl Arguments {
     }
 }
 
-/// Whether the usage is asked for.
+/// Returns whether the usage is requested.
 pub fn asks_for_help(words: &[String]) -> bool
     ensures { result ≡ is_help (map string_bytes words.now) }
 {

@@ -1,5 +1,5 @@
-//! The relay's program but for its files and streams: the words and the files of a run, and the
-//! run.
+//! The relay's program, except for its files and streams: the arguments and the files of a run, and
+//! the run.
 #![tactic(auto)]
 
 pub mod ahead;

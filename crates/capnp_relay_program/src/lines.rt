@@ -1,4 +1,4 @@
-//! The line that tells a fault. It takes no memory, so that want of memory is told as well.
+//! The line that reports a fault. It takes no memory, so that lack of memory is reported too.
 ghost use Rattle.std.specs.Prelude.{decimal};
 ghost use Rattle.capnp_stream_io.specs.Writes.{Writes};
 ghost use Rattle.capnp_relay_loop.specs.Streams.{sink_of};
@@ -28,7 +28,7 @@ fn write_number<L: Write>(log: &mut L, number: u64) -> Result<()>
     write_text(log, buffer.format(number).as_bytes())
 }
 
-/// Writes what the line says of input that begins with no message.
+/// Writes the line's text for input that doesn't begin with a message.
 fn write_framing<L: Write>(log: &mut L, kind: ErrorKind) -> Result<()>
     ensures { let seen = sink_of ⟦<L as Write>⟧ in
         Writes L.may_grow (framing_words kind) (seen log.old) result (seen log.new) }
@@ -37,7 +37,7 @@ fn write_framing<L: Write>(log: &mut L, kind: ErrorKind) -> Result<()>
     write_text(log, kind.name().as_bytes())
 }
 
-/// Writes what the line says of a fault of the relay.
+/// Writes the line's text for a fault of the relay.
 fn write_fault<L: Write>(log: &mut L, fault: Fault) -> Result<()>
     ensures { let seen = sink_of ⟦<L as Write>⟧ in
         Writes L.may_grow (fault_words fault) (seen log.old) result (seen log.new) }
@@ -52,7 +52,7 @@ fn write_fault<L: Write>(log: &mut L, fault: Fault) -> Result<()>
     }
 }
 
-/// Writes what the line says of a broken rule and its node.
+/// Writes the line's text for a broken rule and its node.
 fn write_rule<L: Write>(log: &mut L, rule: u32, node: usize) -> Result<()>
     ensures { let seen = sink_of ⟦<L as Write>⟧ in
         Writes L.may_grow (rule_words rule node) (seen log.old) result (seen log.new) }
@@ -63,7 +63,7 @@ fn write_rule<L: Write>(log: &mut L, rule: u32, node: usize) -> Result<()>
     write_number(log, node as u64)
 }
 
-/// Writes what the line says of a call.
+/// Writes the line's text for a call.
 fn write_call<L: Write>(log: &mut L, number: usize) -> Result<()>
     ensures { let seen = sink_of ⟦<L as Write>⟧ in
         Writes L.may_grow (call_words number) (seen log.old) result (seen log.new) }
@@ -72,7 +72,7 @@ fn write_call<L: Write>(log: &mut L, number: usize) -> Result<()>
     write_number(log, number as u64)
 }
 
-/// Writes what the line says of a call that isn't admitted.
+/// Writes the line's text for a call that isn't admitted.
 fn write_not_admitted<L: Write>(log: &mut L, number: usize) -> Result<()>
     ensures { let seen = sink_of ⟦<L as Write>⟧ in
         Writes L.may_grow (not_admitted_words number) (seen log.old) result (seen log.new) }
@@ -81,7 +81,7 @@ fn write_not_admitted<L: Write>(log: &mut L, number: usize) -> Result<()>
     write_text(log, b" not admitted")
 }
 
-/// Writes what the line says of a fault.
+/// Writes the line's text for a fault.
 fn write_stop<L: Write>(log: &mut L, stop: Stop) -> Result<()>
     ensures { let seen = sink_of ⟦<L as Write>⟧ in
         Writes L.may_grow (stop_words stop) (seen log.old) result (seen log.new) }
@@ -101,7 +101,7 @@ fn write_stop<L: Write>(log: &mut L, stop: Stop) -> Result<()>
     }
 }
 
-/// Writes the line that tells a fault.
+/// Writes the line that reports a fault.
 pub(crate) fn write_line<L: Write>(log: &mut L, stop: Stop) -> Result<()>
     ensures { let seen = sink_of ⟦<L as Write>⟧ in
         Writes L.may_grow (fault_line stop) (seen log.old) result (seen log.new) }

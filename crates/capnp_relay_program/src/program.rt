@@ -1,4 +1,4 @@
-//! The program but for its files.
+//! The program, except for its files.
 ghost use Rattle.std.specs.Prelude.{◌≡◌, [], map, string_bytes};
 ghost use Rattle.std.specs.Option.{option_copied};
 ghost use Rattle.capnp_relay_loop.specs.Streams.{sink_seen, streams_of};
@@ -18,7 +18,7 @@ use crate::usage::USAGE;
 use capnp_stream_io::traits::{Read, Write};
 use std::alloc::Global;
 
-/// Writes a text and hands on what the sink holds; what it refuses is given up.
+/// Writes a text and passes on the bytes that the sink holds; an error of the sink is ignored.
 fn put<L: Flush>(sink: &mut L, text: &[u8])
     ensures { Told L.may_grow text.now
         (sink_seen L.contents L.failures L.room sink.old)
@@ -29,8 +29,8 @@ fn put<L: Flush>(sink: &mut L, text: &[u8])
     let _flushed = sink.flush();
 }
 
-/// Writes the line of a fault behind the log and hands on what the log holds; what it refuses is
-/// given up.
+/// Writes the line of a fault after the log and passes on the bytes that the log holds; an error of
+/// the log is ignored.
 fn put_fault<L: Flush>(log: &mut L, stop: Stop)
     ensures { Told L.may_grow (fault_line stop)
         (sink_seen L.contents L.failures L.room log.old)
@@ -41,14 +41,14 @@ fn put_fault<L: Flush>(log: &mut L, stop: Stop)
     let _flushed = log.flush();
 }
 
-/// The program over the words behind its name and the files that they name; a file that can't be
-/// read, or that no word names, is `None`. With a newer schema file the relay is the one between
-/// two versions, with the fields that a renames file renames. Messages come from the source, edited
-/// messages go to the output and a line for each to the log. The status: 0, or 1 where there was a
-/// fault, which is told in the last line of the log.
+/// Runs the program over its arguments and the files that they name; a file that can't be read, or
+/// that no argument names, is `None`. With a newer schema file the relay is the one between two
+/// versions, with the fields that a renames file renames. Messages come from the source, edited
+/// messages go to the output and a line for each to the log. It returns the status: 0, or 1 if
+/// there was a fault, which the last line of the log reports.
 ///
-/// The first fault is told, before anything is read or written:
-/// 1. of the words;
+/// The first fault is reported, before anything is read or written:
+/// 1. of the arguments;
 /// 2. of the schema file, its rules and the root;
 /// 3. of the newer file, its rules and the root;
 /// 4. of the renames file;
@@ -56,8 +56,8 @@ fn put_fault<L: Flush>(log: &mut L, stop: Stop)
 /// 6. of compatibility, and of calls that aren't admitted.
 ///
 /// Then come those of the run. Both sinks are flushed before a message is read, unless the bytes
-/// that the source shows hold it. The one word `--help` has the usage written to the output, and is
-/// a fault of the words.
+/// that the source shows hold the message. If `--help` is the only argument, the usage is written
+/// to the output, and this is a fault of the arguments.
 pub fn program<R: Windowed, W: Flush, L: Flush>(
     alloc: Global,
     words: &[String],

@@ -23,12 +23,12 @@ use capnp_stream_packed::form::Packed;
 use std::alloc::Global;
 
 /// The most bytes of the region in which messages are edited. A run writes zeros to all of it
-/// before its first message, so it has room for the messages of most streams and no more. One that
-/// is longer is edited in memory from `alloc`.
+/// before its first message, so it has room for the messages of most streams and no more. A longer
+/// message is edited in memory from `alloc`.
 const REGION_LEN: usize = 64 * 1024;
 
-/// The bytes of the files that words name: `None` for one that can't be read, or that no word
-/// names.
+/// The bytes of the files that arguments name: `None` for a file that can't be read, or that no
+/// argument names.
 #[derive(Clone, Copy)]
 pub(crate) struct Files<'a> {
     pub(crate) schema: Option<&'a [u8]>,
@@ -37,8 +37,8 @@ pub(crate) struct Files<'a> {
     pub(crate) renames: Option<&'a [u8]>,
 }
 
-/// The end of the relay that was asked for, of input in this form; nothing is read or written where
-/// it is held back.
+/// Runs the requested relay on input in this form, and returns its end; nothing is read or written
+/// if the relay is held back.
 fn relay_in<F: BoundedForm, R: Windowed, W: Flush, L: Flush>(
     alloc: Global,
     settings: &Settings,
@@ -95,7 +95,8 @@ fn relay_in<F: BoundedForm, R: Windowed, W: Flush, L: Flush>(
     }
 }
 
-/// The end of the relay that was asked for; nothing is read or written where it is held back.
+/// Runs the requested relay, and returns its end; nothing is read or written if the relay is held
+/// back.
 fn relay_asked<R: Windowed, W: Flush, L: Flush>(
     alloc: Global,
     settings: &Settings,
@@ -119,8 +120,8 @@ fn relay_asked<R: Windowed, W: Flush, L: Flush>(
     }
 }
 
-/// Settles what the words and the files ask for, relays the messages of the source, and flushes
-/// both sinks, the output first.
+/// Finds the settings of the arguments and the files, relays the messages of the source, and
+/// flushes both sinks, the output first.
 pub(crate) fn relay_all<R: Windowed, W: Flush, L: Flush>(
     alloc: Global,
     words: &[String],

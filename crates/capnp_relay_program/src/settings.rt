@@ -1,4 +1,4 @@
-//! What the words and the files of a run ask for.
+//! The settings of a run, from its arguments and files.
 ghost use Rattle.std.specs.Prelude.{◌≡◌, Ok, Err, map, string_bytes, option_map, IsSome, IfOk, IfErr, ⊤};
 ghost use Rattle.std.specs.Option.{option_copied};
 ghost use Rattle.capnp_calls.specs.CallViews.{call_view};
@@ -21,13 +21,13 @@ use capnp_relay_loop::ends::Fault;
 use capnp_relay_streams::options::{Form, ReaderOptions, RelayOptions};
 use std::alloc::Global;
 
-/// What a run is asked.
+/// The settings of a run.
 #[derive(Drop)]
 pub struct Settings {
     pub(crate) version: Version,
-    /// The newer version, with the same root, where a word names its file.
+    /// The newer version, with the same root, if an argument names its file.
     pub(crate) newer: Option<Version>,
-    /// The newer version's names of the older's fields; `None` where no word names a file of them.
+    /// The newer version's names of the older fields; `None` if no argument names a file of them.
     pub renamings: Renamings,
     pub calls: Vec<Call>,
     pub options: RelayOptions,
@@ -37,7 +37,7 @@ pub struct Settings {
     pub ghost same_input: { options.input ≡ input },
 }
 
-/// The newer version, where a word names its file.
+/// Returns the newer version, if an argument names its file.
 fn newer_version(
     alloc: Global,
     is_named: bool,
@@ -56,7 +56,7 @@ fn newer_version(
     Ok(Some(Version::new(alloc, file, id)?))
 }
 
-/// The renamings of the renames file, where a word names it.
+/// Returns the renamings of the renames file, if an argument names it.
 fn named_renamings(alloc: Global, is_named: bool, file: Option<&[u8]>) -> Result<Renamings, Stop>
     ensures ok { IfOk result (λ rs.
         file_renamings is_named (option_copied file.entry) ≡ Ok (renamings_of rs)) }
@@ -79,7 +79,7 @@ fn named_renamings(alloc: Global, is_named: bool, file: Option<&[u8]>) -> Result
     }
 }
 
-/// What a calls file says; none is read where there is no file.
+/// Reads a calls file; if there is no file, nothing is read.
 fn calls_text(alloc: Global, file: Option<&[u8]>) -> Result<CallsFile, Stop>
     ensures ok { IfOk result (λ text. file_calls (option_copied file.entry) ≡ Ok (file_of text)) }
     ensures refused { IfErr result (IsStopRefusal (IsSome file.entry)
@@ -93,7 +93,7 @@ fn calls_text(alloc: Global, file: Option<&[u8]>) -> Result<CallsFile, Stop>
     }
 }
 
-/// The calls of a calls file, or the first that is refused.
+/// Makes the calls of a calls file, or returns the first that is refused.
 fn made_calls(
     alloc: Global,
     parts: Vec<(Vec<Step>, Verb, Option<CallValue>)>,
@@ -113,7 +113,7 @@ fn made_calls(
     Ok(calls)
 }
 
-/// The options of these forms and limits.
+/// Makes the options of these forms and limits.
 fn options_of(forms: Forms, words: usize, nesting: i32) -> Result<RelayOptions, Stop>
     ensures forms { IfOk result (λ options. forms_of options ≡ forms) }
     ensures limits { IfOk result (λ options. limits_in words nesting ≡ Ok (relay_limits options)) }
@@ -133,14 +133,14 @@ fn options_of(forms: Forms, words: usize, nesting: i32) -> Result<RelayOptions, 
 impl Settings {
     ghost use Rattle.capnp_relay_program.specs.Settings.{asked_of};
 
-    /// What the words and the files ask for, or the first fault:
+    /// Makes the settings of the arguments and the files, or returns the first fault:
     /// 1. of the arguments;
     /// 2. of the schema file, its rules and the root;
-    /// 3. of the newer schema file, its rules and the root, where a word names one;
-    /// 4. of the renames file, where a word names one;
+    /// 3. of the newer schema file, its rules and the root, if an argument names one;
+    /// 4. of the renames file, if an argument names one;
     /// 5. of the calls file, the calls and the limits.
     ///
-    /// A file that can't be read is `None`. `Relay(Memory)`: a growth was refused.
+    /// A file that can't be read is `None`. `Relay(Memory)`: an allocation was refused.
     pub fn new(
         alloc: Global,
         words: &[String],

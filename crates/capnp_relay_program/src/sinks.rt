@@ -17,7 +17,7 @@ pub trait Flush: Write {
     /// The bytes that are held back.
     ghost held: { Self → List ℕ };
 
-    /// Hands on what is held back, all of it where it is Ok.
+    /// Passes on the bytes that are held back, all of them if it returns `Ok`.
     fn flush(&mut self) -> Result<()>
         ensures empty { OnOk result (held self.new ≡ []) }
         ensures kept { Keeps (Self.contents self.old) (Self.contents self.new) }

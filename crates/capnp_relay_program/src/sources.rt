@@ -1,4 +1,4 @@
-//! The flushes before a source that may wait.
+//! Flushes before a source that may wait.
 ghost use Rattle.std.specs.Prelude.{◌≡◌, [], OnOk, IfErr, ⊤};
 ghost use Rattle.capnp_relay_loop.specs.Streams.{sink_of};
 ghost use Rattle.capnp_relay_loop.specs.Pauses.{SinkRests, FailsInPause};
@@ -12,8 +12,8 @@ pub use capnp_stream_io::traits::Windowed;
 use capnp_stream_io::traits::{Read, Write};
 use std::marker::PhantomData;
 
-/// Hands on what both sinks hold, the output's before the log's. It doesn't where the bytes that
-/// the source shows tell the next message, or what is wrong with it, so that it is read without a
+/// Passes on the bytes that both sinks hold, the output's before the log's. It does nothing if the
+/// bytes that the source shows hold the next message, or its fault, which is then read without a
 /// wait. `Out`, `Log`: the sink's device failed.
 #[inline(always)]
 pub fn flush_before_wait<F: BoundedForm, R: Windowed, W: Flush, L: Flush>(
@@ -45,7 +45,7 @@ pub fn flush_before_wait<F: BoundedForm, R: Windowed, W: Flush, L: Flush>(
     Ok(())
 }
 
-/// Before a wait for input both sinks are flushed. The input has this form.
+/// A pause that flushes both sinks before a wait for input. The input has this form.
 #[derive(Clone, Copy, Debug)]
 pub struct FlushBeforeWait<F> {
     form: PhantomData<F>,

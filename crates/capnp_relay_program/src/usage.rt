@@ -1,6 +1,6 @@
-//! What the program says of itself.
+//! The program's usage.
 
-/// How the program is called, with an example.
+/// The command line of the program, with an example.
 pub const USAGE: &str = "capnp_relay_cli SCHEMA CALLS ROOT FORM [NEWER [RENAMES]]
 
 Reads Cap'n Proto messages from standard input, makes the calls on the root of each, writes each edited message in canonical

@@ -25,7 +25,7 @@ pub struct Version {
     pub ghost known: { IsStructOf (nodes_of set) root },
 }
 
-/// The set of a schema file; none is read where there is no file.
+/// Returns the set of a schema file; if there is no file, nothing is read.
 pub(crate) fn schema_set(alloc: Global, file: Option<&[u8]>) -> Result<SchemaSet, Stop>
     ensures ok { IfOk result (λ set. file_nodes (option_copied file.entry) ≡ Ok (nodes_of set)) }
     ensures refused { IfErr result (IsStopRefusal (IsSome file.entry)
@@ -53,9 +53,9 @@ impl Version {
     ghost use Rattle.capnp_relay_program.specs.Faults.{IsStopRefusal};
     ghost use Rattle.capnp_relay_program.specs.Asked.{version_in};
 
-    /// The version of a schema file with the root of this id, or the first fault: of the file, its
-    /// rules and the root. A file that can't be read is `None`. `Relay(Memory)`: a growth was
-    /// refused.
+    /// Returns the version of a schema file with the root of this id, or the first fault: of the
+    /// file, its rules or the root. A file that can't be read is `None`. `Relay(Memory)`: an
+    /// allocation was refused.
     pub fn new(alloc: Global, file: Option<&[u8]>, id: u64) -> Result<Version, Stop>
         ensures ok { IfOk result (λ v.
             version_in (option_copied file.entry) id ≡ Ok (nodes_of v.set)) }
@@ -69,7 +69,7 @@ impl Version {
         Ok(Version { set, root })
     }
 
-    /// The root's schema.
+    /// Returns the root's schema.
     pub fn root(&self) -> StructSchema<'_>
         ensures nodes { nodes_around result ≡ nodes_of self.now.set }
         ensures id { id_of result ≡ self.now.root.id }

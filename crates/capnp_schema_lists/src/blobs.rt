@@ -1,4 +1,4 @@
-//! Texts and data behind the pointers of elements of lists that are built, over places.
+//! Texts and data of elements of lists that are built, over places.
 ghost use Rattle.std.specs.Prelude.{◌≡◌, ◌<◌, option_map, IfErr, OnOk, OnErr};
 ghost use Rattle.capnp_model.specs.Calls.{blob_tree};
 ghost use Rattle.capnp_model.specs.Coverage.{Grows};
@@ -21,7 +21,7 @@ use capnp_units::errors::Result;
 use capnp_values::dynamic_value::Reader;
 use capnp_values_queries::introspect::{Type, TypeVariant};
 
-/// The text or the data that a value is, if elements of the type are such.
+/// Returns the text or the data of a value, if elements of the type are texts or data.
 pub(crate) fn blob_for<'a, B>(ty: Type, value: &Reader<'a, B>) -> Option<Blob<'a>>
     ensures { option_map list_bytes_of result ≡ blob_given value.now (ty_of ty) }
 {
@@ -32,7 +32,7 @@ pub(crate) fn blob_for<'a, B>(ty: Type, value: &Reader<'a, B>) -> Option<Blob<'a
     }
 }
 
-/// Puts a text or data in place of the value behind the pointer of an element, which is cleared.
+/// Replaces the value of an element's pointer, which is cleared, by a text or data.
 pub(crate) fn put_blob<A: BuilderArena>(
     arena: &mut A,
     list: ListPlace,

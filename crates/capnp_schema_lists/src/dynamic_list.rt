@@ -44,8 +44,8 @@ use capnp_values_queries::structs::StructSchema;
 use capnp_wire::list::ListReader;
 use capnp_wire_objects::arena::ReaderArena;
 
-/// Whether the elements of a list are there under their type, as its builder asks. Plain ones have
-/// the bits of their type, structs their schema's two sizes, all others their pointers.
+/// Returns whether the elements of a list fit their type, as its builder requires. Plain elements
+/// need the bits of their type, structs their schema's two sizes, all others their pointers.
 pub fn holds<A: BuilderArena>(
     builder: &ListBuilder<'_, A>,
     set: &SchemaSet,
@@ -58,7 +58,7 @@ pub fn holds<A: BuilderArena>(
     holding::holds(builder.place, set, element_type)
 }
 
-/// The list at a place, to read under its elements' type.
+/// Returns the list at a place, to read under its elements' type.
 fn read_at<'a, A: BuilderArena>(
     arena: &'a A,
     place: ListPlace,
@@ -99,8 +99,8 @@ impl<'a, A: BuilderArena> Builder<'a, A> {
     ghost use Rattle.capnp_schema_structs.specs.Builders.{IsReady as IsStructReady};
     ghost use Rattle.capnp_schema_lists.specs.Lending.{LendsListBuilder, LendsElementStruct};
 
-    /// A list of elements of a type of the set. It lies whole, and its elements have the bits or
-    /// the pointers of their type, as `holds` tells.
+    /// Makes the builder of a list of elements of a type of the set. The whole list exists, and its
+    /// elements have the bits or the pointers of their type, as `holds` checks.
     pub fn new(builder: ListBuilder<'a, A>, set: &'a SchemaSet, element_type: Type) -> Self
         requires there { IsListThere (words_in (A.segments builder.memory.now.arena))
             builder.place }
@@ -124,7 +124,7 @@ impl<'a, A: BuilderArena> Builder<'a, A> {
         }
     }
 
-    /// This list, lent.
+    /// Lends this list.
     pub fn reborrow(&mut self) -> Builder<'_, A>
         requires ready { IsReadyList A.segments self.old }
         ensures* lends { sem 𝓛 (LendsListBuilder A.row self.entry result) }
@@ -146,8 +146,8 @@ impl<'a, A: BuilderArena> Builder<'a, A> {
         }
     }
 
-    /// A struct of the same message that is there and wide enough for its schema, lent: one that
-    /// `struct_at` tells, as long as the list stays where it is.
+    /// Lends a struct of the same message that exists and is wide enough for its schema: one that
+    /// `struct_at` returned, if the list is still at its place.
     pub fn part<'b>(&'b mut self, part: Part<'b>) -> dynamic_struct::Builder<'b, A>
         requires there { IsThere (words_in (A.segments self.old.memory.now.arena)) part.place }
         requires wide { HoldsShape part.place (shape_of_struct part.schema) }
@@ -166,10 +166,10 @@ impl<'a, A: BuilderArena> Builder<'a, A> {
         }
     }
 
-    /// Where the struct at an index lies, which is one of the list's, under the schema of the
-    /// elements' type. `part` lends its handle, and `elements_as_structs` of the laws tells what is
-    /// changed of the list with it. It is refused with `TypeMismatch` exactly where the elements
-    /// are no structs.
+    /// Returns the place of the struct at an index, which is within the list, under the schema of
+    /// the elements' type. `part` lends its handle, and the law `elements_as_structs` describes how
+    /// writing through the handle changes the list. It is refused with `TypeMismatch` exactly if
+    /// the elements are not structs.
     pub fn struct_at(&self, index: u32) -> Result<Part<'a>>
         requires ready { IsReadyList A.segments self.now }
         requires index { index < self.now.place.count }
@@ -187,8 +187,8 @@ impl<'a, A: BuilderArena> Builder<'a, A> {
         }
     }
 
-    /// The list to read, under its elements' type. Its pointers are followed under the arena's
-    /// nesting limit. Where these are structs, its elements aren't bits.
+    /// Returns the list to read, under its elements' type. Its pointers are followed under the
+    /// arena's nesting limit. If the type is a struct, the elements aren't bits.
     pub fn reborrow_as_reader(&self) -> Reader<'_, A>
         requires ready { IsReadyList A.segments self.now }
         requires bytewise { IsBytewise self.now.place (ty_of self.now.element_type) }
@@ -200,7 +200,7 @@ impl<'a, A: BuilderArena> Builder<'a, A> {
         read_at(&self.memory.arena, self.place, self.set, self.element_type)
     }
 
-    /// The list to read, of which no handle to write is left.
+    /// Returns the list to read, and uses up the handle for writing.
     pub fn into_reader(self) -> Reader<'a, A>
         requires ready { IsReadyList A.segments self }
         requires bytewise { IsBytewise self.place (ty_of self.element_type) }
@@ -218,51 +218,50 @@ impl<'a, A: BuilderArena> Builder<'a, A> {
         read_at(&memory.arena, place, set, element_type)
     }
 
-    /// How many elements there are.
+    /// Returns the number of elements.
     pub fn len(&self) -> u32
         ensures { result ≡ self.now.place.count }
     {
         self.place.count
     }
 
-    /// Whether there is no element.
+    /// Returns whether the list is empty.
     pub fn is_empty(&self) -> bool
         ensures { result ≡ (self.now.place.count == 0) }
     {
         self.place.count == 0
     }
 
-    /// The type of the elements.
+    /// Returns the type of the elements.
     pub fn element_type(&self) -> Type
         ensures { result ≡ self.now.element_type }
     {
         self.element_type
     }
 
-    /// Sets the element at an index, which is one of the list's, to a value. It takes
-    /// - as a plain one a value of its type, as one of an enum any enum's, as a Void one each
-    ///   value;
-    /// - as one of texts or of data a value of its own;
-    /// - as one of lists any list, which is copied whole;
-    /// - as one of structs a struct of its own schema, whose content it takes over as far as it
-    ///   fits.
+    /// Sets the element at an index, which is within the list, to a value. An element takes
+    /// - if it is plain, a value of its type; if it is an enum, any enum's value; if it is Void,
+    ///   any value;
+    /// - if it is a text or data, a value of its own type;
+    /// - if it is a list, any list, which is copied whole;
+    /// - if it is a struct, a struct of its own schema, whose content is copied as far as it fits.
     ///
-    /// Elements that are wider than their type keep the bits behind it. A plain value takes no
-    /// memory. A text or data takes the words of its list where the list's segment has room for
-    /// them, else at most one more. A copy takes at most twice the words of its objects.
+    /// Elements that are wider than their type keep the bits after it. A plain value takes no
+    /// memory. A text or data takes the words of its list if the list's segment has room for them,
+    /// otherwise at most one more. A copy takes at most twice the words of its objects.
     ///
     /// It is refused
-    /// - with `ListAnyPointerNotSupported` where the elements are untyped pointers;
-    /// - with `ListCapabilityNotSupported` where they are capabilities and the value is one;
-    /// - else with `TypeMismatch` where it doesn't take the value;
-    /// - a text or data with `SizeOverflow` exactly where its bytes, a text's with its zero byte,
-    ///   or the message's words, a pad counted, would pass 2^29 - 1;
-    /// - a text or data else as the allocator refuses;
-    /// - a list as `PointerBuilder::set_list` and a struct as `StructBuilder::copy_content_from`
-    ///   under no limit of words.
+    /// - with `ListAnyPointerNotSupported` if the elements are untyped pointers;
+    /// - with `ListCapabilityNotSupported` if they are capabilities and the value is a capability;
+    /// - otherwise with `TypeMismatch` if the element doesn't take the value;
+    /// - a text or data with `SizeOverflow` exactly if its bytes, a text's with its zero byte, or
+    ///   the message's words, including a pad, would exceed 2^29 - 1;
+    /// - a text or data otherwise with the allocator's error;
+    /// - a list like `PointerBuilder::set_list` and a struct like
+    ///   `StructBuilder::copy_content_from` without a limit of words.
     ///
-    /// Then all words stand as they were, and those that were allocated are zero. But an element
-    /// that is a struct may have the data and the first pointers of the refused one.
+    /// Then all words are unchanged, and those that were allocated are zero. The exception is an
+    /// element that is a struct: it may have the data and the first pointers of the refused struct.
     pub fn set<B: ReaderArena>(
         &mut self,
         index: u32,
@@ -286,17 +285,18 @@ impl<'a, A: BuilderArena> Builder<'a, A> {
         set_value(self.memory, place, ty, index, &value)
     }
 
-    /// Puts n zeros into the element at an index, which is one of the list's and is cleared. A text
-    /// or data becomes n zero bytes, a text with its own zero byte besides. A list becomes n zeros,
-    /// nulls or empty structs. The new list takes its words, the tag of structs among them, where
-    /// this one's segment has room for them, else at most one more.
+    /// Replaces the value of the element at an index, which is within the list, by n zeros; the old
+    /// value is cleared. A text or data becomes n zero bytes, and a text also has its own zero
+    /// byte. A list becomes n zeros, nulls or empty structs. The new list takes its words,
+    /// including the tag of structs, if this list's segment has room for them, otherwise at most
+    /// one more.
     ///
-    /// It is refused, and the list is then as it was,
-    /// - with `ListAnyPointerNotSupported` where the elements are untyped pointers;
-    /// - with `ExpectedAListOrBlob` where they are of another type;
-    /// - with `SizeOverflow` exactly where the elements, structs' words or the message's words, a
-    ///   pad counted, would pass 2^29 - 1;
-    /// - else as the allocator refuses.
+    /// It is refused, and then the list is unchanged,
+    /// - with `ListAnyPointerNotSupported` if the elements are untyped pointers;
+    /// - with `ExpectedAListOrBlob` if they are of another type;
+    /// - with `SizeOverflow` exactly if the elements, structs' words or the message's words,
+    ///   including a pad, would exceed 2^29 - 1;
+    /// - otherwise with the allocator's error.
     pub fn init(&mut self, index: u32, size: u32) -> Result<()>
         requires ready { IsReadyList A.segments self.old }
         requires index { index < self.old.place.count }

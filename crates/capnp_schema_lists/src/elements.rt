@@ -28,7 +28,7 @@ use capnp_values::dynamic_value::Reader;
 use capnp_values_queries::introspect::{Type, TypeVariant};
 use capnp_values_queries::slots::{PlainType, width_of};
 
-/// The plain type that a type is, if it is one.
+/// Returns the plain type of a type, if the type is plain.
 pub fn plain_type(ty: Type) -> Option<PlainType>
     ensures { option_map plain_of result ≡ plain_in (ty_of ty) }
 {
@@ -47,7 +47,7 @@ pub fn plain_type(ty: Type) -> Option<PlainType>
     }
 }
 
-/// Writes a number into the bits at the front of an element. The index is one of the list's, whose
+/// Writes a number into the bits at the front of an element. The index is within the list, whose
 /// elements have n bits; the number fits them.
 pub fn set_front<A: BuilderArena>(
     arena: &mut A,
@@ -76,8 +76,8 @@ pub fn set_front<A: BuilderArena>(
     }
 }
 
-/// Sets an element to a plain value, or a Void one to any. The value is looked at first, so that a
-/// refusal leaves all as it was.
+/// Sets an element to a plain value, or a Void element to any value. The value is checked first, so
+/// a refusal leaves everything unchanged.
 fn set_single<A: BuilderArena, B>(
     arena: &mut A,
     list: ListPlace,
@@ -111,8 +111,8 @@ fn set_single<A: BuilderArena, B>(
     }
 }
 
-/// Sets an element to a value without pointers, or a Void one to any. The value is looked at and
-/// memory taken first, so that a refusal leaves all as it was.
+/// Sets an element to a value without pointers, or a Void element to any value. The value is
+/// checked and memory taken first, so a refusal leaves everything unchanged.
 pub fn set_flat<A: BuilderArena, B>(
     arena: &mut A,
     list: ListPlace,

@@ -1,4 +1,4 @@
-//! Whether the elements of lists are there under their types.
+//! Tests whether the elements of lists fit their types.
 ghost use Rattle.std.specs.Prelude.{◌≡◌, ◌↔◌, ◌≤◌, true};
 ghost use Rattle.capnp_model.specs.Accepted.{schema_of};
 ghost use Rattle.capnp_records.specs.Sets.{nodes_of};
@@ -15,7 +15,7 @@ use capnp_values_queries::introspect::{Type, TypeVariant};
 use capnp_values_queries::slots::width_of;
 use capnp_values_queries::structs::StructSchema;
 
-/// Whether each element has n bits at its front.
+/// Returns whether each element has n bits at its front.
 fn has_room(list: ListPlace, width: u32) -> bool
     requires { width ≤ 64 }
     ensures { (result ≡ true) ↔ HasElementBits list width }
@@ -27,7 +27,7 @@ fn has_room(list: ListPlace, width: u32) -> bool
     }
 }
 
-/// Whether each element has a pointer.
+/// Returns whether each element has a pointer.
 fn has_pointer(list: ListPlace) -> bool
     ensures { (result ≡ true) ↔ HasPointer list }
 {
@@ -38,7 +38,7 @@ fn has_pointer(list: ListPlace) -> bool
     }
 }
 
-/// Whether the elements are structs of at least a schema's two sizes.
+/// Returns whether the elements are structs of at least a schema's two sizes.
 fn has_sizes(list: ListPlace, schema: StructSchema<'_>) -> bool
     ensures { (result ≡ true) ↔ HasSizes list (shape_of_struct schema.entry) }
 {
@@ -51,7 +51,7 @@ fn has_sizes(list: ListPlace, schema: StructSchema<'_>) -> bool
     }
 }
 
-/// Whether the elements of a list are there under their type: plain ones with the bits of their
+/// Returns whether the elements of a list fit their type: plain elements with the bits of their
 /// type, structs with their schema's two sizes, all others with their pointers.
 pub fn holds(list: ListPlace, set: &SchemaSet, ty: Type) -> bool
     requires known { is_type_of (nodes_of set.now) ty ≡ true }

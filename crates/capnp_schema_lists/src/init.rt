@@ -1,5 +1,5 @@
-//! Lists of zeros, nulls and empty structs, and texts and data of zero bytes, put into elements,
-//! over places.
+//! Lists of zeros, nulls and empty structs, and texts and data of zero bytes, as new values of
+//! elements, over places.
 ghost use Rattle.std.specs.Prelude.{◌≡◌, ◌<◌, true, IfErr, OnErr};
 ghost use Rattle.capnp_model.specs.Calls.{initn, element_content};
 ghost use Rattle.capnp_model.specs.Coverage.{Grows};
@@ -25,7 +25,8 @@ use capnp_units::errors::{Error, Result};
 use capnp_units::kinds::ErrorKind;
 use capnp_values_queries::introspect::{Type, TypeVariant};
 
-/// Why no list is made in an element of a type that is no list's, no text's and no data's.
+/// Returns the reason for which no list is made in an element whose type is not a list, text or
+/// data.
 fn refusal(ty: Type) -> ErrorKind
     ensures { kind_of result ≡ no_new_element (ty_of ty) }
 {
@@ -35,20 +36,20 @@ fn refusal(ty: Type) -> ErrorKind
     }
 }
 
-/// Puts n zeros in place of the value behind an element's pointer, which is cleared, as `init` of a
-/// dynamic list's builder does. A text or data becomes n zero bytes, a text with its own zero byte
-/// besides. A list becomes n zeros, nulls or empty structs. The index is one of the list's. The new
-/// list takes its words, the tag of structs among them, where the list's segment has room for them,
-/// else at most one more.
+/// Replaces the value of an element's pointer, which is cleared, by n zeros, like `init` of a
+/// dynamic list's builder. A text or data becomes n zero bytes, and a text also has its own zero
+/// byte. A list becomes n zeros, nulls or empty structs. The index is within the list. The new list
+/// takes its words, including the tag of structs, if the list's segment has room for them,
+/// otherwise at most one more.
 ///
 /// It is refused
-/// - with `ListAnyPointerNotSupported` where the elements are untyped pointers;
-/// - with `ExpectedAListOrBlob` where they are of another type;
-/// - with `SizeOverflow` exactly where the elements, structs' words or the message's words, a pad
-///   counted, would pass 2^29 - 1;
-/// - else as the allocator refuses.
+/// - with `ListAnyPointerNotSupported` if the elements are untyped pointers;
+/// - with `ExpectedAListOrBlob` if they are of another type;
+/// - with `SizeOverflow` exactly if the elements, structs' words or the message's words, including
+///   a pad, would exceed 2^29 - 1;
+/// - otherwise with the allocator's error.
 ///
-/// Then all is as it was.
+/// Then everything is unchanged.
 pub fn init_element<A: BuilderArena>(
     arena: &mut A,
     list: ListPlace,

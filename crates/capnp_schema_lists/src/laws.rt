@@ -1,7 +1,7 @@
 //! Laws of elements, each the contract of a function that does nothing.
 //!
-//! A caller that writes into an element goes from the list to the element's struct or pointer by
-//! `parts`, and comes back with its change by what that tells.
+//! A caller that writes into an element gets the element's struct or pointer from the list by
+//! `parts`, and by the same law returns with the change to the list.
 ghost use Rattle.std.specs.Prelude.{ℕ, ◌<◌};
 ghost use Rattle.capnp_model.specs.Edits.{Edit, put_child};
 ghost use Rattle.capnp_model.specs.Segments.{Segments};
@@ -20,8 +20,8 @@ ghost use Rattle.capnp_schema_lists.specs.Lists.{IsListThere, IsListOf, HasPoint
 ghost use Rattle.capnp_schema_lists.specs.Parts.{IsElementStruct, IsPointerOf};
 ghost use Rattle.capnp_schema_lists.specs.Places.{IsStructAt, IsElementPointer};
 
-/// An element of a list of structs lies there as a struct, and what is done to this is done to the
-/// element.
+/// An element of a list of structs is a struct at its place, and a change to this struct is a
+/// change to the element.
 pub fn elements_as_structs()
     ensures there { (s : Segments) (o : ListPlace) (i : ℕ) (p : StructPlace) → i < o.count
         → IsStructAt o i p → IsListThere s o → IsThere s p }
@@ -36,7 +36,7 @@ pub fn elements_as_structs()
         → DeepensElement s u o f i }
 {}
 
-/// The pointer of an element, and what is done to its value is done to the element's first child.
+/// A change to the value of an element's pointer is a change to the element's first child.
 pub fn elements_as_pointers()
     ensures there { (s : Segments) (o : ListPlace) (i : ℕ) (q : code.Place) → HasPointer o
         → i < o.count → IsElementPointer o i q → IsListThere s o → AreThere s (place_view q) 1 }

@@ -1,5 +1,5 @@
-//! Dynamic builders of lists: lists whose elements' type is known at run time, written where they
-//! lie in a message.
+//! Dynamic builders of lists: lists whose elements' type is known at run time, written into a
+//! message in place.
 #![tactic(auto)]
 
 mod blobs;

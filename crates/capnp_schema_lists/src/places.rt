@@ -1,4 +1,4 @@
-//! Where elements that are structs lie, and the pointers of elements.
+//! Places of elements that are structs, and of the pointers of elements.
 ghost use Rattle.std.specs.Prelude.{◌≡◌, ◌<◌, ◌^◌};
 ghost use Rattle.capnp_units.specs.Sizes.{size_number};
 ghost use Rattle.capnp_schema_lists.specs.Places.{IsStructAt, IsElementPointer};
@@ -8,9 +8,8 @@ use capnp_copy_arenas::init::ListPlace;
 use capnp_units::sizes::ElementSize;
 use capnp_wire_objects::place::Place;
 
-/// The struct at which an element of a list of structs lies, with the list's data words and
-/// pointers. The index is one of the list's. `elements_as_structs` of the laws tells what it is to
-/// the list.
+/// Returns the place of an element of a list of structs, with the list's data words and pointers.
+/// The index is within the list. The law `elements_as_structs` relates the struct to the list.
 pub fn element_struct(list: ListPlace, index: u32) -> StructPlace
     requires structs { size_number list.size ≡ 7 }
     requires near { list.start.position < 2 ^ 61 }
@@ -27,9 +26,9 @@ pub fn element_struct(list: ListPlace, index: u32) -> StructPlace
     }
 }
 
-/// The pointer of an element of a list: the element itself, or the first pointer of a struct. The
-/// index is one of the list's, whose elements have pointers. `elements_as_pointers` of the laws
-/// tells what it is to the list.
+/// Returns the place of the pointer of an element of a list: the element itself, or the first
+/// pointer of a struct. The index is within the list, whose elements have pointers. The law
+/// `elements_as_pointers` relates the pointer to the list.
 pub fn element_pointer(list: ListPlace, index: u32) -> Place
     requires near { list.start.position < 2 ^ 61 }
     ensures segment { result.segment ≡ list.start.segment }

@@ -35,7 +35,7 @@ use capnp_values_queries::introspect::{Type, TypeVariant};
 use capnp_wire::structs::StructReader;
 use capnp_wire_objects::arena::ReaderArena;
 
-/// The list that a value is, if elements of the type are lists.
+/// Returns the list of a value, if elements of the type are lists.
 fn list_for<'a, B: ReaderArena>(ty: Type, value: &Reader<'a, B>) -> Option<Source<'a, B>>
     ensures given { option_map (source_view B.segments) result
         ≡ list_given B.segments value.now (ty_of ty) }
@@ -48,7 +48,7 @@ fn list_for<'a, B: ReaderArena>(ty: Type, value: &Reader<'a, B>) -> Option<Sourc
     }
 }
 
-/// Whether elements of the type are capabilities, and the value is one.
+/// Returns whether elements of the type are capabilities, and the value is a capability.
 fn are_capabilities<B>(ty: Type, value: &Reader<'_, B>) -> bool
     ensures { result ≡ (are_capabilities (ty_of ty) && is_capability value.now) }
 {
@@ -58,8 +58,8 @@ fn are_capabilities<B>(ty: Type, value: &Reader<'_, B>) -> bool
     }
 }
 
-/// Puts a copy in place of the value behind the pointer of an element, which is cleared, under no
-/// limit of words.
+/// Replaces the value of an element's pointer, which is cleared, by a copy, without a limit of
+/// words.
 fn set_source<A: BuilderArena, B: ReaderArena>(
     memory: &mut Memory<A>,
     list: ListPlace,
@@ -82,7 +82,7 @@ fn set_source<A: BuilderArena, B: ReaderArena>(
     put_source(memory, element_pointer(list, index), source)
 }
 
-/// Puts the content of a struct into another, as far as it fits.
+/// Copies the content of a struct into another, as far as it fits.
 fn copy_content<A: BuilderArena, B: ReaderArena>(
     memory: &mut Memory<A>,
     place: StructPlace,
@@ -99,7 +99,7 @@ fn copy_content<A: BuilderArena, B: ReaderArena>(
     object.copy_content_from(limiter, value)
 }
 
-/// Puts the content of a struct of a message or of a default into another, as far as it fits.
+/// Copies the content of a struct of a message or of a default into another, as far as it fits.
 fn copy_any<A: BuilderArena, B: ReaderArena>(
     memory: &mut Memory<A>,
     place: StructPlace,
@@ -118,8 +118,8 @@ fn copy_any<A: BuilderArena, B: ReaderArena>(
     }
 }
 
-/// Puts the content of a struct into an element that is one, as far as it fits, under no limit of
-/// words.
+/// Copies the content of a struct into an element that is a struct, as far as it fits, without a
+/// limit of words.
 fn set_struct<A: BuilderArena, B: ReaderArena>(
     memory: &mut Memory<A>,
     list: ListPlace,
@@ -140,9 +140,10 @@ fn set_struct<A: BuilderArena, B: ReaderArena>(
     copy_any(memory, element_struct(list, index), &mut unlimited, source)
 }
 
-/// Sets an element to a value, or a Void one to any. The value is looked at and memory taken first,
-/// and a pointer written last. So after a refusal all words stand, and those that were allocated
-/// are zero. But a struct that is refused leaves a beginning of its content.
+/// Sets an element to a value, or a Void element to any value. The value is checked and memory
+/// taken first, and a pointer is written last. So after a refusal all words are unchanged, and
+/// those that were allocated are zero. The exception is a struct that is refused: it leaves a
+/// beginning of its content.
 pub fn set_value<A: BuilderArena, B: ReaderArena>(
     memory: &mut Memory<A>,
     list: ListPlace,

@@ -1,4 +1,4 @@
-//! Fields that are begun.
+//! Beginning of fields by new values.
 ghost use Rattle.std.specs.Prelude.{◌≡◌, IfOk, IfErr, OnErr};
 ghost use Rattle.capnp_model.specs.Coverage.{Grows};
 ghost use Rattle.capnp_units.specs.Segments.{words_in};
@@ -21,7 +21,7 @@ use capnp_values_queries::fields::Field;
 use capnp_values_queries::introspect::{Type, TypeVariant};
 use capnp_values_queries::slots::FieldPlace;
 
-/// Whether a type is an untyped pointer's.
+/// Returns whether a type is an untyped pointer.
 fn is_untyped(ty: Type) -> bool
     ensures { result ≡ is_untyped (ty_of ty) }
 {
@@ -31,16 +31,16 @@ fn is_untyped(ty: Type) -> bool
     }
 }
 
-/// Begins a field: what `init` of a dynamic struct's builder does. A slot of a struct's type gets a
-/// struct of zeros and nulls, as by `init_slot`; a group is cleared, as by `clear`; an untyped slot
-/// becomes null. A union member becomes the active one. It tells where the struct or the group
-/// lies, and nothing of an untyped slot. A group and an untyped slot take no memory.
+/// Begins a field, like `init` of a dynamic struct's builder. A slot of a struct type gets a struct
+/// of zeros and nulls, like in `init_slot`; a group is cleared, like in `clear`; an untyped slot
+/// becomes null. A union member becomes the active member. It returns the place of the struct or
+/// the group, and `None` for an untyped slot. A group and an untyped slot take no memory.
 ///
-/// It is refused, and all is then as it was,
-/// - with `InitIsOnlyValidForStructAndAnyPointerFields` where the field is of another type;
-/// - a struct with `SizeOverflow` exactly where the message's words, a pad counted, would pass
+/// It is refused, and then everything is unchanged,
+/// - with `InitIsOnlyValidForStructAndAnyPointerFields` if the field is of another type;
+/// - a struct with `SizeOverflow` exactly if the message's words, including a pad, would exceed
 ///   2^29 - 1;
-/// - a struct else as the allocator refuses.
+/// - a struct otherwise with the allocator's error.
 pub fn begin_field<'a, A: BuilderArena>(
     arena: &mut A,
     object: StructPlace,

@@ -34,7 +34,7 @@ use capnp_values_queries::structs::StructSchema;
 use capnp_wire::structs::StructReader;
 use capnp_wire_objects::arena::ReaderArena;
 
-/// Whether a struct has at least a schema's two sizes, as its builder asks.
+/// Returns whether a struct has at least a schema's two sizes, as its builder requires.
 pub fn has_sizes<A: BuilderArena>(builder: &StructBuilder<'_, A>, schema: StructSchema<'_>) -> bool
     ensures { (result ≡ true) ↔ HoldsShape builder.now.place (shape_of_struct schema.entry) }
 {
@@ -48,7 +48,7 @@ pub fn has_sizes<A: BuilderArena>(builder: &StructBuilder<'_, A>, schema: Struct
     true
 }
 
-/// The struct at a place, to read.
+/// Returns the struct at a place, to read.
 fn read_at<'a, A: BuilderArena>(
     arena: &'a A,
     place: StructPlace,
@@ -76,7 +76,8 @@ impl<'a, A: BuilderArena> Builder<'a, A> {
     ghost use Rattle.std.specs.Borrow.{sem};
     ghost use Rattle.capnp_schema_structs.specs.Lending.{Lends};
 
-    /// A struct under a schema. It has at least the schema's two sizes.
+    /// Makes the builder of a struct under a schema. The struct has at least the schema's two
+    /// sizes.
     pub fn new(builder: StructBuilder<'a, A>, schema: StructSchema<'a>) -> Self
         requires there { IsThere (words_in (A.segments builder.memory.now.arena)) builder.place }
         requires wide { HoldsShape builder.place (shape_of_struct schema) }
@@ -94,7 +95,7 @@ impl<'a, A: BuilderArena> Builder<'a, A> {
         }
     }
 
-    /// This struct, lent.
+    /// Lends this struct.
     pub fn reborrow(&mut self) -> Builder<'_, A>
         requires ready { IsReady A.segments self.old }
         ensures* lends { sem 𝓛 (Lends A.row self.entry result) }
@@ -112,8 +113,8 @@ impl<'a, A: BuilderArena> Builder<'a, A> {
         }
     }
 
-    /// A struct of the same message that is there and wide enough for its schema, lent: one that
-    /// `init_struct`, `init` or `init_named` told, as long as nothing else was written.
+    /// Lends a struct of the same message that exists and is wide enough for its schema: one that
+    /// `init_struct`, `init` or `init_named` returned, if nothing else was written since.
     pub fn part<'b>(&'b mut self, part: Part<'b>) -> Builder<'b, A>
         requires there { IsThere (words_in (A.segments self.old.memory.now.arena)) part.place }
         requires wide { HoldsShape part.place (shape_of_struct part.schema) }
@@ -132,17 +133,17 @@ impl<'a, A: BuilderArena> Builder<'a, A> {
         }
     }
 
-    /// The struct's schema.
+    /// Returns the struct's schema.
     pub fn get_schema(&self) -> StructSchema<'a>
         ensures { result ≡ self.now.schema }
     {
         self.schema
     }
 
-    /// Clears a field of the struct: zero bits, as which it reads as its default, or null, behind
-    /// which all words of the old value become zero. Of a group, its member of discriminant 0 and
-    /// all its fields that are no members are cleared, through nested groups. A union member
-    /// becomes the active one. Nothing is allocated, and it never refuses.
+    /// Clears a field of the struct: its bits become zero, which reads as its default, or its
+    /// pointer becomes null, and all words of the old value become zero. In a group the member of
+    /// discriminant 0 and all fields that are not members are cleared, through nested groups. A
+    /// union member becomes the active member. Nothing is allocated, and it is never refused.
     pub fn clear(&mut self, field: Field<'_>) -> Result<()>
         requires ready { IsReady A.segments self.old }
         requires field { field.parent ≡ self.old.schema }
@@ -158,19 +159,20 @@ impl<'a, A: BuilderArena> Builder<'a, A> {
     }
 
     /// Sets a field to a value:
-    /// - a plain one to a value of its type, one of an enum to any enum's, a Void one to each;
-    /// - one of texts or of data to one of its own;
-    /// - one of structs to any struct and one of lists to any list, whatever their schema, which
-    ///   are copied whole; an untyped one to these two, a text or data;
-    /// - a group to a struct of its own schema, as by `group_sets::set_group`.
+    /// - a plain field to a value of its type, a field of an enum to any enum's value, a Void field
+    ///   to any value;
+    /// - a field of texts or of data to a value of its own type;
+    /// - a field of structs to any struct and a field of lists to any list, whatever their schema,
+    ///   which are copied whole; an untyped field to these two, a text or data;
+    /// - a group to a struct of its own schema, like in `group_sets::set_group`.
     ///
-    /// A union member becomes the active one. A plain value takes no memory. A text or data takes
-    /// the words of its list where the struct's segment has room for them, else at most one more. A
-    /// copy takes at most twice the words of its objects.
+    /// A union member becomes the active member. A plain value takes no memory. A text or data
+    /// takes the words of its list if the struct's segment has room for them, otherwise at most one
+    /// more. A copy takes at most twice the words of its objects.
     ///
-    /// The refusals are those of `capnp_schema_structs::values::set_value`. Then all words stand as
-    /// they were, the struct's union included, and those that were allocated for a copy are zero.
-    /// But a group that is set to a struct has a beginning of its writes.
+    /// It is refused like `capnp_schema_structs::values::set_value`. Then all words are unchanged,
+    /// including the struct's union, and those that were allocated for a copy are zero. The
+    /// exception is a group that is set to a struct: it has a beginning of its writes.
     pub fn set<B: ReaderArena>(
         &mut self,
         field: Field<'_>,
@@ -190,7 +192,8 @@ impl<'a, A: BuilderArena> Builder<'a, A> {
         set_value(self.memory, place, field, &value)
     }
 
-    /// Sets the field of a name, as by `set`. `FieldNotFound`: it has none such, and all stands.
+    /// Sets the field of a name, like `set`. `FieldNotFound`: there is no such field, and
+    /// everything is unchanged.
     pub fn set_named<B: ReaderArena>(
         &mut self,
         name: &str,
@@ -214,8 +217,8 @@ impl<'a, A: BuilderArena> Builder<'a, A> {
         set_value(self.memory, place, field, &value)
     }
 
-    /// Clears the field of a name, as by `clear`. A name that the struct lacks is refused by
-    /// `FieldNotFound`, and nothing else is; then the struct is as it was.
+    /// Clears the field of a name, like `clear`. It is only refused for a name that the struct
+    /// lacks, with `FieldNotFound`; then the struct is unchanged.
     pub fn clear_named(&mut self, name: &str) -> Result<()>
         requires ready { IsReady A.segments self.old }
         ensures same { self.new.memory.ghost_name ≡ self.old.memory.ghost_name }
@@ -232,12 +235,13 @@ impl<'a, A: BuilderArena> Builder<'a, A> {
         Ok(())
     }
 
-    /// Puts a struct of zeros and nulls in place of the value of a field of a struct's type, and
-    /// tells where it lies: `init` of such a field. The old value is cleared. A union member
-    /// becomes the active one. The struct takes the words of its schema's two sizes where this
-    /// one's segment has room for them, else at most one more. `part` lends its handle.
+    /// Replaces the value of a field of a struct type by a struct of zeros and nulls, and returns
+    /// its place: this is `init` of such a field. The old value is cleared. A union member becomes
+    /// the active member. The struct takes the words of its schema's two sizes if this struct's
+    /// segment has room for them, otherwise at most one more. `part` lends its handle.
     ///
-    /// It is refused as `capnp_schema_structs::init::init_slot`, and the struct is then as it was.
+    /// It is refused like `capnp_schema_structs::init::init_slot`, and then the struct is
+    /// unchanged.
     pub fn init_struct<'b>(&mut self, field: Field<'b>) -> Result<Part<'b>>
         requires ready { IsReady A.segments self.old }
         requires field { field.parent ≡ self.old.schema }
@@ -254,13 +258,13 @@ impl<'a, A: BuilderArena> Builder<'a, A> {
         init_slot(&mut self.memory.arena, place, field)
     }
 
-    /// Begins a field: `init`. A field of a struct's type gets a struct of zeros and nulls, as by
-    /// `init_struct`; a group is cleared, as by `clear`; an untyped field becomes null. The old
-    /// value is cleared. A union member becomes the active one. It tells where the struct or the
-    /// group lies, which `part` lends as it stands, and nothing of an untyped field. A group and an
+    /// Begins a field: `init`. A field of a struct type gets a struct of zeros and nulls, like in
+    /// `init_struct`; a group is cleared, like in `clear`; an untyped field becomes null. The old
+    /// value is cleared. A union member becomes the active member. It returns the place of the
+    /// struct or the group, which `part` lends, and `None` for an untyped field. A group and an
     /// untyped field take no memory.
     ///
-    /// It is refused as `capnp_schema_structs::begin::begin_field`; the struct is then as it was.
+    /// It is refused like `capnp_schema_structs::begin::begin_field`; then the struct is unchanged.
     pub fn init<'b>(&mut self, field: Field<'b>) -> Result<Option<Part<'b>>>
         requires ready { IsReady A.segments self.old }
         requires field { field.parent ≡ self.old.schema }
@@ -277,13 +281,13 @@ impl<'a, A: BuilderArena> Builder<'a, A> {
         begin_field(&mut self.memory.arena, place, field)
     }
 
-    /// Puts n zeros into a field of a text's, of data's or of a list's type: `initn`. A text or
-    /// data becomes n zero bytes, a text with its own zero byte besides. A list becomes n zeros,
+    /// Replaces the value of a field of text, data or a list type by n zeros: `initn`. A text or
+    /// data becomes n zero bytes, and a text also has its own zero byte. A list becomes n zeros,
     /// nulls or empty structs of its elements' type. The old value is cleared. A union member
-    /// becomes the active one. The list takes its words, the tag of structs among them, where this
-    /// one's segment has room for them, else at most one more.
+    /// becomes the active member. The list takes its words, including the tag of structs, if this
+    /// struct's segment has room for them, otherwise at most one more.
     ///
-    /// It is refused as `capnp_schema_structs::initn::initn_slot`; the struct is then as it was.
+    /// It is refused like `capnp_schema_structs::initn::initn_slot`; then the struct is unchanged.
     pub fn initn(&mut self, field: Field<'_>, count: u32) -> Result<()>
         requires ready { IsReady A.segments self.old }
         requires field { field.parent ≡ self.old.schema }
@@ -300,8 +304,8 @@ impl<'a, A: BuilderArena> Builder<'a, A> {
         initn_slot(&mut self.memory.arena, place, field, count)
     }
 
-    /// Begins the field of a name, as by `init`. A name that the struct lacks is refused by
-    /// `FieldNotFound`, and all is as it was.
+    /// Begins the field of a name, like `init`. A name that the struct lacks is refused with
+    /// `FieldNotFound`, and everything is unchanged.
     pub fn init_named(&mut self, name: &str) -> Result<Option<Part<'a>>>
         requires ready { IsReady A.segments self.old }
         ensures same { self.new.memory.ghost_name ≡ self.old.memory.ghost_name }
@@ -321,8 +325,8 @@ impl<'a, A: BuilderArena> Builder<'a, A> {
         begin_field(&mut self.memory.arena, place, found)
     }
 
-    /// Puts n zeros into the field of a name, as by `initn`. A name that the struct lacks is
-    /// refused by `FieldNotFound`, and all is as it was.
+    /// Replaces the value of the field of a name by n zeros, like `initn`. A name that the struct
+    /// lacks is refused with `FieldNotFound`, and everything is unchanged.
     pub fn initn_named(&mut self, name: &str, count: u32) -> Result<()>
         requires ready { IsReady A.segments self.old }
         ensures same { self.new.memory.ghost_name ≡ self.old.memory.ghost_name }
@@ -339,7 +343,7 @@ impl<'a, A: BuilderArena> Builder<'a, A> {
         initn_slot(&mut self.memory.arena, place, found, count)
     }
 
-    /// The struct to read, under its schema and the arena's nesting limit.
+    /// Returns the struct to read, under its schema and the arena's nesting limit.
     pub fn reborrow_as_reader(&self) -> dynamic_struct::Reader<'_, A>
         requires ready { IsReady A.segments self.now }
         ensures source { struct_seen A.segments result.source
@@ -349,7 +353,7 @@ impl<'a, A: BuilderArena> Builder<'a, A> {
         read_at(&self.memory.arena, self.place, self.schema)
     }
 
-    /// The struct to read, of which no handle to write is left.
+    /// Returns the struct to read, and uses up the handle for writing.
     pub fn into_reader(self) -> dynamic_struct::Reader<'a, A>
         requires ready { IsReady A.segments self }
         ensures source { struct_seen A.segments result.source
@@ -364,8 +368,9 @@ impl<'a, A: BuilderArena> Builder<'a, A> {
         read_at(&memory.arena, place, schema)
     }
 
-    /// Whether a field of the struct is there: false for a union member that isn't the active one,
-    /// and where the field's pointer is null; else true, for groups too. It never refuses.
+    /// Returns whether a field of the struct is present. It is not present if it is a union member
+    /// that isn't active, or if its pointer is null. Other fields are present, groups too. It is
+    /// never refused.
     pub fn has(&self, field: Field<'_>) -> Result<bool>
         requires ready { IsReady A.segments self.now }
         ensures { result
@@ -374,8 +379,8 @@ impl<'a, A: BuilderArena> Builder<'a, A> {
         self.reborrow_as_reader().has(field)
     }
 
-    /// Whether the field of a name is there, as by `has`. A name that the struct lacks is refused
-    /// by `FieldNotFound`, and nothing else is.
+    /// Returns whether the field of a name is present, like `has`. It is only refused for a name
+    /// that the struct lacks, with `FieldNotFound`.
     pub fn has_named(&self, name: &str) -> Result<bool>
         requires ready { IsReady A.segments self.now }
         ensures { AnswersNamed self.now.schema name.now
@@ -384,8 +389,8 @@ impl<'a, A: BuilderArena> Builder<'a, A> {
         self.reborrow_as_reader().has_named(name)
     }
 
-    /// The union's active member: `None` without a union, and where the discriminant is that of no
-    /// member. It never refuses.
+    /// Returns the union's active member: `None` without a union, and if no member has the
+    /// discriminant. It is never refused.
     pub fn which(&self) -> Result<Option<Field<'_>>>
         requires ready { IsReady A.segments self.now }
         ensures { IsOkAnd result

@@ -1,4 +1,4 @@
-//! Empty values, as which null pointers of active members count where groups are set.
+//! Empty values, as which null pointers of active members count when groups are set.
 ghost use Rattle.std.specs.Prelude.{◌≡◌, ◌<◌, ◌^◌, true, IfSome, IfNone};
 ghost use Rattle.std.specs.Option.{is_some};
 ghost use Rattle.capnp_model.specs.Accepted.{schema_of};
@@ -31,7 +31,7 @@ const NOTHING: StructSize = StructSize {
     pointers: 0,
 };
 
-/// Whether a type is a list of structs.
+/// Returns whether a type is a list of structs.
 fn is_struct_list(ty: Type) -> bool
     ensures { result ≡ is_struct_list (ty_of ty) }
 {
@@ -44,7 +44,7 @@ fn is_struct_list(ty: Type) -> bool
     }
 }
 
-/// The empty text, data or list of a type.
+/// Returns the empty text, data or list of a type.
 fn empty_list(set: &SchemaSet, ty: Type) -> Option<NewList>
     requires { is_type_of (nodes_of set.now) ty ≡ true }
     ensures list { IfSome result (λ l.
@@ -60,9 +60,9 @@ fn empty_list(set: &SchemaSet, ty: Type) -> Option<NewList>
     list_for(set, ty)
 }
 
-/// Puts the empty value of a type in place of the value of the pointer at a place. A type without
-/// one is refused with `TypeMismatch`, others only for want of room: with `SizeOverflow`, or as the
-/// allocator refuses.
+/// Replaces the value of the pointer at a place by the empty value of a type. A type without an
+/// empty value is refused with `TypeMismatch`, others only for lack of room: with `SizeOverflow`,
+/// or with the allocator's error.
 pub(crate) fn put_empty<A: BuilderArena>(
     arena: &mut A,
     slot: Place,

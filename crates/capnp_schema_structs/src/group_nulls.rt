@@ -1,4 +1,4 @@
-//! What null pointers of active members count as, where groups are set.
+//! Values of null pointers of active members when groups are set.
 ghost use Rattle.std.specs.Prelude.{ℕ, ◌≡◌, ◌<◌, ◌^◌, true, Option, Some, option_map, option_copied, IsSome};
 ghost use Rattle.std.specs.Option.{is_some};
 ghost use Rattle.capnp_model.specs.Accepted.{schema_of};
@@ -29,7 +29,7 @@ use capnp_values_queries::fields::Field;
 use capnp_values_queries::introspect::Type;
 use capnp_wire_objects::place::Place;
 
-/// The default of a field that is a pointer.
+/// Returns the default of a field that is a pointer.
 pub(crate) fn default_value<'a>(field: Field<'a>) -> Option<&'a Value>
     ensures { (i : ℕ) (ty : Ty) (d : Option Tree)
         → option_map (λ e. e.body) (entry_of_field field.entry) ≡ Some (pointer_slot i ty d)
@@ -38,8 +38,8 @@ pub(crate) fn default_value<'a>(field: Field<'a>) -> Option<&'a Value>
     default_said(field.get_proto())
 }
 
-/// Puts the value of a segment in place of the value of the pointer at a place; where its root is
-/// null, the empty value of a type. It is refused as `put_null`.
+/// Replaces the value of the pointer at a place by the value of a segment; if the segment's root is
+/// null, by the empty value of a type. It is refused like `put_null`.
 fn put_segment<A: BuilderArena>(
     arena: &mut A,
     slot: Place,
@@ -65,10 +65,10 @@ fn put_segment<A: BuilderArena>(
     copy_root(arena, slot, words)
 }
 
-/// Puts what a null pointer counts as in place of the value of the pointer at a place: its default.
-/// Without one, or where it is null, that is the empty value of its type. A type that has neither
-/// is refused with `TypeMismatch`, others only for want of room: with `SizeOverflow`, or as the
-/// allocator refuses.
+/// Replaces the value of the pointer at a place by the value as which a null pointer counts: its
+/// default. Without a default, or if the default is null, this is the empty value of its type. A
+/// type that has neither is refused with `TypeMismatch`, others only for lack of room: with
+/// `SizeOverflow`, or with the allocator's error.
 pub(crate) fn put_null<A: BuilderArena>(
     arena: &mut A,
     slot: Place,

@@ -1,5 +1,5 @@
 //! Groups that are set to structs, over places in an arena: for builders of structs, and for calls
-//! that are written where a message lies (`capnp_calls_edits`).
+//! that are written into a message in place (`capnp_calls_edits`).
 ghost use Rattle.std.specs.Prelude.{◌≡◌, ◌<◌, true, IfErr};
 ghost use Rattle.capnp_model.specs.Coverage.{Grows};
 ghost use Rattle.capnp_model.specs.Trees.{child, null};
@@ -36,8 +36,7 @@ use capnp_values_queries::structs::StructSchema;
 use capnp_wire::structs::StructReader;
 use capnp_wire_objects::arena::ReaderArena;
 
-/// Tests that a slot of a pointer's type is one that is set: untyped pointers and capabilities
-/// aren't.
+/// Checks that a slot of a pointer's type can be set: untyped pointers and capabilities can't.
 fn test_type(ty: Type) -> Result<()>
     ensures { answered result ≡ type_tested (ty_of ty) }
 {
@@ -49,8 +48,8 @@ fn test_type(ty: Type) -> Result<()>
     Err(Error::from(kind))
 }
 
-/// Sets a field behind a pointer that is null in what is read: it is left. But as a union's member
-/// it becomes its default, else the empty value of its type, and the union is marked.
+/// Sets a field whose pointer is null in the source: the field is left. If it is a union's member,
+/// it becomes its default, otherwise the empty value of its type, and the union is marked.
 fn copy_null<A: BuilderArena>(
     arena: &mut A,
     object: StructPlace,
@@ -82,8 +81,8 @@ fn copy_null<A: BuilderArena>(
     Ok(())
 }
 
-/// Sets a field behind a pointer that isn't null in what is read, and then marks its union. It is
-/// refused where the pointer can't be read as the field's type.
+/// Sets a field whose pointer isn't null in the source, and then marks its union. It is refused if
+/// the pointer can't be read as the field's type.
 fn copy_some<'a, A: BuilderArena, B: ReaderArena>(
     arena: &mut A,
     object: StructPlace,
@@ -116,7 +115,7 @@ fn copy_some<'a, A: BuilderArena, B: ReaderArena>(
     Ok(())
 }
 
-/// Sets a field as it is in what is read, and marks its union.
+/// Sets a field to its value in the source, and marks its union.
 #[cycle(sets)]
 fn copy_field<'a, A: BuilderArena, B: ReaderArena>(
     arena: &mut A,
@@ -163,8 +162,8 @@ fn copy_field<'a, A: BuilderArena, B: ReaderArena>(
     }
 }
 
-/// Sets a field in its turn as it is in what is read: the member that is active there, or a field
-/// that is no member.
+/// Sets a field in its turn to its value in the source: the member that is active there, or a field
+/// that is not a member.
 #[cycle(sets)]
 fn copy_turn<'a, A: BuilderArena, B: ReaderArena>(
     arena: &mut A,
@@ -190,7 +189,7 @@ fn copy_turn<'a, A: BuilderArena, B: ReaderArena>(
     copy_field(arena, object, field, source)
 }
 
-/// Sets the fields of a group that have their turn as they are in what is read.
+/// Sets the fields of a group that have their turn to their values in the source.
 #[cycle(sets)]
 fn copy_fields<'a, A: BuilderArena, B: ReaderArena>(
     arena: &mut A,
@@ -220,8 +219,8 @@ fn copy_fields<'a, A: BuilderArena, B: ReaderArena>(
     Ok(())
 }
 
-/// Sets the fields of a cleared group as they are in what is read: the active member, then those
-/// that are no members.
+/// Sets the fields of a cleared group to their values in the source: the active member, then the
+/// fields that are not members.
 #[cycle(sets)]
 fn copy_group<'a, A: BuilderArena, B: ReaderArena>(
     arena: &mut A,
@@ -247,22 +246,22 @@ fn copy_group<'a, A: BuilderArena, B: ReaderArena>(
 
 /// Sets a field that is a group to a struct, of a message or of a default, whatever its schema, and
 /// marks its union. The group is cleared, then the struct's active member is set, then its other
-/// fields by index, nested groups in this way too. A null pointer is left, but that of an active
-/// member becomes its default, else the empty value of its type. What lies past the struct's data
-/// section reads as zero, also where this isn't whole words, as that of an element of a list of
-/// numbers.
+/// fields by index, and nested groups in the same way. A null pointer is left, but that of an
+/// active member becomes its default, otherwise the empty value of its type. Values past the
+/// struct's data section read as zero, also if the section isn't whole words, as in an element of a
+/// list of numbers.
 ///
 /// It is refused at the first of these fields that can't be set:
 /// - with `CannotSetAnyPointerFieldToAPrimitiveValue` at an untyped pointer that isn't null or is
 ///   an active member;
 /// - with `SettingDynamicCapabilitiesIsUnsupported` at such a capability;
-/// - as `dynamic_struct::Reader::get` where a pointer can't be read as its type;
-/// - at a null pointer of the active member only for want of room for its default or its empty
-///   value. That is `SizeOverflow` exactly where it is too long, or the message's words with its
-///   next object and a pad would pass 2^29 - 1, else as the allocator refuses;
-/// - else as a copy is.
+/// - like `dynamic_struct::Reader::get` if a pointer can't be read as its type;
+/// - at a null pointer of the active member only for lack of room for its default or its empty
+///   value. The error is `SizeOverflow` exactly if the value is too long, or the message's words
+///   with its next object and a pad would exceed 2^29 - 1, otherwise the allocator's error;
+/// - otherwise like a copy.
 ///
-/// After a refusal the group has a beginning of its writes, and all else stands.
+/// After a refusal the group has a beginning of its writes, and everything else is unchanged.
 pub fn set_group<'a, A: BuilderArena, B: ReaderArena>(
     arena: &mut A,
     object: StructPlace,

@@ -1,4 +1,4 @@
-//! Structs that are read, as groups are set from them.
+//! Structs to read, as sources from which groups are set.
 ghost use Rattle.std.specs.Prelude.{ℕ, ◌≡◌, ◌*◌, ◌<◌, ◌^◌, IfErr, OnOk};
 ghost use Rattle.capnp_model.specs.Readings.{discriminant, field_bits, is_active};
 ghost use Rattle.capnp_model.specs.Schemas.{width};
@@ -29,7 +29,7 @@ use capnp_wire::structs::StructReader;
 use capnp_wire_objects::arena::ReaderArena;
 use capnp_wire_objects::place::Place;
 
-/// Whether the union's member of a discriminant is the active one in what is read.
+/// Returns whether the union's member of a discriminant is the active member in the source.
 fn is_active<B: ReaderArena>(
     source: &StructReader<'_, B>,
     schema: StructSchema<'_>,
@@ -47,8 +47,8 @@ fn is_active<B: ReaderArena>(
     }
 }
 
-/// Whether it is a field's turn: first that of the member that is active in what is read, then of
-/// the fields that are no members.
+/// Returns whether it is a field's turn: first that of the member that is active in the source,
+/// then of the fields that are not members.
 pub(crate) fn has_turn<B: ReaderArena>(
     source: &StructReader<'_, B>,
     field: Field<'_>,
@@ -65,7 +65,7 @@ pub(crate) fn has_turn<B: ReaderArena>(
     members && is_active(source, field.parent(), member)
 }
 
-/// The bits of a plain slot of what is read: zero unless they lie wholly in its data section.
+/// Returns the bits of a plain slot of the source: zero unless they are wholly in its data section.
 pub(crate) fn bits_in<B: ReaderArena>(
     source: &StructReader<'_, B>,
     ty: PlainType,
@@ -90,7 +90,7 @@ pub(crate) fn bits_in<B: ReaderArena>(
     }
 }
 
-/// Puts a value of what is read, which isn't null, in place of the value of the pointer at a place.
+/// Replaces the value of the pointer at a place by a value of the source, which isn't null.
 pub(crate) fn copy_child<A: BuilderArena, B: ReaderArena>(
     arena: &mut A,
     slot: Place,

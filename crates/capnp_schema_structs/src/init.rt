@@ -36,7 +36,7 @@ pub struct Part<'a> {
     pub schema: StructSchema<'a>,
 }
 
-/// The two sizes of a schema's structs.
+/// Returns the two sizes of a schema's structs.
 pub fn struct_size(schema: StructSchema<'_>) -> StructSize
     ensures { result ≡ size_of_shape (shape_of_struct schema.entry) }
 {
@@ -47,7 +47,7 @@ pub fn struct_size(schema: StructSchema<'_>) -> StructSize
     }
 }
 
-/// The schema of the struct that a type of a set names, if it is a struct's.
+/// Returns the schema of the struct that a type of a set names, if it is a struct type.
 pub fn struct_of_type<'a>(set: &'a SchemaSet, ty: Type) -> Option<StructSchema<'a>>
     requires { is_type_of (nodes_of set.now) ty ≡ true }
     ensures named { option_map id_of result ≡ struct_named (ty_of ty) }
@@ -59,7 +59,8 @@ pub fn struct_of_type<'a>(set: &'a SchemaSet, ty: Type) -> Option<StructSchema<'
     }
 }
 
-/// Why no struct is made in a slot of a pointer's type that is no struct's.
+/// Returns the reason for which no struct is made in a slot of a pointer's type other than a
+/// struct's.
 fn refusal(ty: Type) -> ErrorKind
     requires { struct_named (ty_of ty) ≡ None }
     ensures { kind_of result ≡ no_struct (ty_of ty) }
@@ -70,8 +71,7 @@ fn refusal(ty: Type) -> ErrorKind
     }
 }
 
-/// Puts a struct of a schema's sizes in place of the value of the pointer at a place, which is
-/// cleared.
+/// Replaces the value of the pointer at a place, which is cleared, by a struct of a schema's sizes.
 fn put_struct<A: BuilderArena>(
     arena: &mut A,
     slot: Place,
@@ -93,18 +93,18 @@ fn put_struct<A: BuilderArena>(
     init_struct(arena, slot, struct_size(schema))
 }
 
-/// Puts a struct of zeros and nulls in place of the value of a slot of a struct's type, which is
-/// cleared. So does `init` of a dynamic struct's builder to such a field. A union member becomes
-/// the active one. The struct takes the words of its schema's two sizes where the holder's segment
-/// has room for them, else at most one more.
+/// Replaces the value of a slot of a struct type, which is cleared, by a struct of zeros and nulls,
+/// like `init` of a dynamic struct's builder for such a field. A union member becomes the active
+/// member. The struct takes the words of its schema's two sizes if the holder's segment has room
+/// for them, otherwise at most one more.
 ///
 /// It is refused
-/// - with `TypeMismatch` where the slot is untyped;
-/// - with `InitIsOnlyValidForStructAndAnyPointerFields` where it is of another type;
-/// - with `SizeOverflow` exactly where the message's words, a pad counted, would pass 2^29 - 1;
-/// - else as the allocator refuses.
+/// - with `TypeMismatch` if the slot is untyped;
+/// - with `InitIsOnlyValidForStructAndAnyPointerFields` if it is of another type;
+/// - with `SizeOverflow` exactly if the message's words, including a pad, would exceed 2^29 - 1;
+/// - otherwise with the allocator's error.
 ///
-/// Memory is taken before the union is marked, so that all is then as it was.
+/// Memory is taken before the union is marked, so after a refusal everything is unchanged.
 pub fn init_slot<'a, A: BuilderArena>(
     arena: &mut A,
     object: StructPlace,

@@ -40,17 +40,17 @@ use capnp_values_queries::slots::FieldPlace;
 use capnp_values_queries::structs::StructSchema;
 use capnp_wire_objects::place::Place;
 
-/// What the elements of a new list are.
+/// The kind of a new list's elements.
 #[derive(Clone, Copy)]
 pub enum NewList {
-    /// A text's bytes, with the zero byte besides.
+    /// A text's bytes, and its zero byte.
     Text,
-    /// Plain elements, bytes of data among them, or pointers.
+    /// Plain elements, including bytes of data, or pointers.
     Elements(ElementSize),
     Structs(StructSize),
 }
 
-/// The elements of lists of a type of a set.
+/// Returns the elements of lists of a type of a set.
 fn elements_of(set: &SchemaSet, element: Type) -> NewList
     requires { is_type_of (nodes_of set.now) element ≡ true }
     ensures list { (n : ℕ) → tree_of_new result n
@@ -75,7 +75,8 @@ fn elements_of(set: &SchemaSet, element: Type) -> NewList
     }
 }
 
-/// The elements of what `initn` puts into a slot of a type, if it is a text's, data's or a list's.
+/// Returns the elements that `initn` makes in a slot of a type, if the type is text, data or a
+/// list.
 pub fn list_for(set: &SchemaSet, ty: Type) -> Option<NewList>
     requires { is_type_of (nodes_of set.now) ty ≡ true }
     ensures list { (n : ℕ) → content_of_list result n
@@ -91,8 +92,8 @@ pub fn list_for(set: &SchemaSet, ty: Type) -> Option<NewList>
     }
 }
 
-/// Puts a text of n zero bytes, and one behind them, in place of the value of the pointer at a
-/// place, which is cleared.
+/// Replaces the value of the pointer at a place, which is cleared, by a text of n zero bytes,
+/// followed by its zero byte.
 fn put_text<A: BuilderArena>(arena: &mut A, slot: Place, count: u32) -> Result<()>
     requires there { HasWords (A.segments arena.old) slot 1 }
     requires near { slot.position < 2 ^ 61 }
@@ -112,7 +113,7 @@ fn put_text<A: BuilderArena>(arena: &mut A, slot: Place, count: u32) -> Result<(
     Ok(())
 }
 
-/// Puts a list of zeros or nulls in place of the value of the pointer at a place, which is cleared.
+/// Replaces the value of the pointer at a place, which is cleared, by a list of zeros or nulls.
 fn put_elements<A: BuilderArena>(
     arena: &mut A,
     slot: Place,
@@ -136,8 +137,8 @@ fn put_elements<A: BuilderArena>(
     Ok(())
 }
 
-/// Puts a list of structs of zeros and nulls in place of the value of the pointer at a place, which
-/// is cleared.
+/// Replaces the value of the pointer at a place, which is cleared, by a list of structs of zeros
+/// and nulls.
 fn put_structs<A: BuilderArena>(
     arena: &mut A,
     slot: Place,
@@ -160,7 +161,7 @@ fn put_structs<A: BuilderArena>(
     Ok(())
 }
 
-/// Puts a new list in place of the value of the pointer at a place, which is cleared.
+/// Replaces the value of the pointer at a place, which is cleared, by a new list.
 pub fn put_list<A: BuilderArena>(
     arena: &mut A,
     slot: Place,
@@ -185,19 +186,19 @@ pub fn put_list<A: BuilderArena>(
     }
 }
 
-/// Puts n zeros in place of the value of a slot, which is cleared, as `initn` of a dynamic struct's
-/// builder does. A text or data becomes n zero bytes, a text with its own zero byte besides. A list
-/// becomes n zeros, nulls or empty structs. A union member becomes the active one. The list takes
-/// its words, the tag of structs among them, where the holder's segment has room for them, else at
-/// most one more.
+/// Replaces the value of a slot, which is cleared, by n zeros, like `initn` of a dynamic struct's
+/// builder. A text or data becomes n zero bytes, and a text also has its own zero byte. A list
+/// becomes n zeros, nulls or empty structs. A union member becomes the active member. The list
+/// takes its words, including the tag of structs, if the holder's segment has room for them,
+/// otherwise at most one more.
 ///
 /// It is refused
-/// - with `InitnIsOnlyValidForListTextOrDataFields` where the field is a group or of another type;
-/// - with `SizeOverflow` exactly where the elements, structs' words or the message's words, a pad
-///   counted, would pass 2^29 - 1;
-/// - else as the allocator refuses.
+/// - with `InitnIsOnlyValidForListTextOrDataFields` if the field is a group or of another type;
+/// - with `SizeOverflow` exactly if the elements, structs' words or the message's words, including
+///   a pad, would exceed 2^29 - 1;
+/// - otherwise with the allocator's error.
 ///
-/// Memory is taken before the union is marked, so that all is then as it was.
+/// Memory is taken before the union is marked, so after a refusal everything is unchanged.
 pub fn initn_slot<A: BuilderArena>(
     arena: &mut A,
     object: StructPlace,

@@ -1,5 +1,5 @@
-//! Laws of dynamic builders, each the contract of an empty function: a call of it brings its
-//! clause.
+//! Laws of dynamic builders, each the contract of an empty function: a call of the function adds
+//! its clause.
 ghost use Rattle.std.specs.Prelude.{◌≡◌, ◌++◌, List, Some};
 ghost use Rattle.capnp_model.specs.Edits.{Cell, Edit, IsBegun, after_writes};
 ghost use Rattle.capnp_model.specs.Schemas.{Shape, group_slot};
@@ -10,8 +10,8 @@ ghost use Rattle.capnp_values_queries.specs.declared.fields.Field.{Field};
 ghost use Rattle.capnp_schema_structs.specs.GroupSets.{copied_field};
 ghost use Rattle.capnp_schema_structs.specs.GroupWrites.{in_words};
 
-/// A beginning of the writes of a field that is a group, set to whole words, leaves what the model
-/// says of a refused `set` of the group.
+/// A beginning of the writes of a field that is a group, set to whole words, leaves the state that
+/// the model gives for a refused `set` of the group.
 pub fn refused_groups_are_begun()
     ensures { (f : Field) (e : Entry) (g : Shape) (from old : Cell) (front back : List Edit)
         → entry_of_field f ≡ Some e → e.body ≡ group_slot g

@@ -1,4 +1,4 @@
-//! Dynamic builders: values whose type is known at run time, written where they lie in a message.
+//! Dynamic builders: values whose type is known at run time, written into a message in place.
 #![tactic(auto)]
 
 pub mod begin;

@@ -1,5 +1,5 @@
-//! Values of roots that words hold, put behind pointers: defaults, for builders of structs, and the
-//! values of messages, for calls that are written where a message lies (`capnp_calls_edits`).
+//! Values of roots of words, stored in pointers: defaults, for builders of structs, and the values
+//! of messages, for calls that are written into a message in place (`capnp_calls_edits`).
 ghost use Rattle.std.specs.Prelude.{◌≡◌, ◌<◌, ◌^◌, true, Some, option_map, option_copied, IsSome, OnOk, IfErr};
 ghost use Rattle.std.specs.Option.{is_some};
 ghost use Rattle.capnp_model.specs.Decoding.{decode};
@@ -28,10 +28,11 @@ use capnp_wire::backing::{Backing, default_backing};
 use capnp_wire_objects::arena::NullArena;
 use capnp_wire_objects::place::{Place, ROOT, word_at};
 
-/// How deep the value of a root may be nested.
+/// The most levels of the value of a root.
 const MOST_LEVELS: u32 = 64;
 
-/// The words of a segment's bytes, eight bytes each; bytes behind the last whole word are left out.
+/// Returns the words of a segment's bytes, eight bytes each; bytes after the last whole word are
+/// left out.
 pub fn words_of(bytes: &[u8]) -> &[Word]
     ensures words { result.now ≡ default_chunks bytes.now }
     ensures value { IsSome (decode bytes.now)
@@ -41,7 +42,7 @@ pub fn words_of(bytes: &[u8]) -> &[Word]
     words
 }
 
-/// The default that a field's node says; a group has none.
+/// Returns the default in a field's node; a group has no default.
 pub fn default_said(field: &FieldRecord) -> Option<&Value>
     ensures { option_map value_of (option_copied result)
         ≡ default_said (kind_of_field field.now.body) }
@@ -52,7 +53,7 @@ pub fn default_said(field: &FieldRecord) -> Option<&Value>
     }
 }
 
-/// The words of the default of a struct or a list; `None` where there is no such default.
+/// Returns the words of the default of a struct or a list; `None` if there is no such default.
 pub fn default_words(default: Option<&Value>) -> Option<&[Word]>
     ensures { option_copied result
         ≡ default_words (option_map value_of (option_copied default.entry)) }
@@ -63,7 +64,7 @@ pub fn default_words(default: Option<&Value>) -> Option<&[Word]>
     }
 }
 
-/// Whether the root that words hold is null; that of no words is.
+/// Returns whether the root of words is null; the root of no words is null.
 pub fn has_null_root(words: &[Word]) -> bool
     ensures { result ≡ is_null_or_absent (default_segments words.now) root }
 {
@@ -71,12 +72,12 @@ pub fn has_null_root(words: &[Word]) -> bool
     word_at(&source, ROOT).unwrap_or(0) == 0
 }
 
-/// Puts the value of the root that words hold in place of the value of the pointer at a place. It
-/// is refused as its copy is, under no limit of words:
-/// - where it can't be read, or is nested deeper than 64 levels;
-/// - for want of room, with `SizeOverflow` or as the allocator refuses.
+/// Replaces the value of the pointer at a place by the value of the root of words. It is refused
+/// like the copy, without a limit of words:
+/// - if the value can't be read, or is nested deeper than 64 levels;
+/// - for lack of room, with `SizeOverflow` or with the allocator's error.
 ///
-/// After a refusal all words stand, and new ones are zero.
+/// After a refusal all words are unchanged, and new words are zero.
 pub fn copy_root<A: BuilderArena>(arena: &mut A, slot: Place, words: &[Word]) -> Result<()>
     requires there { is_some (words_at (words_in (A.segments arena.old)) (place_view slot) 1)
         ≡ true }

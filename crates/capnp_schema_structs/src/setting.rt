@@ -37,7 +37,7 @@ pub enum Blob<'a> {
     Data(&'a [u8]),
 }
 
-/// The bits of a value of a plain type; one of any enum is one of each.
+/// Returns the bits of a value of a plain type; the value of any enum is a value of each enum.
 pub fn bits_for<B>(ty: PlainType, value: &Reader<'_, B>) -> Option<u64>
     ensures bits { result ≡ bits_given (plain_of ty) (plain_given value.now) }
     ensures fit { IfSome result (λ n. n < 2 ^ width (plain_of ty)) }
@@ -57,7 +57,7 @@ pub fn bits_for<B>(ty: PlainType, value: &Reader<'_, B>) -> Option<u64>
     }
 }
 
-/// Why a slot of a pointer's type takes no plain value.
+/// Returns the reason for which a slot of a pointer's type takes no plain value.
 fn refusal(ty: Type) -> ErrorKind
     ensures { kind_of result ≡ pointer_refusal (ty_of ty) }
 {
@@ -68,7 +68,7 @@ fn refusal(ty: Type) -> ErrorKind
     }
 }
 
-/// The text or the data that a value is, if a slot of a pointer's type takes it.
+/// Returns the text or the data of a value, if a slot of a pointer's type takes it.
 fn blob_for<'a, B>(ty: Type, value: &Reader<'a, B>) -> Option<Blob<'a>>
     ensures { option_map list_bytes_of result ≡ bytes_given value.now (ty_of ty) }
 {
@@ -81,12 +81,12 @@ fn blob_for<'a, B>(ty: Type, value: &Reader<'a, B>) -> Option<Blob<'a>>
     }
 }
 
-/// Puts a text, with its zero byte, or data in place of the value of the pointer at a place, which
-/// is cleared: behind the pointers of structs, and of elements of lists (`capnp_schema_lists`). It
-/// is refused, and all stands as it was,
-/// - with `SizeOverflow` exactly where its list has 2^29 bytes or more, or the message's words, a
-///   pad counted, would pass 2^29 - 1;
-/// - else as the allocator refuses.
+/// Replaces the value of the pointer at a place, which is cleared, by a text, with its zero byte,
+/// or data. The pointer is a struct's, or an element's of a list (`capnp_schema_lists`). It is
+/// refused, and everything is unchanged,
+/// - with `SizeOverflow` exactly if its list has 2^29 bytes or more, or the message's words,
+///   including a pad, would exceed 2^29 - 1;
+/// - otherwise with the allocator's error.
 pub fn put_blob<A: BuilderArena>(arena: &mut A, slot: Place, blob: Blob<'_>) -> Result<()>
     requires there { HasWords (A.segments arena.old) slot 1 }
     requires near { slot.position < 2 ^ 61 }
@@ -107,8 +107,8 @@ pub fn put_blob<A: BuilderArena>(arena: &mut A, slot: Place, blob: Blob<'_>) -> 
     }
 }
 
-/// Sets a slot to a value without pointers, or a Void slot to any. The value is looked at and
-/// memory taken before the union is marked, so that a refusal leaves all as it was.
+/// Sets a slot to a value without pointers, or a Void slot to any value. The value is checked and
+/// memory taken before the union is marked, so a refusal leaves everything unchanged.
 pub fn set_flat<A: BuilderArena, B>(
     arena: &mut A,
     object: StructPlace,

@@ -64,7 +64,7 @@ pub fn mark<A: BuilderArena>(arena: &mut A, object: StructPlace, field: Field<'_
     }
 }
 
-/// The place of a pointer of the struct.
+/// Returns the place of a pointer of the struct.
 pub fn pointer_place(object: StructPlace, index: u32) -> Place
     requires near { object.start.position + (object.data_words + object.pointers) < 2 ^ 61 }
     requires inside { index < object.pointers }
@@ -78,7 +78,7 @@ pub fn pointer_place(object: StructPlace, index: u32) -> Place
     }
 }
 
-/// Zeros and nulls in a field, those of a group in its member 0 and its other fields.
+/// Writes zeros and nulls into a field, or into the member 0 and the other fields of a group.
 #[cycle(groups)]
 pub(crate) fn clear_body<A: BuilderArena>(arena: &mut A, object: StructPlace, place: FieldPlace<'_>)
     requires there { IsThere (words_in (A.segments arena.old)) object }
@@ -101,7 +101,8 @@ pub(crate) fn clear_body<A: BuilderArena>(arena: &mut A, object: StructPlace, pl
     }
 }
 
-/// Zeros and nulls in a group's field, if it is no member of its union or the member 0.
+/// Writes zeros and nulls into a group's field, if it is not a member of its union or is the member
+/// 0.
 #[cycle(groups)]
 fn clear_member<A: BuilderArena>(arena: &mut A, object: StructPlace, field: Field<'_>)
     requires there { IsThere (words_in (A.segments arena.old)) object }
@@ -119,7 +120,7 @@ fn clear_member<A: BuilderArena>(arena: &mut A, object: StructPlace, field: Fiel
     }
 }
 
-/// A cleared group: its member 0 and its fields that are no members.
+/// Clears a group: its member 0 and its fields that are not members.
 #[cycle(groups)]
 pub(crate) fn clear_group<A: BuilderArena>(
     arena: &mut A,

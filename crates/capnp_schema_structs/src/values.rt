@@ -37,13 +37,13 @@ use capnp_values_queries::slots::FieldPlace;
 use capnp_wire_objects::arena::ReaderArena;
 use capnp_wire_objects::place::Place;
 
-/// A struct or a list that is copied.
+/// A struct or a list to copy.
 pub enum Source<'a, B> {
     Struct(StructSource<'a, B>),
     List(ListSource<'a, B>),
 }
 
-/// The struct or the list that a value is, if a slot of a pointer's type takes it.
+/// Returns the struct or the list of a value, if a slot of a pointer's type takes it.
 fn source_for<'a, B: ReaderArena>(ty: Type, value: &Reader<'a, B>) -> Option<Source<'a, B>>
     ensures given { option_map (source_view B.segments) result
         ≡ source_given B.segments value.now (ty_of ty) }
@@ -60,7 +60,7 @@ fn source_for<'a, B: ReaderArena>(ty: Type, value: &Reader<'a, B>) -> Option<Sou
     }
 }
 
-/// Whether a slot of a type is untyped and the value a capability.
+/// Returns whether a slot of a type is untyped and the value a capability.
 fn is_untyped_capability<B>(ty: Type, value: &Reader<'_, B>) -> bool
     ensures { result ≡ (is_untyped (ty_of ty) && is_capability value.now) }
 {
@@ -70,8 +70,8 @@ fn is_untyped_capability<B>(ty: Type, value: &Reader<'_, B>) -> bool
     }
 }
 
-/// Puts a copy of a struct, of a message or of a default, in place of the value of the pointer at a
-/// place.
+/// Replaces the value of the pointer at a place by a copy of a struct, of a message or of a
+/// default.
 fn put_struct<A: BuilderArena, B: ReaderArena>(
     memory: &mut Memory<A>,
     slot: Place,
@@ -96,8 +96,7 @@ fn put_struct<A: BuilderArena, B: ReaderArena>(
     }
 }
 
-/// Puts a copy of a list, of a message or of a default, in place of the value of the pointer at a
-/// place.
+/// Replaces the value of the pointer at a place by a copy of a list, of a message or of a default.
 fn put_list<A: BuilderArena, B: ReaderArena>(
     memory: &mut Memory<A>,
     slot: Place,
@@ -122,8 +121,8 @@ fn put_list<A: BuilderArena, B: ReaderArena>(
     }
 }
 
-/// Puts a copy of a struct or of a list in place of the value of the pointer at a place, under no
-/// limit of words.
+/// Replaces the value of the pointer at a place by a copy of a struct or of a list, without a limit
+/// of words.
 pub fn put_source<A: BuilderArena, B: ReaderArena>(
     memory: &mut Memory<A>,
     slot: Place,
@@ -144,7 +143,7 @@ pub fn put_source<A: BuilderArena, B: ReaderArena>(
     }
 }
 
-/// Sets a slot behind a pointer of a struct to a copy, and then marks the union.
+/// Sets a pointer slot of a struct to a copy, and then marks the union.
 fn set_source<A: BuilderArena, B: ReaderArena>(
     memory: &mut Memory<A>,
     object: StructPlace,
@@ -170,8 +169,8 @@ fn set_source<A: BuilderArena, B: ReaderArena>(
     Ok(())
 }
 
-/// The struct that a value is, if the type is of structs of its schema: to such a group is set, and
-/// such elements of lists take over its content (`capnp_schema_lists`).
+/// Returns the struct of a value, if the type is of structs of its schema. A group is set to such a
+/// struct, and elements of lists take over its content (`capnp_schema_lists`).
 pub fn struct_for<'a, B: ReaderArena>(
     ty: Type,
     value: &Reader<'a, B>,
@@ -193,7 +192,7 @@ pub fn struct_for<'a, B: ReaderArena>(
     }
 }
 
-/// Why a group isn't set to a value.
+/// Returns the reason for which a group isn't set to a value.
 fn group_refusal<B>(value: &Reader<'_, B>) -> ErrorKind
     ensures { kind_of result ≡ group_refusal value.now }
 {
@@ -203,22 +202,22 @@ fn group_refusal<B>(value: &Reader<'_, B>) -> ErrorKind
     }
 }
 
-/// Sets a field to a value, or a Void one to any. It is refused
-/// - with `SettingDynamicCapabilitiesIsUnsupported` where the field is a capability, or untyped and
+/// Sets a field to a value, or a Void field to any value. It is refused
+/// - with `SettingDynamicCapabilitiesIsUnsupported` if the field is a capability, or untyped and
 ///   the value a capability;
-/// - else with `CannotSetAnyPointerFieldToAPrimitiveValue` where the field is untyped;
-/// - with `NotAStruct` where the field is a group and the value no struct;
-/// - else with `TypeMismatch` where the field doesn't take the value;
-/// - a text or data with `SizeOverflow` exactly where its bytes, a text's with its zero byte, or
-///   the message's words, a pad counted, would pass 2^29 - 1;
-/// - a text or data else as the allocator refuses;
-/// - a struct or a list as `PointerBuilder::set_struct` and `set_list` under no limit of words;
-/// - a struct of a group's schema as by `set_group`.
+/// - otherwise with `CannotSetAnyPointerFieldToAPrimitiveValue` if the field is untyped;
+/// - with `NotAStruct` if the field is a group and the value not a struct;
+/// - otherwise with `TypeMismatch` if the field doesn't take the value;
+/// - a text or data with `SizeOverflow` exactly if its bytes, a text's with its zero byte, or the
+///   message's words, including a pad, would exceed 2^29 - 1;
+/// - a text or data otherwise with the allocator's error;
+/// - a struct or a list like `PointerBuilder::set_struct` and `set_list` without a limit of words;
+/// - a struct of a group's schema like `set_group`.
 ///
-/// The value is looked at and memory taken before the union is marked, and the pointer written
-/// last. So after a refusal all words stand, and those that were allocated are zero. After that of
-/// a value without pointers nothing was allocated. But a group that is set to a struct of its
-/// schema has a beginning of its writes after a refusal.
+/// The value is checked and memory taken before the union is marked, and the pointer is written
+/// last. So after a refusal all words are unchanged, and those that were allocated are zero. After
+/// the refusal of a value without pointers nothing was allocated. The exception is a group that is
+/// set to a struct of its schema: after a refusal it has a beginning of its writes.
 pub fn set_value<'a, A: BuilderArena, B: ReaderArena>(
     memory: &mut Memory<A>,
     object: StructPlace,

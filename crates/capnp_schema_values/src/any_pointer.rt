@@ -1,4 +1,4 @@
-//! Pointers of no type, to write.
+//! Untyped pointers, to write.
 ghost use Rattle.std.specs.Prelude.{◌≡◌, ◌<◌, ◌^◌, true, None, Ok, Err, option_copied, IfOk, IfErr};
 ghost use Rattle.std.specs.Borrow.{sem, RestsIfErr};
 ghost use Rattle.std.specs.Option.{is_some};
@@ -32,7 +32,7 @@ use capnp_wire::traits;
 use capnp_wire_objects::arena::ReaderArena;
 use capnp_wire_objects::place::{Place, word_at};
 
-/// A pointer of no type that is built, where it lies in a message.
+/// An untyped pointer that is built, with its place in a message.
 #[derive(Drop)]
 pub struct Builder<'a, A> {
     pub memory: &'a mut Memory<A>,
@@ -42,7 +42,7 @@ pub struct Builder<'a, A> {
 impl<'a, A: BuilderArena> Builder<'a, A> {
     ghost use Rattle.capnp_schema_values.specs.Lending.{LendsAnyPointer};
 
-    /// A pointer that is built, of no type. Its word is there.
+    /// Makes an untyped pointer of a pointer that is built. Its word exists.
     pub fn new(builder: PointerBuilder<'a, A>) -> Self
         requires there { IsPointerThere (words_in (A.segments builder.memory.now.arena))
             builder.place }
@@ -55,7 +55,7 @@ impl<'a, A: BuilderArena> Builder<'a, A> {
         Builder { memory, place }
     }
 
-    /// This pointer, lent.
+    /// Lends this pointer.
     pub fn reborrow(&mut self) -> Builder<'_, A>
         requires ready { IsReadyPointer A.segments self.old }
         ensures* lends { sem 𝓛 (LendsAnyPointer A.row self.entry result) }
@@ -68,14 +68,14 @@ impl<'a, A: BuilderArena> Builder<'a, A> {
         Builder { memory, place }
     }
 
-    /// Whether it is null, a word of zeros.
+    /// Returns whether the pointer is null, a word of zeros.
     pub fn is_null(&self) -> bool
         ensures { result ≡ is_built_null A.segments self.now }
     {
         word_at(&self.memory.arena, self.place).unwrap_or(0) == 0
     }
 
-    /// The pointer to read, under the arena's nesting limit.
+    /// Returns the pointer to read, under the arena's nesting limit.
     pub fn reborrow_as_reader(&self) -> Reader<'_, A>
         ensures { pointer_seen A.segments result.source
             ≡ pointer_view_of A.segments A.nesting self.now }
@@ -83,7 +83,7 @@ impl<'a, A: BuilderArena> Builder<'a, A> {
         Reader::new(PointerReader::at(&self.memory.arena, self.place))
     }
 
-    /// The pointer to read, of which no handle to write is left.
+    /// Returns the pointer to read, and uses up the handle for writing.
     pub fn into_reader(self) -> Reader<'a, A>
         ensures { pointer_seen A.segments result.source
             ≡ pointer_view_of A.segments A.nesting self.entry }
@@ -92,9 +92,9 @@ impl<'a, A: BuilderArena> Builder<'a, A> {
         Reader::new(PointerReader::at(&memory.arena, place))
     }
 
-    /// The words and the capabilities of the pointer's value, without pads and the pointer itself.
-    /// It is refused, and bounded in time and stack, as `PointerReader::total_size` is where there
-    /// is no limit of words.
+    /// Returns the words and the capabilities of the pointer's value, without pads and the pointer
+    /// itself. It is refused, and bounded in time and stack, like `PointerReader::total_size`
+    /// without a limit of words.
     pub fn target_size(&self) -> Result<MessageSize>
         ensures { WithoutLimit (PointerSize (pointer_view_of A.segments A.nesting self.now))
             result }
@@ -114,8 +114,8 @@ impl<'a, A: BuilderArena> Builder<'a, A> {
         clear(&mut self.memory.arena, place);
     }
 
-    /// The pointer, of which a type's own `get_from_pointer` and `init_pointer` make handles that
-    /// hold its memory.
+    /// Returns the pointer, from which a type's own `get_from_pointer` and `init_pointer` make
+    /// handles that hold its memory.
     pub fn into_pointer(self) -> PointerBuilder<'a, A>
         ensures same { result.memory.ghost_name ≡ self.entry.memory.ghost_name }
         ensures now { result.memory.now ≡ self.entry.memory.now }
@@ -125,9 +125,10 @@ impl<'a, A: BuilderArena> Builder<'a, A> {
         PointerBuilder { memory, place }
     }
 
-    /// The handle of the value that the pointer names, as a type. It knows where the value lies.
+    /// Returns the handle of the value that the pointer names, as a type. The handle knows the
+    /// place of the value.
     ///
-    /// It is refused as the type says, which tells what stands then.
+    /// It is refused by the rules of the type, which also say what remains.
     pub fn get_as<T: Placed>(&mut self) -> Result<T>
         requires ready { IsReadyPointer A.segments self.old }
         ensures same { self.new.memory.ghost_name ≡ self.old.memory.ghost_name }
@@ -143,12 +144,12 @@ impl<'a, A: BuilderArena> Builder<'a, A> {
         T::get_at(self.memory, place)
     }
 
-    /// Puts a new value of a type, with n bytes or elements, in place of the pointer's, which is
-    /// cleared, and returns its handle. Types that count none don't look at the size.
+    /// Replaces the pointer's value, which is cleared, by a new value of a type, with n bytes or
+    /// elements, and returns its handle. Types without a count ignore the size.
     ///
-    /// It is refused, and all words stand as they were,
-    /// - with `SizeOverflow` exactly where the value is too large for the message;
-    /// - else as the allocator refuses.
+    /// It is refused, and all words are unchanged,
+    /// - with `SizeOverflow` exactly if the value is too large for the message;
+    /// - otherwise with the allocator's error.
     pub fn initn_as<T: Placed>(&mut self, size: u32) -> Result<T>
         requires ready { IsReadyPointer A.segments self.old }
         ensures same { self.new.memory.ghost_name ≡ self.old.memory.ghost_name }
@@ -161,8 +162,8 @@ impl<'a, A: BuilderArena> Builder<'a, A> {
         T::init_at(self.memory, place, size)
     }
 
-    /// Puts a new value of a type in place of the pointer's, which is cleared, and returns its
-    /// handle: `initn_as` without bytes or elements.
+    /// Replaces the pointer's value, which is cleared, by a new value of a type, and returns its
+    /// handle: this is `initn_as` without bytes or elements.
     pub fn init_as<T: Placed>(&mut self) -> Result<T>
         requires ready { IsReadyPointer A.segments self.old }
         ensures same { self.new.memory.ghost_name ≡ self.old.memory.ghost_name }
@@ -174,10 +175,11 @@ impl<'a, A: BuilderArena> Builder<'a, A> {
         self.initn_as(0)
     }
 
-    /// Puts a value in place of the pointer's, which is cleared: a text, data, or the copy of an
-    /// untyped pointer's, a struct's or a list's value.
+    /// Replaces the pointer's value, which is cleared, by a value: a text, data, or the copy of the
+    /// value of an untyped pointer, a struct or a list.
     ///
-    /// It is refused as the input says; then all words stand as they were, and new ones are zero.
+    /// It is refused by the rules of the input; then all words are unchanged, and new words are
+    /// zero.
     pub fn set_as<T, V: PointerInput<T> + Drop>(&mut self, value: V) -> Result<()>
         requires ready { IsReadyPointer A.segments self.old }
         ensures same { self.new.memory.ghost_name ≡ self.old.memory.ghost_name }
@@ -192,8 +194,8 @@ impl<'a, A: BuilderArena> Builder<'a, A> {
     }
 }
 
-/// The type of untyped pointers, with what they are read and built as. That of `capnp_values` names
-/// what they are read as alone.
+/// The type of untyped pointers, with the types as which they are read and built. The type of
+/// `capnp_values` only names the type as which they are read.
 #[derive(Clone, Copy, Debug, PartialEq, Eq)]
 pub struct Owned;
 
@@ -215,13 +217,13 @@ impl<'a, A: BuilderArena + 'a> owned::Owned<'a, A> for Owned {
     type Builder = Builder<'a, A>;
 }
 
-/// As a message's root it is built by where its pointer stands.
+/// A message's root of this type is built by the place of its pointer.
 impl OwnedPlaced for Owned {
     type Builder = PointerPlace;
 }
 
-/// An untyped pointer is made null, which is never refused, and got as what is there, whatever its
-/// kind.
+/// An untyped pointer is made null, which is never refused, and read as the value there, whatever
+/// its kind.
 impl<'a, A: BuilderArena> FromPointerBuilder<'a, A> for Builder<'a, A> {
     ghost memory_of = { λ o. o.memory };
 

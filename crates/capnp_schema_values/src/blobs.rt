@@ -1,4 +1,4 @@
-//! Texts and data behind pointers, got to be written.
+//! Texts and data that pointers lead to, read for writing.
 ghost use Rattle.std.specs.Prelude.{◌≡◌, ◌<◌, ◌^◌, Ok, Err, option_map, option_copied, IfOk, IfErr};
 ghost use Rattle.capnp_model.specs.Coverage.{Grows};
 ghost use Rattle.capnp_units.specs.Segments.{words_in};
@@ -18,7 +18,7 @@ use capnp_records::node::Value;
 use capnp_units::errors::Result;
 use capnp_wire_objects::place::Place;
 
-/// The text that is there.
+/// Returns the text there.
 fn text_here<A: BuilderArena>(memory: &mut Memory<A>, slot: Place) -> Result<BlobPlace>
     requires there { HasWords (A.segments memory.old.arena) slot 1 }
     requires near { slot.position < 2 ^ 61 }
@@ -36,7 +36,7 @@ fn text_here<A: BuilderArena>(memory: &mut Memory<A>, slot: Place) -> Result<Blo
     }
 }
 
-/// The data that are there.
+/// Returns the data there.
 fn data_here<A: BuilderArena>(memory: &mut Memory<A>, slot: Place) -> Result<BlobPlace>
     requires there { HasWords (A.segments memory.old.arena) slot 1 }
     requires near { slot.position < 2 ^ 61 }
@@ -54,15 +54,15 @@ fn data_here<A: BuilderArena>(memory: &mut Memory<A>, slot: Place) -> Result<Blo
     }
 }
 
-/// The text that the pointer at a place names, without the zero byte behind it. A null pointer gets
-/// the default, where there is one, else the text is empty, at the pointer itself.
+/// Returns the text that the pointer at a place names, without the zero byte after it. A null
+/// pointer gets the default, if there is one; otherwise the text is empty, at the pointer itself.
 ///
 /// It is refused
-/// - where the default finds no room, with `SizeOverflow` exactly where the message's words would
-///   pass 2^29 - 1, else as the allocator refuses;
-/// - by what is there, as `PointerBuilder::get_text`.
+/// - if the default finds no room, with `SizeOverflow` exactly if the message's words would exceed
+///   2^29 - 1, otherwise with the allocator's error;
+/// - with the error of the value there, like `PointerBuilder::get_text`.
 ///
-/// Then all words stand.
+/// Then all words are unchanged.
 pub fn text_slot<A: BuilderArena>(
     memory: &mut Memory<A>,
     slot: Place,
@@ -84,7 +84,7 @@ pub fn text_slot<A: BuilderArena>(
     text_here(memory, slot)
 }
 
-/// The data that the pointer at a place names, as `text_slot` gives a text.
+/// Returns the data that the pointer at a place names, like `text_slot` for a text.
 pub fn data_slot<A: BuilderArena>(
     memory: &mut Memory<A>,
     slot: Place,

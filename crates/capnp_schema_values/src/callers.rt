@@ -9,7 +9,8 @@ use capnp_layout_builders::struct_builder::StructBuilder;
 use capnp_schema_structs::dynamic_struct;
 use capnp_values_queries::introspect::{Introspect, TypeVariant};
 
-/// Whether a struct can be handed on as a caller's type: its schema's id is that of the type.
+/// Returns whether a struct can be passed on as a caller's type: its schema's id is that of the
+/// type.
 pub fn fits_struct<T: Introspect, A>(builder: &dynamic_struct::Builder<'_, A>) -> bool
     ensures { result ≡ is_struct_of (id_of builder.now.schema) T.ty }
 {
@@ -19,8 +20,8 @@ pub fn fits_struct<T: Introspect, A>(builder: &dynamic_struct::Builder<'_, A>) -
     }
 }
 
-/// A struct as a caller's type, which `fits_struct` tells: the type's handle is made from the
-/// struct where it lies.
+/// Returns a struct as a caller's type, if `fits_struct` returns true: the type's handle is made
+/// from the struct in place.
 pub fn downcast_struct<'a, A: BuilderArena + 'a, T: OwnedStruct<'a, A> + Introspect>(
     builder: dynamic_struct::Builder<'a, A>,
 ) -> T::Builder

@@ -1,4 +1,4 @@
-//! Defaults, written in place of null.
+//! Defaults, written instead of null.
 ghost use Rattle.std.specs.Prelude.{◌≡◌, ◌<◌, ◌^◌, true, option_map, option_copied, IfErr, OnOk};
 ghost use Rattle.std.specs.Option.{is_some};
 ghost use Rattle.capnp_model.specs.Coverage.{Grows};
@@ -15,15 +15,15 @@ use capnp_records::node::Value;
 use capnp_units::errors::Result;
 use capnp_wire_objects::place::{Place, word_at};
 
-/// Whether the pointer at a place is null, or not there.
+/// Returns whether the pointer at a place is null, or doesn't exist.
 fn is_null<A: BuilderArena>(arena: &A, slot: Place) -> bool
     ensures { result ≡ is_null_or_absent (words_in (A.segments arena.now)) (place_view slot) }
 {
     word_at(arena, slot).unwrap_or(0) == 0
 }
 
-/// Puts the default of a text or of data, where there is one, in place of null. It is refused as
-/// `set_text` and `set_data` are; then all words stand.
+/// Replaces null by the default of a text or of data, if there is a default. It is refused like
+/// `set_text` and `set_data`; then all words are unchanged.
 pub fn begin_bytes<A: BuilderArena>(
     arena: &mut A,
     slot: Place,

@@ -17,11 +17,11 @@ pub trait DowncastBuilder<'a, A>: Sized {
     /// The value in that variant, if a value is of it.
     ghost variant: { Value A → Option Self };
 
-    /// Whether a value is of the variant.
+    /// Returns whether a value is of the variant.
     fn fits(value: &Builder<'a, A>) -> bool
         ensures { result ≡ is_some (variant value.now) };
 
-    /// The value in the variant, of which the value is.
+    /// Returns the value in the variant; the value must be of this variant.
     fn downcast_builder(value: Builder<'a, A>) -> Self
         requires { is_some (variant value) ≡ true }
         ensures { variant value.entry ≡ Some result };

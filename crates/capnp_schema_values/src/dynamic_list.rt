@@ -1,4 +1,4 @@
-//! Gets of dynamic builders of lists.
+//! Getters of dynamic builders of lists.
 ghost use Rattle.std.specs.Prelude.{◌≡◌, ◌<◌, [], IfOk, IfSome, OnErr};
 ghost use Rattle.capnp_model.specs.Accepted.{schema_of};
 ghost use Rattle.capnp_model.specs.Calls.{initn, element_content};
@@ -19,15 +19,16 @@ use capnp_copy_arenas::arena::BuilderArena;
 use capnp_schema_lists::dynamic_list::Builder;
 use capnp_units::errors::Result;
 
-/// The element at an index, which is one of the list's, as a value to write, which `value` lends:
-/// - a plain one as it is read, by the bits at its front;
-/// - a struct where it lies, with the list's sizes;
-/// - any other where it lies behind the element's pointer.
+/// Returns the element at an index, which is within the list, as a value to write, which `value`
+/// lends:
+/// - a plain element as it is read, by the bits at its front;
+/// - a struct at its place, with the list's sizes;
+/// - any other element at the place of its pointer's value.
 ///
-/// A null pointer stays null: a text, data and a list of no structs are empty, and an untyped
-/// pointer is null. A list of structs is widened to their schema's sizes.
+/// A null pointer stays null: a text, data and a list of anything but structs are empty, and an
+/// untyped pointer is null. A list of structs is widened to their schema's sizes.
 ///
-/// It is refused as `get` of a struct's builder is.
+/// It is refused like `get` of a struct's builder.
 pub fn get<'b, A: BuilderArena>(builder: &mut Builder<'b, A>, index: u32) -> Result<Placed<'b>>
     requires ready { IsReadyList A.segments builder.old }
     requires index { index < builder.old.place.count }
@@ -43,8 +44,8 @@ pub fn get<'b, A: BuilderArena>(builder: &mut Builder<'b, A>, index: u32) -> Res
     get_element(builder.memory, place, set, ty, index)
 }
 
-/// A value of the list's message that a get told, to write, as long as it stays where it is. Of a
-/// plain value the memory isn't held.
+/// Lends a value of the list's message that a getter returned, to write, if it is still at its
+/// place. The memory of a plain value isn't held.
 pub fn value<'a, A: BuilderArena>(
     builder: Builder<'a, A>,
     placed: Placed<'a>,
@@ -61,10 +62,10 @@ pub fn value<'a, A: BuilderArena>(
     dynamic_value::Builder::new(memory, placed)
 }
 
-/// Begins a text, data or a list of n bytes or elements in the element at an index, as the
-/// builder's own `init`. It tells where it lies, as `get`; `begun` lends it.
+/// Begins a text, data or a list of n bytes or elements in the element at an index, like the
+/// builder's own `init`. It returns the place, like `get`; `begun` lends the value.
 ///
-/// It is refused as `init` is, and then the list is as it was, or as a `get` of what was begun.
+/// It is refused like `init`, and then the list is unchanged, or like a `get` of the begun value.
 pub fn init<'b, A: BuilderArena>(
     builder: &mut Builder<'b, A>,
     index: u32,
@@ -88,8 +89,8 @@ pub fn init<'b, A: BuilderArena>(
     }
 }
 
-/// A value of the list's message that `init` told, to write, as long as it stays where it is: a
-/// text from its first byte on.
+/// Lends a value of the list's message that `init` returned, to write, if it is still at its place:
+/// a text from its first byte on.
 pub fn begun<'a, A: BuilderArena>(
     builder: Builder<'a, A>,
     placed: Placed<'a>,

@@ -1,4 +1,4 @@
-//! Gets of dynamic builders of structs.
+//! Getters of dynamic builders of structs.
 ghost use Rattle.std.specs.Prelude.{◌≡◌, None, IfOk, IfSome, OnErr};
 ghost use Rattle.capnp_model.specs.Calls.{initn as initn_verb};
 ghost use Rattle.capnp_units.specs.Segments.{words_in};
@@ -22,25 +22,25 @@ use capnp_schema_structs::dynamic_struct::Builder;
 use capnp_units::errors::Result;
 use capnp_values_queries::fields::Field;
 
-/// A field of a struct, as a value to write, which `value` lends:
-/// - a plain one as it is read, by its bits, exclusive or those of its default;
+/// Returns a field of a struct, as a value to write, which `value` lends:
+/// - a plain field as it is read, by its bits, exclusive-or'ed with those of its default;
 /// - a group as the same struct under its own schema;
-/// - any other where it lies behind the field's pointer.
+/// - any other field at the place of its pointer's value.
 ///
-/// A null pointer gets its default, where there is one. Else a struct gets one of zeros and nulls,
-/// and any other stays null: a text, data and a list are empty, and an untyped pointer is null. A
-/// struct, and a list of structs, are widened to their schema's sizes. A union member that isn't
-/// the active one is got all the same, and the union stays as it is.
+/// A null pointer gets its default, if there is one. Otherwise a struct gets a struct of zeros and
+/// nulls, and any other type stays null: a text, data and a list are empty, and an untyped pointer
+/// is null. A struct, and a list of structs, are widened to their schema's sizes. A union member
+/// that isn't active is read all the same, and the union is unchanged.
 ///
 /// It is refused
-/// - by the fault of what lies behind the field's pointer;
-/// - with `WrongPointerKind`, `WrongElementSize` or `TextWithoutZeroByte` where that isn't of the
-///   field's type;
-/// - a default and a wider copy with `SizeOverflow` exactly where the message's words would pass
-///   2^29 - 1, else as the allocator refuses.
+/// - with the fault of the value of the field's pointer;
+/// - with `WrongPointerKind`, `WrongElementSize` or `TextWithoutZeroByte` if that value isn't of
+///   the field's type;
+/// - a default and a wider copy with `SizeOverflow` exactly if the message's words would exceed
+///   2^29 - 1, otherwise with the allocator's error.
 ///
-/// Then all words stand as they were, and new ones are zero. Only a default that was written in
-/// place of null stays, where what it is is refused, or has no room to be widened.
+/// Then all words are unchanged, and new words are zero. The only exception: a default that
+/// replaced null remains, if its value is refused, or has no room to be widened.
 pub fn get<'b, A: BuilderArena>(
     builder: &mut Builder<'_, A>,
     field: Field<'b>,
@@ -58,8 +58,8 @@ pub fn get<'b, A: BuilderArena>(
     get_field(builder.memory, place, field)
 }
 
-/// The field of a name, as by `get`. A name that the struct lacks is refused by `FieldNotFound`,
-/// and all is as it was.
+/// Returns the field of a name, like `get`. A name that the struct lacks is refused with
+/// `FieldNotFound`, and everything is unchanged.
 pub fn get_named<'b, A: BuilderArena>(
     builder: &mut Builder<'b, A>,
     name: &str,
@@ -80,8 +80,8 @@ pub fn get_named<'b, A: BuilderArena>(
     get_field(builder.memory, place, field)
 }
 
-/// A value of the struct's message that a get told, to write, as long as it stays where it is. Of a
-/// plain value the memory isn't held.
+/// Lends a value of the struct's message that a getter returned, to write, if it is still at its
+/// place. The memory of a plain value isn't held.
 pub fn value<'a, A: BuilderArena>(
     builder: Builder<'a, A>,
     placed: Placed<'a>,
@@ -98,11 +98,11 @@ pub fn value<'a, A: BuilderArena>(
     dynamic_value::Builder::new(memory, placed)
 }
 
-/// Begins a text, data or a list of n bytes or elements in a field, as the builder's own `initn`,
-/// and tells where it lies, as `get`; `begun` lends it.
+/// Begins a text, data or a list of n bytes or elements in a field, like the builder's own `initn`,
+/// and returns the place, like `get`; `begun` lends the value.
 ///
-/// It is refused as the builder's `initn` is, and then the struct is as it was, or as a `get` of
-/// what was begun.
+/// It is refused like the builder's `initn`, and then the struct is unchanged, or like a `get` of
+/// the begun value.
 pub fn initn<'b, A: BuilderArena>(
     builder: &mut Builder<'_, A>,
     field: Field<'b>,
@@ -127,8 +127,8 @@ pub fn initn<'b, A: BuilderArena>(
     }
 }
 
-/// A value of the struct's message that `initn` told, to write, as long as it stays where it is: a
-/// text from its first byte on.
+/// Lends a value of the struct's message that `initn` returned, to write, if it is still at its
+/// place: a text from its first byte on.
 pub fn begun<'a, A: BuilderArena>(
     builder: Builder<'a, A>,
     placed: Placed<'a>,

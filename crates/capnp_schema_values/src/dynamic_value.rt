@@ -6,7 +6,7 @@ use capnp_schema_lists::dynamic_list;
 use capnp_schema_structs::dynamic_struct;
 use capnp_values::dynamic_value::{Capability, Enum};
 
-/// A value to write, by its type: a plain one itself, any other where it lies in a message.
+/// A value to write, by its type: a plain value itself, any other by its place in a message.
 #[derive(Drop)]
 pub enum Builder<'a, A> {
     Void,

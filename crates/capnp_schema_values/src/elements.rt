@@ -1,4 +1,4 @@
-//! Elements of lists, got to be written.
+//! Elements of lists, read for writing.
 ghost use Rattle.std.specs.Prelude.{◌≡◌, ◌<◌, ℕ, Some, true, IfOk};
 ghost use Rattle.capnp_model.specs.Accepted.{schema_of};
 ghost use Rattle.capnp_model.specs.Schemas.{PlainType, plain, width};
@@ -32,18 +32,18 @@ use capnp_values_queries::introspect::{Type, TypeVariant};
 use capnp_values_queries::structs::StructSchema;
 use capnp_wire::list::ListReader;
 
-/// How elements of a type lie in a list.
+/// The place of a type's elements in a list.
 #[derive(Clone, Copy)]
 enum Kind<'a> {
     Void,
     Plain,
     /// In the list itself.
     Struct(StructSchema<'a>),
-    /// Behind pointers.
+    /// At the places that pointers lead to.
     Behind,
 }
 
-/// How elements of a type of the set lie in a list.
+/// Returns the kind of place of elements of a type of the set.
 fn kind_of(set: &SchemaSet, ty: Type) -> Kind<'_>
     requires { is_type_of (nodes_of set.now) ty ≡ true }
     ensures { IsKind (schema_of (nodes_of set.now)) (ty_of ty) result }
@@ -60,7 +60,7 @@ fn kind_of(set: &SchemaSet, ty: Type) -> Kind<'_>
     }
 }
 
-/// A plain element of a list, as it is read.
+/// Returns a plain element of a list, as it is read.
 fn plain_element<'a, A: BuilderArena>(
     arena: &A,
     list: ListPlace,
@@ -92,12 +92,12 @@ fn plain_element<'a, A: BuilderArena>(
     }
 }
 
-/// An element of a list, whose elements are there under a type of the set, as a value to write:
-/// - a plain one as it is read, by the bits at its front;
-/// - a struct where it lies;
-/// - one behind a pointer as `get_slot` returns it, without a default.
+/// Returns an element of a list, whose elements fit a type of the set, as a value to write:
+/// - a plain element as it is read, by the bits at its front;
+/// - a struct at its place;
+/// - an element with a pointer as `get_slot` returns it, without a default.
 ///
-/// It is refused only behind a pointer, as `get_slot` is.
+/// It is only refused for an element with a pointer, like `get_slot`.
 pub fn get_element<'a, A: BuilderArena>(
     memory: &mut Memory<A>,
     list: ListPlace,

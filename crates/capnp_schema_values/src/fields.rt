@@ -1,4 +1,4 @@
-//! Fields of structs, got to be written.
+//! Fields of structs, read for writing.
 ghost use Rattle.std.specs.Prelude.{◌≡◌, ℕ, Some, IfOk, option_map};
 ghost use Rattle.capnp_model.specs.Schemas.{PlainType, plain_slot, width};
 ghost use Rattle.capnp_units.specs.Segments.{words_in};
@@ -28,7 +28,7 @@ use capnp_values_queries::fields::Field;
 use capnp_values_queries::slots::FieldPlace;
 use capnp_wire::structs::StructReader;
 
-/// A plain field of a struct, as it is read.
+/// Returns a plain field of a struct, as it is read.
 fn plain_field<'a, A: BuilderArena>(arena: &A, object: StructPlace, field: Field<'a>) -> Placed<'a>
     requires { IsThere (words_in (A.segments arena.now)) object }
     ensures { (p : PlainType) (at n : ℕ)
@@ -44,14 +44,14 @@ fn plain_field<'a, A: BuilderArena>(arena: &A, object: StructPlace, field: Field
     }
 }
 
-/// A field of a struct, as a value to write:
-/// - a plain one as it is read, by its bits, exclusive or those of its default;
-/// - one behind a pointer as `get_slot` returns it, with its default in place of null;
-/// - a group where its holder is, under its own schema.
+/// Returns a field of a struct, as a value to write:
+/// - a plain field as it is read, by its bits, exclusive-or'ed with those of its default;
+/// - a field with a pointer as `get_slot` returns it, with its default instead of null;
+/// - a group at the place of its holder, under its own schema.
 ///
-/// A union member that isn't the active one is got all the same.
+/// A union member that isn't active is read all the same.
 ///
-/// It is refused only behind a pointer, as `get_slot` is.
+/// It is only refused for a field with a pointer, like `get_slot`.
 pub fn get_field<'a, A: BuilderArena>(
     memory: &mut Memory<A>,
     object: StructPlace,

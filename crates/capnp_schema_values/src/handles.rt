@@ -1,4 +1,4 @@
-//! Handles of values that were got, and what these are read as.
+//! Handles of values that were read for writing.
 ghost use Rattle.std.specs.Prelude.{◌≡◌, IfSome, is_some, true};
 ghost use Rattle.capnp_units.specs.Segments.{words_in};
 ghost use Rattle.capnp_schema_values.specs.Built.{memory_in, placed_of, IsPlaced, IsReadyValue, IsAtStart, IsAtEnd, IsWrittenFrom, ReadsAs, text_start};
@@ -19,7 +19,7 @@ use capnp_values::dynamic_value::Reader;
 use capnp_values_queries::introspect::Introspect;
 use capnp_wire_objects::place::Place;
 
-/// A text, to write from its first byte on where it was begun, else from its end on.
+/// Returns a text, to write from its first byte on if it was begun, otherwise from its end on.
 fn text_at<'a, A: BuilderArena>(
     memory: &'a mut Memory<A>,
     place: BlobPlace,
@@ -37,7 +37,7 @@ fn text_at<'a, A: BuilderArena>(
     }
 }
 
-/// A struct or a group.
+/// Returns a struct or a group.
 fn struct_at<'a, A: BuilderArena>(
     memory: &'a mut Memory<A>,
     part: Part<'a>,
@@ -54,7 +54,7 @@ fn struct_at<'a, A: BuilderArena>(
     }
 }
 
-/// A list.
+/// Returns a list.
 fn list_at<'a, A: BuilderArena>(
     memory: &'a mut Memory<A>,
     part: ListPart<'a>,
@@ -78,8 +78,8 @@ fn list_at<'a, A: BuilderArena>(
     }
 }
 
-/// A value of a message, to write; a text that was begun from its first byte on, any other from its
-/// end on.
+/// Returns a value of a message, to write; a text that was begun from its first byte on, any other
+/// text from its end on.
 fn value_at<'a, A: BuilderArena>(
     memory: &'a mut Memory<A>,
     placed: Placed<'a>,
@@ -114,8 +114,8 @@ fn value_at<'a, A: BuilderArena>(
 }
 
 impl<'a, A: BuilderArena> Builder<'a, A> {
-    /// A value of a message, to write: one that a `get` told, as long as it stays where it is. Of a
-    /// plain value the memory isn't held. A text is written from its end on.
+    /// Makes a value of a message, to write: one that a `get` returned, if it is still at its
+    /// place. The memory of a plain value isn't held. A text is written from its end on.
     pub fn new(memory: &'a mut Memory<A>, placed: Placed<'a>) -> Self
         requires there { IsPlaced (words_in (A.segments memory.old.arena)) placed }
         ensures same { IfSome (memory_in result) (λ m. m.ghost_name ≡ memory.entry.ghost_name) }
@@ -127,7 +127,8 @@ impl<'a, A: BuilderArena> Builder<'a, A> {
         value_at(memory, placed, false)
     }
 
-    /// As `new`, of a value that an `init` has begun: a text is written from its first byte on.
+    /// Makes a value like `new`, for a value that an `init` has begun: a text is written from its
+    /// first byte on.
     pub fn begun(memory: &'a mut Memory<A>, placed: Placed<'a>) -> Self
         requires there { IsPlaced (words_in (A.segments memory.old.arena)) placed }
         ensures same { IfSome (memory_in result) (λ m. m.ghost_name ≡ memory.entry.ghost_name) }
@@ -139,8 +140,8 @@ impl<'a, A: BuilderArena> Builder<'a, A> {
         value_at(memory, placed, true)
     }
 
-    /// The value to read, of which no handle to write is left. Its pointers are followed under the
-    /// arena's nesting limit.
+    /// Returns the value to read, and uses up the handle for writing. Its pointers are followed
+    /// under the arena's nesting limit.
     pub fn into_reader(self) -> Reader<'a, A>
         requires ready { IsReadyValue A.segments self }
         ensures { ReadsAs A.segments A.nesting self.entry result }
@@ -170,7 +171,8 @@ impl<'a, A: BuilderArena> Builder<'a, A> {
 impl<'a, A> Builder<'a, A> {
     ghost use Rattle.std.specs.Prelude.{Some};
 
-    /// The value in the variant of a type, of which the value is; `fits` of the type tells.
+    /// Returns the value in the variant of a type; the value must be of the variant, as `fits` of
+    /// the type says.
     pub fn downcast<T: DowncastBuilder<'a, A>>(self) -> T
         requires { is_some (T.variant self) ≡ true }
         ensures { T.variant self.entry ≡ Some result }
@@ -182,8 +184,8 @@ impl<'a, A> Builder<'a, A> {
 impl<'a, A: BuilderArena + 'a> Builder<'a, A> {
     ghost use Rattle.capnp_schema_values.specs.Variants.{built_struct_fits, built_struct};
 
-    /// Whether the value is a struct that can be handed on as a caller's type: its schema's id is
-    /// that of the type.
+    /// Returns whether the value is a struct that can be passed on as a caller's type: its schema's
+    /// id is that of the type.
     pub fn fits_struct<T: Introspect>(&self) -> bool
         ensures { result ≡ built_struct_fits T.ty self.now }
     {
@@ -193,8 +195,8 @@ impl<'a, A: BuilderArena + 'a> Builder<'a, A> {
         }
     }
 
-    /// The struct as a caller's type, which `fits_struct` tells: the type's handle is made from the
-    /// struct where it lies.
+    /// Returns the struct as a caller's type, if `fits_struct` returns true: the type's handle is
+    /// made from the struct in place.
     pub fn downcast_struct<T: OwnedStruct<'a, A> + Introspect>(self) -> T::Builder
         requires { built_struct_fits T.ty self ≡ true }
         ensures { IfSome (built_struct self.entry) (λ b.

@@ -1,4 +1,4 @@
-//! What an untyped pointer can be set to.
+//! Values to which an untyped pointer can be set.
 ghost use Rattle.std.specs.Prelude.{◌≡◌, ◌+◌, ◌<◌, ◌^◌, ⊤, true, length, string_bytes, Result};
 ghost use Rattle.std.specs.Option.{is_some};
 ghost use Rattle.capnp_model.specs.Coverage.{Grows};
@@ -27,14 +27,14 @@ use capnp_wire::pointer::PointerReader;
 use capnp_wire_objects::arena::ReaderArena;
 use capnp_wire_objects::place::Place;
 
-/// What an untyped pointer can be set to, as a value of a type.
+/// A value to which an untyped pointer can be set, as a value of a type.
 pub trait PointerInput<T>: Sized {
-    /// From the segments before to those then, what setting the pointer at a place answers and
-    /// leaves.
+    /// The relation between the segments before and after, the place of the pointer that is set,
+    /// and the result.
     ghost sets: { Self → Segments → Segments → code.Place → Result ⊤ Error → Type 0 };
 
-    /// Puts the value in place of the pointer's, which is cleared. It is refused as the input says.
-    /// Each segment of the message is still there then, and no shorter.
+    /// Replaces the pointer's value, which is cleared, by this value. It is refused by the rules of
+    /// the input. Each segment of the message still exists then, and is not shorter.
     fn set_at<A: BuilderArena>(memory: &mut Memory<A>, place: Place, value: Self) -> Result<()>
         requires there { is_some (words_at (words_in (A.segments memory.old.arena))
             (place_view place) 1) ≡ true }
@@ -46,8 +46,8 @@ pub trait PointerInput<T>: Sized {
         ensures books { A.books memory.new.arena ≡ A.books memory.old.arena };
 }
 
-/// Data: these bytes. It is refused with `SizeOverflow` exactly where they are too many for the
-/// message, else as the allocator refuses; then all words stand.
+/// Data: these bytes. It is refused with `SizeOverflow` exactly if they are too many for the
+/// message, otherwise with the allocator's error; then all words are unchanged.
 impl PointerInput<data::Owned> for &[u8] {
     ghost sets = { λ b. PutsByteList (length b.now) (number_of 8 b.now) };
 
@@ -56,7 +56,7 @@ impl PointerInput<data::Owned> for &[u8] {
     }
 }
 
-/// A text: these bytes, and a zero byte behind them. It is refused as data are.
+/// A text: these bytes, followed by a zero byte. It is refused like data.
 impl PointerInput<text::Owned> for text::Reader<'_> {
     ghost sets = { λ t. PutsByteList (length t.0.now + 1) (number_of 8 t.0.now) };
 
@@ -70,7 +70,7 @@ impl PointerInput<text::Owned> for text::Reader<'_> {
     }
 }
 
-/// A text: the bytes of a `str`, and a zero byte behind them.
+/// A text: the bytes of a `str`, followed by a zero byte.
 impl PointerInput<text::Owned> for &str {
     ghost sets = { λ t. PutsByteList (length t.now + 1) (number_of 8 t.now) };
 
@@ -79,7 +79,7 @@ impl PointerInput<text::Owned> for &str {
     }
 }
 
-/// A text: the bytes of a `String`, and a zero byte behind them.
+/// A text: the bytes of a `String`, followed by a zero byte.
 impl PointerInput<text::Owned> for &String {
     ghost sets = { λ t. PutsByteList (length (string_bytes t.now) + 1)
         (number_of 8 (string_bytes t.now)) };
@@ -90,7 +90,7 @@ impl PointerInput<text::Owned> for &String {
     }
 }
 
-/// Puts a copy of a pointer's value in place of the value of the pointer at a place.
+/// Replaces the value of the pointer at a place by a copy of a pointer's value.
 fn put_pointer<A: BuilderArena, B: ReaderArena>(
     memory: &mut Memory<A>,
     slot: Place,
@@ -112,9 +112,9 @@ fn put_pointer<A: BuilderArena, B: ReaderArena>(
     pointer.copy_from(limiter, value)
 }
 
-/// An untyped pointer, of a message or of a default: the whole tree of its value, under no limit of
-/// words. It is refused as `PointerBuilder::copy_from` refuses; then all words stand, and new ones
-/// are zero.
+/// An untyped pointer, of a message or of a default: the whole tree of its value, without a limit
+/// of words. It is refused like `PointerBuilder::copy_from`; then all words are unchanged, and new
+/// words are zero.
 impl<B: ReaderArena> PointerInput<Owned> for any_pointer::Reader<'_, B> {
     ghost sets = { λ v s u p. WithoutLimit
         (CopiesPointer (pointer_seen B.segments v.source) s u (place_view p)) };
@@ -137,8 +137,8 @@ impl<B: ReaderArena> PointerInput<Owned> for any_pointer::Reader<'_, B> {
 }
 
 /// A struct, of a message or of a default, whatever its schema: its data in whole words and the
-/// values of its pointers, under no limit of words. It is refused as `PointerBuilder::set_struct`
-/// refuses; then all words stand, and new ones are zero.
+/// values of its pointers, without a limit of words. It is refused like
+/// `PointerBuilder::set_struct`; then all words are unchanged, and new words are zero.
 impl<B: ReaderArena> PointerInput<Owned> for dynamic_struct::Reader<'_, B> {
     ghost sets = { λ v s u p. WithoutLimit
         (SetsStruct (struct_seen B.segments v.source) s u (place_view p)) };
@@ -152,9 +152,9 @@ impl<B: ReaderArena> PointerInput<Owned> for dynamic_struct::Reader<'_, B> {
     }
 }
 
-/// A list, of a message or of a default, whatever its type: one of structs is copied whole. It is
-/// refused as `PointerBuilder::set_list` refuses, under no limit of words; then all words stand,
-/// and new ones are zero.
+/// A list, of a message or of a default, whatever its type: a list of structs is copied whole. It
+/// is refused like `PointerBuilder::set_list`, without a limit of words; then all words are
+/// unchanged, and new words are zero.
 impl<B: ReaderArena> PointerInput<Owned> for dynamic_list::Reader<'_, B> {
     ghost sets = { λ v s u p. WithoutLimit
         (SetsList (list_seen B.segments v.source) s u (place_view p)) };

@@ -1,5 +1,5 @@
-//! Values of dynamic builders: pointers of no type, written where they lie in a message, values of
-//! each type, and what builders of structs and lists get.
+//! Values of dynamic builders: untyped pointers, written into a message in place, values of each
+//! type, and the results of getters on builders of structs and lists.
 #![tactic(auto)]
 
 pub mod any_pointer;

@@ -1,4 +1,4 @@
-//! Lists behind pointers, got to be written.
+//! Lists that pointers lead to, read for writing.
 ghost use Rattle.std.specs.Prelude.{◌≡◌, ◌+◌, ◌<◌, ◌^◌, true, option_map, option_copied, IfOk, IfErr};
 ghost use Rattle.capnp_model.specs.Accepted.{schema_of};
 ghost use Rattle.capnp_units.specs.Segments.{words_in};
@@ -30,7 +30,7 @@ use capnp_values_queries::introspect::Type;
 use capnp_values_queries::structs::StructSchema;
 use capnp_wire_objects::place::Place;
 
-/// The list that is there, of elements of a size.
+/// Returns the list there, of elements of a size.
 fn list_here<A: BuilderArena>(
     memory: &mut Memory<A>,
     slot: Place,
@@ -54,7 +54,7 @@ fn list_here<A: BuilderArena>(
     }
 }
 
-/// The list of structs of at least a size.
+/// Returns the list of structs of at least a size.
 fn struct_list_here<A: BuilderArena>(
     memory: &mut Memory<A>,
     slot: Place,
@@ -78,7 +78,7 @@ fn struct_list_here<A: BuilderArena>(
     }
 }
 
-/// The place of a list of structs, whose empty list of null has its schema's sizes too.
+/// Returns the place of a list of structs, whose empty list of null has its schema's sizes too.
 fn sized(list: ListPlace, schema: StructSchema<'_>) -> ListPlace
     ensures { result ≡ sized (shape_of_struct schema.entry) list }
 {
@@ -90,7 +90,7 @@ fn sized(list: ListPlace, schema: StructSchema<'_>) -> ListPlace
     }
 }
 
-/// Where the list that the pointer at a place names lies.
+/// Returns the place of the list that the pointer at a place names.
 fn place_of<A: BuilderArena>(
     memory: &mut Memory<A>,
     slot: Place,
@@ -120,11 +120,11 @@ fn place_of<A: BuilderArena>(
     }
 }
 
-/// The list that the pointer at a place names, of elements of a type of the set. A null pointer
-/// gets the default, where there is one, else the list is empty, at the pointer itself. A list of
-/// structs is widened to their schema's sizes. Bits are taken as voids too.
+/// Returns the list that the pointer at a place names, of elements of a type of the set. A null
+/// pointer gets the default, if there is one; otherwise the list is empty, at the pointer itself. A
+/// list of structs is widened to their schema's sizes. Bits are also accepted as voids.
 ///
-/// It is refused as `PointerBuilder::get_list`, and where the elements are structs, as
+/// It is refused like `PointerBuilder::get_list`, and if the elements are structs, like
 /// `get_struct_list`.
 pub fn list_slot<'a, A: BuilderArena>(
     memory: &mut Memory<A>,

@@ -1,4 +1,4 @@
-//! Where the values lie that builders get.
+//! Places of the values that builders read for writing.
 use capnp_copy_arenas::bytes::BlobPlace;
 use capnp_copy_arenas::init::ListPlace;
 use capnp_records::set::SchemaSet;
@@ -15,7 +15,7 @@ pub struct ListPart<'a> {
     pub element_type: Type,
 }
 
-/// A value that a builder got: a plain one itself, any other by where it lies in the message.
+/// A value that a builder returned: a plain value itself, any other by its place in the message.
 #[derive(Clone, Copy)]
 pub enum Placed<'a> {
     Void,
@@ -29,7 +29,7 @@ pub enum Placed<'a> {
     UInt32(u32),
     UInt64(u64),
     Enum(Enum<'a>),
-    /// A text's bytes, without the zero byte behind them.
+    /// A text's bytes, without the zero byte after them.
     Text(BlobPlace),
     Data(BlobPlace),
     Struct(Part<'a>),

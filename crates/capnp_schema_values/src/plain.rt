@@ -1,4 +1,4 @@
-//! Plain values that are got.
+//! Plain values that are read for writing.
 ghost use Rattle.std.specs.Prelude.{◌≡◌, ℕ, Some, true};
 ghost use Rattle.capnp_model.specs.Schemas.{PlainType, «enum», plain};
 ghost use Rattle.capnp_records.specs.Sets.{nodes_of};
@@ -13,7 +13,7 @@ use capnp_values_queries::enums::EnumSchema;
 use capnp_values_queries::introspect::{Type, TypeVariant};
 use capnp_wire_objects::arena::ReaderArena;
 
-/// The value of an enum of a type of the set.
+/// Returns the value of an enum of a type of the set.
 fn enum_of<'a>(set: &'a SchemaSet, ty: Type, value: u16) -> Placed<'a>
     requires known { is_type_of (nodes_of set.now) ty ≡ true }
     ensures { (id : ℕ) → ty_of ty ≡ plain («enum» id)
@@ -25,7 +25,7 @@ fn enum_of<'a>(set: &'a SchemaSet, ty: Type, value: u16) -> Placed<'a>
     }
 }
 
-/// A plain value of a type of the set, as it was read.
+/// Returns a plain value of a type of the set, as it was read.
 pub(crate) fn plain_of<'a, A: ReaderArena>(
     set: &'a SchemaSet,
     ty: Type,

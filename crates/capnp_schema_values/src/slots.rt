@@ -1,4 +1,4 @@
-//! Values behind pointers, got to be written, by the pointers' types.
+//! Values that pointers lead to, read for writing by the pointers' types.
 ghost use Rattle.std.specs.Prelude.{◌≡◌, ◌+◌, ◌<◌, ◌^◌, true, option_map, option_copied, IfOk};
 ghost use Rattle.capnp_model.specs.Accepted.{schema_of};
 ghost use Rattle.capnp_units.specs.Segments.{words_in};
@@ -24,13 +24,13 @@ use capnp_values_queries::introspect::{Type, TypeVariant};
 use capnp_values_queries::structs::StructSchema;
 use capnp_wire_objects::place::Place;
 
-/// The value behind the pointer at a place, under a type of the set, and where it lies. A null
-/// pointer gets the default, where there is one. Else it gets a struct of zeros and nulls, where
-/// the type is a struct's, and any other stays null: a text, data and a list are empty then. A
-/// struct, and a list of structs, are widened to their schema's sizes. Of untyped pointers and
-/// capabilities nothing is looked at. A plain type has no pointers.
+/// Returns the value of the pointer at a place, under a type of the set, with its place. A null
+/// pointer gets the default, if there is one. Otherwise, if the type is a struct, it gets a struct
+/// of zeros and nulls, and any other type stays null: a text, data and a list are empty then. A
+/// struct, and a list of structs, are widened to their schema's sizes. The values of untyped
+/// pointers and capabilities aren't looked at. A plain type has no pointers.
 ///
-/// It is refused as `text_slot`, `data_slot`, `struct_slot` and `list_slot` are.
+/// It is refused like `text_slot`, `data_slot`, `struct_slot` and `list_slot`.
 pub fn get_slot<'a, A: BuilderArena>(
     memory: &mut Memory<A>,
     slot: Place,

@@ -1,4 +1,4 @@
-//! Structs behind pointers, got to be written.
+//! Structs that pointers lead to, read for writing.
 ghost use Rattle.std.specs.Prelude.{◌≡◌, ◌<◌, ◌^◌, option_map, option_copied, IfOk, IfErr};
 ghost use Rattle.capnp_units.specs.Segments.{words_in};
 ghost use Rattle.capnp_wire_objects.specs.Places.{place_view};
@@ -18,11 +18,11 @@ use capnp_units::errors::Result;
 use capnp_values_queries::structs::StructSchema;
 use capnp_wire_objects::place::Place;
 
-/// The struct that the pointer at a place names, with at least its schema's sizes. A null pointer
-/// gets the default, where there is one, else a struct of zeros and nulls; a narrower struct is
-/// widened.
+/// Returns the struct that the pointer at a place names, with at least its schema's sizes. A null
+/// pointer gets the default, if there is one, otherwise a struct of zeros and nulls; a narrower
+/// struct is widened.
 ///
-/// It is refused as `struct_or_default` of the builders is.
+/// It is refused like `struct_or_default` of the builders.
 pub fn struct_slot<'a, A: BuilderArena>(
     arena: &mut A,
     slot: Place,
