@@ -159,11 +159,10 @@ impl<'a, A: BuilderArena> Builder<'a, A> {
     }
 
     /// Sets a field to a value:
-    /// - a plain field to a value of its type, a field of an enum to any enum's value, a Void field
-    ///   to any value;
+    /// - a plain field to a value of its type, an enum to any enum's value, Void to any value;
     /// - a field of texts or of data to a value of its own type;
-    /// - a field of structs to any struct and a field of lists to any list, whatever their schema,
-    ///   which are copied whole; an untyped field to these two, a text or data;
+    /// - a struct to any struct and a list to any list, whatever their schema, which are copied
+    ///   whole; an untyped field to these two, a text or data;
     /// - a group to a struct of its own schema, like in `group_sets::set_group`.
     ///
     /// A union member becomes the active member. A plain value takes no memory. A text or data
@@ -192,8 +191,7 @@ impl<'a, A: BuilderArena> Builder<'a, A> {
         set_value(self.memory, place, field, &value)
     }
 
-    /// Sets the field of a name, like `set`. `FieldNotFound`: there is no such field, and
-    /// everything is unchanged.
+    /// Sets the field of a name, like `set`. `FieldNotFound`: there is none; nothing changes.
     pub fn set_named<B: ReaderArena>(
         &mut self,
         name: &str,

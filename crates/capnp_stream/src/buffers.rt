@@ -1,4 +1,4 @@
-//! The segments of framed messages that lie in a buffer as a whole.
+//! The segments of framed messages that are whole in a buffer.
 ghost use Rattle.std.specs.Prelude.{◌≡◌, ◌≢◌, ◌≤◌, ◌<◌, ℕ, List, ◌+◌, ◌*◌, length, drop, sum, All, Ok, Err, IsOk, IfOk, IfErr, OnErr};
 ghost use Rattle.capnp_units.specs.Errors.{kind_of};
 ghost use Rattle.capnp_units.specs.declared.kinds.ErrorKind.{ErrorKind};
@@ -15,8 +15,8 @@ use capnp_units::sizes::SegmentId;
 use std::alloc::Global;
 use std::convert::AsSlice;
 
-/// A framed message in a buffer, which may be longer, and where its segments lie behind the table,
-/// in words.
+/// A framed message in a buffer, which may be longer, and the places of its segments after the
+/// table, in words.
 #[derive(Drop)]
 pub struct BufferSegments<T: AsSlice<u8>> {
     buffer: T,
@@ -33,10 +33,10 @@ impl<T: AsSlice<u8> + Drop> BufferSegments<T> {
     ghost use Rattle.capnp_stream.specs.Buffers.{buffer_of, buffer_segments};
     ghost use Rattle.capnp_stream.specs.Segments.{lengths_of};
 
-    /// The segments of the framed message at the front of the buffer.
+    /// Returns the segments of the framed message at the front of the buffer.
     ///
-    /// Refused by the kind of the first part that can't be read, and by `OutOfMemory` where all
-    /// can.
+    /// It is refused with the kind of the first part that can't be read, and with `OutOfMemory` if
+    /// all parts can be read.
     pub fn new(alloc: Global, buffer: T, limit: Option<usize>) -> Result<BufferSegments<T>>
         ensures buffer { IfOk result (λ s. buffer_of s ≡ buffer) }
         ensures message { IfOk result (λ s. (rest : List ℕ)
@@ -50,7 +50,7 @@ impl<T: AsSlice<u8> + Drop> BufferSegments<T> {
         BufferSegments::described(alloc, buffer, info)
     }
 
-    /// The segments of a table of lengths, which lie behind n bytes of the buffer.
+    /// Returns the segments of a table of lengths, which are after n bytes of the buffer.
     pub(crate) fn behind_table(
         buffer: T,
         segment_table_bytes_len: usize,
@@ -68,7 +68,7 @@ impl<T: AsSlice<u8> + Drop> BufferSegments<T> {
         }
     }
 
-    /// The segments that this table describes.
+    /// Returns the segments that this table describes.
     fn described(
         alloc: Global,
         buffer: T,
@@ -84,7 +84,7 @@ impl<T: AsSlice<u8> + Drop> BufferSegments<T> {
         Ok(BufferSegments::behind_table(buffer, info.segment_table_length_bytes, table))
     }
 
-    /// The buffer.
+    /// Returns the buffer.
     pub fn into_buffer(self) -> T
         ensures { result ≡ buffer_of self }
     {
@@ -95,7 +95,8 @@ impl<T: AsSlice<u8> + Drop> BufferSegments<T> {
 impl<'a> BufferSegments<&'a [u8]> {
     ghost use Rattle.capnp_stream.specs.Buffers.{buffer_segments};
 
-    /// The segments of the framed message at the front of the slice, which then begins behind it.
+    /// Returns the segments of the framed message at the front of the slice, and moves the slice
+    /// past the message.
     pub(crate) fn from_slice(
         alloc: Global,
         slice: &mut &'a [u8],
@@ -149,7 +150,7 @@ pub type NoAllocSliceSegments<'a> = NoAllocBufferSegments<&'a [u8]>;
 impl<T: AsSlice<u8> + Drop> NoAllocBufferSegments<T> {
     ghost use Rattle.capnp_stream.specs.Buffers.{found_segments};
 
-    /// The segments that the table describes, which lie in the buffer behind it.
+    /// Returns the segments that the table describes, which are in the buffer after the table.
     pub fn from_segment_table_info(
         buffer: T,
         info: NoAllocSegmentTableInfo,
@@ -160,8 +161,8 @@ impl<T: AsSlice<u8> + Drop> NoAllocBufferSegments<T> {
         NoAllocBufferSegments { buffer, info }
     }
 
-    /// The segments of the framed message at the front of the buffer. Refused by the kind of the
-    /// first part that can't be read.
+    /// Returns the segments of the framed message at the front of the buffer. It is refused with
+    /// the kind of the first part that can't be read.
     pub fn from_buffer(buffer: T, limit: Option<usize>) -> Result<NoAllocBufferSegments<T>>
         ensures message { IfOk result (λ s. (rest : List ℕ)
             × (flat_at limit (T.items buffer) ≡ Ok (words_in (found_segments s), rest))) }
@@ -176,9 +177,11 @@ impl<T: AsSlice<u8> + Drop> NoAllocBufferSegments<T> {
 impl<'a> NoAllocBufferSegments<&'a [u8]> {
     ghost use Rattle.capnp_stream.specs.Buffers.{buffer_segments, found_segments};
 
-    /// The segments of the framed message at the front of the slice, which then begins behind it.
+    /// Returns the segments of the framed message at the front of the slice, and moves the slice
+    /// past the message.
     ///
-    /// Refused by the kind of the first part that can't be read; the slice is then as it was.
+    /// It is refused with the kind of the first part that can't be read; then the slice is
+    /// unchanged.
     pub fn from_slice(
         slice: &mut &'a [u8],
         limit: Option<usize>,
@@ -194,9 +197,9 @@ impl<'a> NoAllocBufferSegments<&'a [u8]> {
         Ok(NoAllocBufferSegments::from_segment_table_info(all, info))
     }
 
-    /// These segments, in memory of 16 bytes for each that tells where they lie. So a look-up reads
-    /// two numbers, where one here sums the lengths in front. `OutOfMemory`: the memory was
-    /// refused.
+    /// Returns these segments, with an index of 16 bytes for the place of each. So a look-up reads
+    /// two numbers, while here it sums the lengths of the earlier segments. `OutOfMemory`: the
+    /// memory was refused.
     pub fn to_slice_segments(&self, alloc: Global) -> Result<SliceSegments<'a>>
         ensures segments { IfOk result (λ s. buffer_segments s ≡ found_segments self.now) }
         ensures refusal { IfErr result (λ e. e.kind ≡ ErrorKind.OutOfMemory) }

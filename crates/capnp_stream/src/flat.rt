@@ -10,20 +10,20 @@ use crate::frames::{HALF, SEGMENTS_COUNT_LIMIT, is_within};
 use capnp_units::errors::{Error, Result};
 use capnp_units::kinds::ErrorKind;
 
-/// How a framed message lies at the front of a buffer.
+/// The layout of a framed message at the front of a buffer.
 #[derive(Clone, Copy, Debug, PartialEq, Eq)]
 pub struct NoAllocSegmentTableInfo {
-    /// How many segments there are.
+    /// The number of segments.
     pub segments_count: usize,
-    /// How many bytes the table has, from the front of the buffer on.
+    /// The number of bytes of the table, which begins at the front of the buffer.
     pub segment_table_length_bytes: usize,
-    /// How many bytes the segments have together.
+    /// The number of bytes of all segments together.
     pub total_segments_length_bytes: usize,
 }
 
 impl NoAllocSegmentTableInfo {
-    /// Whether the buffer begins with this table, of 1 to 511 segments, and then has the bytes of
-    /// its segments.
+    /// Returns whether the buffer begins with this table, of 1 to 511 segments, and then has the
+    /// bytes of its segments.
     pub fn describes(&self, buffer: &[u8]) -> bool
         ensures { IsTrue result ↔ Describes self.now buffer.now }
     {
@@ -34,7 +34,7 @@ impl NoAllocSegmentTableInfo {
     }
 }
 
-/// The length in words of a segment, from the table at the front of bytes.
+/// Returns the length in words of a segment, from the table at the front of bytes.
 pub(crate) fn length_in(bytes: &[u8], id: usize) -> usize
     requires few { id ≤ 511 }
     requires there { table_bytes (id + 1) ≤ length bytes.now }
@@ -46,7 +46,8 @@ pub(crate) fn length_in(bytes: &[u8], id: usize) -> usize
     u32::from_le_bytes(length) as usize
 }
 
-/// How many words the first `count` segments have together, from the table at the front of bytes.
+/// Returns the number of words of the first `count` segments together, from the table at the front
+/// of bytes.
 pub(crate) fn words_before(bytes: &[u8], count: usize) -> usize
     requires few { count ≤ 511 }
     requires there { table_bytes count ≤ length bytes.now }
@@ -60,7 +61,7 @@ pub(crate) fn words_before(bytes: &[u8], count: usize) -> usize
     total
 }
 
-/// How the framed message at the front of bytes lies there.
+/// Returns the layout of the framed message at the front of bytes.
 pub(crate) fn info_at(bytes: &[u8], limit: Option<usize>) -> Result<NoAllocSegmentTableInfo>
     ensures described { IfOk result (λ i. Describes i bytes.now) }
     ensures message { IfOk result (λ i. flat_at limit bytes.now

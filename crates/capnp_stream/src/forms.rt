@@ -1,4 +1,4 @@
-//! The forms in which messages are spelled on streams.
+//! The forms in which messages are written on streams.
 ghost use Rattle.std.specs.Prelude.{◌≡◌, ◌/◌, ◌%◌, length, IfOk, IfErr, OnOk, OnErr};
 ghost use Rattle.capnp_units.specs.declared.kinds.ErrorKind.{ErrorKind};
 ghost use Rattle.capnp_model.specs.Bytes.{bytes_of_words};
@@ -15,24 +15,24 @@ use crate::shown::lay_message;
 use capnp_stream_io::traits::{BufRead, Read, Write};
 use capnp_units::errors::Result;
 
-/// How words are spelled on streams, a piece at a time. The pieces of a message that is read are
-/// its first word, the rest of its table, and all segments together. Of one that is written they
-/// are the first two, and each segment.
+/// A form in which words are written on streams, a piece at a time. The pieces of a message that is
+/// read are its first word, the rest of its table, and all segments together. The pieces of a
+/// message that is written are the first two, and each segment.
 pub trait MessageForm {
-    /// How a piece is read from the front of bytes.
+    /// The reading of a piece from the front of bytes.
     ghost reader: { Reader };
 
-    /// How a piece is written.
+    /// The writing of a piece.
     ghost writer: { Writer };
 
-    /// The kinds by which bytes are no piece.
+    /// The kinds of faults of bytes that are not a piece.
     ghost faults: { ErrorKind → Type 0 };
 
-    /// Reads the piece of as many bytes as `buf` has, which are whole words.
+    /// Reads the piece that fills `buf`, which has whole words.
     ///
-    /// After a refusal less than the piece was taken, and no byte behind the first that is at
-    /// fault. `Device`: the source failed; any other kind says why the bytes that are left begin
-    /// with no such piece.
+    /// After a refusal less than the piece was taken, and no byte after the first that is at fault.
+    /// `Device`: the source failed; any other kind says why the bytes that are left don't begin
+    /// with such a piece.
     fn read_piece<R: BufRead>(source: &mut R, buf: &mut [u8]) -> Result<()>
         requires { length buf.old % 8 ≡ 0 }
         ensures ok { OnOk result (TakesPiece reader (R.remaining source.old)
@@ -44,11 +44,12 @@ pub trait MessageForm {
             (R.remaining source.old) (R.remaining source.new)) }
         ensures count { Counts result (R.failures source.old) (R.failures source.new) };
 
-    /// Reads a message of at most n words to the front of a buffer, where the source shows every
-    /// byte of it and the buffer has room. It returns how the message lies there. Otherwise, or
-    /// where the form has no such way, `None`: it is to be read piece by piece.
+    /// Reads a message of at most n words to the front of a buffer, if the source shows every byte
+    /// of the message and the buffer has room. It returns the layout of the message there.
+    /// Otherwise, or if the form can't do this, it returns `None`: the message is to be read piece
+    /// by piece.
     ///
-    /// Nothing is taken but a message that is read. `Device`: the source failed.
+    /// Only a message that is read is taken. `Device`: the source failed.
     #[inline(always)]
     fn read_shown<R: BufRead>(
         source: &mut R,
@@ -64,8 +65,8 @@ pub trait MessageForm {
         Ok(None)
     }
 
-    /// Writes the piece of these bytes, which are whole words. After a refusal a beginning of it
-    /// was written.
+    /// Writes the piece of these bytes, which are whole words. After a refusal a beginning of the
+    /// piece was written.
     fn write_piece<W: Write>(out: &mut W, bytes: &[u8]) -> Result<()>
         requires { length bytes.now % 8 ≡ 0 }
         ensures { Writes W.may_grow (writer (whole_words bytes.now))

@@ -24,10 +24,10 @@ use std::alloc::Global;
 /// A message has fewer segments than this.
 pub const SEGMENTS_COUNT_LIMIT: usize = 512;
 
-/// How many numbers a half of a word holds.
+/// The number of values of a half of a word.
 pub const HALF: u64 = 1 << 32;
 
-/// Whether no byte is left. Nothing is taken.
+/// Returns whether no byte is left. Nothing is taken.
 pub(crate) fn is_at_end<R: BufRead>(source: &mut R) -> Result<bool>
     ensures at { IfOk result (λ b. IfSome (R.remaining source.old) (λ xs. IsTrue b ↔ (xs ≡ []))) }
     ensures kept { Keeps (R.remaining source.old) (R.remaining source.new) }
@@ -38,7 +38,7 @@ pub(crate) fn is_at_end<R: BufRead>(source: &mut R) -> Result<bool>
     Ok(shown.is_empty())
 }
 
-/// The next piece of n words, as bytes. Where memory is wanted none is taken.
+/// Returns the next piece of n words, as bytes. If memory is lacking, no byte is taken.
 fn take_piece<F: MessageForm, R: BufRead>(
     alloc: Global,
     source: &mut R,
@@ -64,7 +64,7 @@ pub(crate) fn are_bytes(bytes: &[u8])
     ensures { AreBytes bytes.now }
 {}
 
-/// Whether n words keep the limit.
+/// Returns whether n words are within the limit.
 pub(crate) fn is_within(total: usize, limit: Option<usize>) -> bool
     ensures { result ≡ within total limit }
 {
@@ -74,8 +74,8 @@ pub(crate) fn is_within(total: usize, limit: Option<usize>) -> bool
     }
 }
 
-/// The lengths of the segments of the next message, from 1 to 511. Memory for them is asked before
-/// the last byte of the table is taken.
+/// Returns the lengths of the segments of the next message, from 1 to 511. Memory for them is
+/// requested before the last byte of the table is taken.
 fn read_table<F: MessageForm, R: BufRead>(
     alloc: Global,
     source: &mut R,
@@ -104,7 +104,7 @@ fn read_table<F: MessageForm, R: BufRead>(
     Ok(table)
 }
 
-/// The segments of the next message, where some byte is left.
+/// Returns the segments of the next message, if a byte is left.
 fn read_segments<F: MessageForm, R: BufRead>(
     alloc: Global,
     source: &mut R,
@@ -133,11 +133,11 @@ fn read_segments<F: MessageForm, R: BufRead>(
     Ok(OwnedSegments::new(bytes, table))
 }
 
-/// The segments of the next message in a form, or `None` where no byte is left.
+/// Returns the segments of the next message in a form, or `None` if no byte is left.
 ///
-/// A message of more words than the limit is refused. `OutOfMemory`: some byte is left, and the
-/// memory for the table or the segments was refused. After a refusal less than a message was taken,
-/// and no byte behind the first that is at fault.
+/// A message of more words than the limit is refused. `OutOfMemory`: a byte is left, and the memory
+/// for the table or the segments was refused. After a refusal less than a message was taken, and no
+/// byte after the first that is at fault.
 pub fn try_read_message_in<F: MessageForm, R: BufRead>(
     alloc: Global,
     source: &mut R,
@@ -154,7 +154,7 @@ pub fn try_read_message_in<F: MessageForm, R: BufRead>(
     Ok(Some(segments))
 }
 
-/// The segments of the next message in a form. `PrematureEndOfFile`: no byte is left.
+/// Returns the segments of the next message in a form. `PrematureEndOfFile`: no byte is left.
 pub fn read_message_in<F: MessageForm, R: BufRead>(
     alloc: Global,
     source: &mut R,

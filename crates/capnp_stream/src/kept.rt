@@ -25,15 +25,15 @@ use capnp_units::errors::{Error, Result};
 use capnp_units::kinds::ErrorKind;
 use std::alloc::Global;
 
-/// Memory into which messages are read, one after the other. It grows where a message is longer
-/// than those before.
+/// Memory into which messages are read, one after the other. It grows if a message is longer than
+/// the earlier ones.
 #[derive(Drop)]
 pub struct MessageBuffer {
     bytes: Vec<u8>,
 }
 
-/// Reads a table into the front of a buffer that has room for the longest, and returns how many
-/// segments it has, from 1 to 511.
+/// Reads a table into the front of a buffer that has room for the longest, and returns the number
+/// of its segments, from 1 to 511.
 fn fill_any_table<F: MessageForm, R: BufRead>(
     source: &mut R,
     buffer: &mut [u8],
@@ -57,7 +57,7 @@ fn fill_any_table<F: MessageForm, R: BufRead>(
 }
 
 impl MessageBuffer {
-    /// A buffer that has taken no memory yet.
+    /// Makes a buffer that has taken no memory yet.
     pub fn new(alloc: Global) -> MessageBuffer
         ensures { buffer_len result ≡ 0 }
     {
@@ -66,8 +66,8 @@ impl MessageBuffer {
         }
     }
 
-    /// Grows to n bytes where it has fewer. `OutOfMemory`: it has fewer, and the memory was
-    /// refused. The bytes that were there stay in front.
+    /// Grows to n bytes if it has fewer. `OutOfMemory`: it has fewer, and the memory was refused.
+    /// The bytes that were there stay in front.
     fn grow_to(&mut self, len: usize) -> Result<()>
         ensures front { (more : List ℕ) × (self.new.bytes.items ≡ self.old.bytes.items ++ more) }
         ensures room { OnOk result (len ≤ buffer_len self.new) }
@@ -109,8 +109,9 @@ impl MessageBuffer {
         Ok(info)
     }
 
-    /// Reads the next message to the front where the source shows every byte of it, and the buffer
-    /// has room for it and for the longest table. Otherwise `None`, and nothing is taken.
+    /// Reads the next message to the front if the source shows every byte of it, and the buffer has
+    /// room for the message and for the longest table. Otherwise it returns `None`, and nothing is
+    /// taken.
     #[inline(always)]
     fn read_shown<F: MessageForm, R: BufRead>(
         &mut self,
@@ -131,7 +132,7 @@ impl MessageBuffer {
         F::read_shown(source, &mut self.bytes, limit)
     }
 
-    /// Reads the next message to the front piece by piece, or `None` where no byte is left.
+    /// Reads the next message to the front piece by piece, or returns `None` if no byte is left.
     #[inline(never)]
     fn read_pieces<F: MessageForm, R: BufRead>(
         &mut self,
@@ -156,8 +157,8 @@ impl MessageBuffer {
         Ok(Some(info))
     }
 
-    /// Reads the next message to the front, whole where the source shows it, else piece by piece,
-    /// or `None` where no byte is left.
+    /// Reads the next message to the front, whole if the source shows it, otherwise piece by piece.
+    /// It returns `None` if no byte is left.
     #[inline(always)]
     fn read_next<F: MessageForm, R: BufRead>(
         &mut self,
@@ -181,15 +182,15 @@ impl MessageBuffer {
         self.read_pieces::<F, R>(source, limit)
     }
 
-    /// The segments of the next message in a form, or `None` where no byte is left. They lie in the
-    /// buffer until the next message is read into it.
+    /// Returns the segments of the next message in a form, or `None` if no byte is left. They are
+    /// in the buffer until the next message is read into it.
     ///
-    /// A message of more words than the limit is refused. `OutOfMemory`: some byte is left, the
-    /// buffer has fewer bytes than the longest table or than the message unpacked, and the memory
-    /// for them was refused. So a buffer into which a message was read takes none for those that
-    /// are no longer. After a refusal less than a message was taken, and no byte behind the first
-    /// that is at fault. The buffer never shrinks, and grows to no more bytes than the longest
-    /// table or the message has.
+    /// A message of more words than the limit is refused. `OutOfMemory`: a byte is left, the buffer
+    /// has fewer bytes than the longest table or than the message unpacked, and the memory for them
+    /// was refused. So a buffer into which a message was read takes no memory for messages that are
+    /// not longer. After a refusal less than a message was taken, and no byte after the first that
+    /// is at fault. The buffer never shrinks, and grows to at most the bytes of the longest table
+    /// or of the message.
     #[inline(always)]
     pub fn try_read_message<F: MessageForm, R: BufRead>(
         &mut self,
@@ -212,10 +213,10 @@ impl MessageBuffer {
     }
 }
 
-/// The segments of the next message in a form, or `None` where no byte is left. They lie in the
-/// buffer until the next message is read into it.
+/// Returns the segments of the next message in a form, or `None` if no byte is left. They are in
+/// the buffer until the next message is read into it.
 ///
-/// Refused as `MessageBuffer::try_read_message`.
+/// It is refused like `MessageBuffer::try_read_message`.
 pub fn try_read_message_into<'a, F: MessageForm, R: BufRead>(
     source: &mut R,
     buffer: &'a mut MessageBuffer,

@@ -21,7 +21,7 @@ use capnp_stream_io::traits::BufRead;
 use capnp_units::errors::{Error, Result};
 use capnp_units::kinds::ErrorKind;
 
-/// Reads a table into the front of a buffer, and returns how many segments it has, from 1 to 511.
+/// Reads a table into the front of a buffer, and returns the number of its segments, from 1 to 511.
 fn fill_table<F: MessageForm, R: BufRead>(
     source: &mut R,
     buffer: &mut [u8],
@@ -107,13 +107,13 @@ fn fill_message<F: MessageForm, R: BufRead>(
     Ok(info)
 }
 
-/// The segments of the next message in a form, or `None` where no byte is left. Its table and its
-/// segments lie unpacked in the buffer.
+/// Returns the segments of the next message in a form, or `None` if no byte is left. Its table and
+/// its segments are unpacked in the buffer.
 ///
-/// A message of more words than the limit is refused. `BufferNotLargeEnough`: some byte is left,
-/// and the buffer has fewer bytes than the table and the segments unpacked. One of fewer than 8
+/// A message of more words than the limit is refused. `BufferNotLargeEnough`: a byte is left, and
+/// the buffer has fewer bytes than the table and the segments unpacked. A buffer of fewer than 8
 /// bytes is refused before any byte is taken. After a refusal less than a message was taken, and no
-/// byte behind the first that is at fault.
+/// byte after the first that is at fault.
 pub fn try_read_message_no_alloc_in<'a, F: MessageForm, R: BufRead>(
     source: &mut R,
     buffer: &'a mut [u8],
@@ -130,10 +130,10 @@ pub fn try_read_message_no_alloc_in<'a, F: MessageForm, R: BufRead>(
     Ok(Some(NoAllocBufferSegments::from_segment_table_info(&*buffer, info)))
 }
 
-/// The segments of the next message in a form, which lie unpacked in the buffer behind their table.
-/// `PrematureEndOfFile`: no byte is left.
+/// Returns the segments of the next message in a form, which are unpacked in the buffer after their
+/// table. `PrematureEndOfFile`: no byte is left.
 ///
-/// Refused otherwise as `try_read_message_no_alloc_in`.
+/// It is otherwise refused like `try_read_message_no_alloc_in`.
 pub fn read_message_no_alloc_in<'a, F: MessageForm, R: BufRead>(
     source: &mut R,
     buffer: &'a mut [u8],

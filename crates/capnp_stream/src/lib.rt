@@ -1,8 +1,8 @@
-//! Messages of any number of segments on streams, framed and in other forms, over the sources and
-//! sinks of `capnp_stream_io`: read and written.
+//! Messages of any number of segments on streams, framed and in other forms: reading and writing
+//! over the sources and sinks of `capnp_stream_io`.
 //!
-//! Its functions take and return segments and a limit of words. What needs a message's reader or
-//! builder, its options and its allocators stands above.
+//! The functions take and return segments and a limit of words. Functions that need a message's
+//! reader or builder, its options and its allocators are in crates above.
 #![tactic(auto)]
 
 pub mod buffers;

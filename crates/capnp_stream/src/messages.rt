@@ -15,7 +15,7 @@ use capnp_units::segments::ReaderSegments;
 use capnp_units::sizes::SegmentId;
 use std::alloc::Global;
 
-/// How many words a segment has; `None` where there is no such segment.
+/// Returns the number of words of a segment; 0 if there is no such segment.
 fn length_of<S: ReaderSegments>(segments: &S, id: SegmentId) -> u64
     requires { AreWritable (S.segments segments.now) }
     ensures length { result ≡ length (slice_index_or (words_in (S.segments segments.now)) id []) }
@@ -27,8 +27,8 @@ fn length_of<S: ReaderSegments>(segments: &S, id: SegmentId) -> u64
     }
 }
 
-/// The words of a table behind its first word, as bytes: the lengths of the segments behind the
-/// first, two in a word.
+/// Returns the words of a table after its first word, as bytes: the lengths of the segments after
+/// the first, two in a word.
 fn rest_of_table<S: ReaderSegments>(alloc: Global, segments: &S) -> Result<Vec<u8>>
     requires { AreWritable (S.segments segments.now) }
     ensures whole { IfOk result (λ v. length v.items % 8 ≡ 0) }
@@ -76,8 +76,8 @@ fn write_each<F: MessageForm, W: Write, S: ReaderSegments>(out: &mut W, segments
 /// Writes the message of these segments in a form: the table's first word, its rest and each
 /// segment, each as a piece.
 ///
-/// After a refusal a beginning of it was written. `OutOfMemory`: the sink wants memory, or the
-/// table of more than one segment does.
+/// After a refusal a beginning of the message was written. `OutOfMemory`: the sink needs memory, or
+/// the table of more than one segment does.
 pub fn write_message_segments_in<F: MessageForm, W: Write, S: ReaderSegments>(
     alloc: Global,
     out: &mut W,
@@ -95,7 +95,8 @@ pub fn write_message_segments_in<F: MessageForm, W: Write, S: ReaderSegments>(
     write_each::<F, W, S>(out, segments)
 }
 
-/// Writes the framed message of these segments. After a refusal a beginning of it was written.
+/// Writes the framed message of these segments. After a refusal a beginning of the message was
+/// written.
 pub fn write_message_segments<W: Write, S: ReaderSegments>(
     alloc: Global,
     out: &mut W,
@@ -111,7 +112,7 @@ pub fn write_message_segments<W: Write, S: ReaderSegments>(
 }
 
 /// Writes a message of one segment, which these bytes hold, in a form. After a refusal a beginning
-/// of it was written.
+/// of the message was written.
 pub fn write_segment_in<F: MessageForm, W: Write>(out: &mut W, bytes: &[u8]) -> Result<()>
     requires { IsSegment bytes.now }
     ensures { Writes W.may_grow (spelled F.writer (whole_words bytes.now ∷ []))
@@ -123,8 +124,8 @@ pub fn write_segment_in<F: MessageForm, W: Write>(out: &mut W, bytes: &[u8]) -> 
     F::write_piece(out, bytes)
 }
 
-/// Writes the framed message of one segment, which these bytes hold: 8 bytes and these. After a
-/// refusal a beginning of it was written.
+/// Writes the framed message of one segment, which these bytes hold: 8 bytes and these bytes. After
+/// a refusal a beginning of the message was written.
 pub fn write_segment<W: Write>(out: &mut W, bytes: &[u8]) -> Result<()>
     requires whole { length bytes.now % 8 ≡ 0 }
     requires small { length bytes.now < 8 * 2 ^ 32 }
@@ -136,8 +137,8 @@ pub fn write_segment<W: Write>(out: &mut W, bytes: &[u8]) -> Result<()>
     write_segment_in::<Framed, W>(out, bytes)
 }
 
-/// The framed message of these segments, as bytes. `OutOfMemory`: they, or the table of more than
-/// one segment, want memory.
+/// Returns the framed message of these segments, as bytes. `OutOfMemory`: there is no memory for
+/// the bytes, or for the table of more than one segment.
 pub fn write_message_segments_to_words<S: ReaderSegments>(
     alloc: Global,
     segments: &S,
@@ -151,7 +152,7 @@ pub fn write_message_segments_to_words<S: ReaderSegments>(
     Ok(words)
 }
 
-/// How many words the framed message of these segments has, its table included.
+/// Returns the number of words of the framed message of these segments, including its table.
 pub fn compute_serialized_size_in_words<S: ReaderSegments>(segments: &S) -> usize
     requires { AreWritable (S.segments segments.now) }
     ensures { 8 * result ≡ length (frame (words_in (S.segments segments.now))) }

@@ -14,7 +14,7 @@ use capnp_units::sizes::SegmentId;
 use std::alloc::Global;
 use std::ops::Deref;
 
-/// The lengths in words of segments that lie one after the other.
+/// The lengths in words of segments that follow one another.
 #[derive(Drop)]
 pub struct SegmentLengthsBuilder {
     indices: Vec<(usize, usize)>,
@@ -27,7 +27,7 @@ impl SegmentLengthsBuilder {
     ghost use Rattle.capnp_stream.specs.Buffers.{buffer_of, buffer_segments};
     ghost use Rattle.capnp_stream.specs.Segments.{lengths_of, capacity_of, owned_bytes, owned_ranges};
 
-    /// The table of the first `count` segments at the front of bytes.
+    /// Returns the table of the first `count` segments at the front of bytes.
     pub(crate) fn in_table(
         alloc: Global,
         bytes: &[u8],
@@ -43,7 +43,7 @@ impl SegmentLengthsBuilder {
         Ok(table)
     }
 
-    /// Asks memory for n segments, where none is there yet and the capacity doesn't suffice.
+    /// Requests memory for n segments, if there is no segment yet and the capacity doesn't suffice.
     pub(crate) fn reserve(&mut self, count: usize) -> Result<()>
         requires { lengths_of self.old ≡ [] }
         ensures empty { lengths_of self.new ≡ [] }
@@ -55,7 +55,7 @@ impl SegmentLengthsBuilder {
         Ok(())
     }
 
-    /// Adds a segment of n words behind the others, where the capacity suffices.
+    /// Adds a segment of n words after the others, if the capacity suffices.
     fn push_within(&mut self, length_in_words: usize)
         requires room { length (lengths_of self.old) < capacity_of self.old }
         requires small { sum (lengths_of self.old) + length_in_words < 2 ^ 64 }
@@ -69,8 +69,8 @@ impl SegmentLengthsBuilder {
         }
     }
 
-    /// Adds the first `count` segments of the table at the front of bytes, where none is there yet
-    /// and the capacity suffices.
+    /// Adds the first `count` segments of the table at the front of bytes, if there is no segment
+    /// yet and the capacity suffices.
     pub(crate) fn fill(&mut self, bytes: &[u8], count: usize)
         requires few { count ≤ 511 }
         requires there { table_bytes count ≤ length bytes.now }
@@ -83,8 +83,8 @@ impl SegmentLengthsBuilder {
         }
     }
 
-    /// No segment yet, and memory for n. `OutOfMemory`: it was refused; where n is 0 none is asked
-    /// for.
+    /// Makes a table without segments, and memory for n. `OutOfMemory`: the memory was refused; if
+    /// n is 0, no memory is requested.
     pub fn with_capacity(alloc: Global, capacity: usize) -> Result<SegmentLengthsBuilder>
         ensures empty { IfOk result (λ t. lengths_of t ≡ []) }
         ensures room { IfOk result (λ t. capacity ≤ capacity_of t) }
@@ -98,9 +98,9 @@ impl SegmentLengthsBuilder {
         })
     }
 
-    /// Adds a segment of n words behind the others. `MessageTooLarge`: the words of all pass
-    /// `usize`. `OutOfMemory`: all the memory for segments is used, and more was refused. After a
-    /// refusal the table is as it was.
+    /// Adds a segment of n words after the others. `MessageTooLarge`: the words of all segments
+    /// exceed `usize`. `OutOfMemory`: all the memory for segments is used, and more was refused.
+    /// After a refusal the table is unchanged.
     pub fn try_push_segment(&mut self, length_in_words: usize) -> Result<()>
         ensures pushed { OnOk result
             (lengths_of self.new ≡ lengths_of self.old ++ length_in_words ∷ []) }
@@ -121,14 +121,14 @@ impl SegmentLengthsBuilder {
         Ok(())
     }
 
-    /// How many words the segments have together.
+    /// Returns the number of words of all segments together.
     pub fn total_words(&self) -> usize
         ensures { result ≡ sum (lengths_of self.now) }
     {
         self.total_words
     }
 
-    /// Zeroed segments of these lengths. `MessageTooLarge`: their bytes pass `usize`.
+    /// Returns zeroed segments of these lengths. `MessageTooLarge`: their bytes exceed `usize`.
     /// `OutOfMemory`: their bytes were refused.
     pub fn into_owned_segments(self, alloc: Global) -> Result<OwnedSegments>
         ensures ranges { IfOk result (λ s. owned_ranges s ≡ ranges_from 0 (lengths_of self)) }
@@ -145,7 +145,7 @@ impl SegmentLengthsBuilder {
         Ok(OwnedSegments::new(bytes, self))
     }
 
-    /// Whether n bytes of a table and then the segments fit into the buffer.
+    /// Returns whether n bytes of a table and then the segments fit into the buffer.
     pub fn describes(&self, buffer: &[u8], segment_table_bytes_len: usize) -> bool
         ensures { IsTrue result
             ↔ (segment_table_bytes_len + 8 * sum (lengths_of self.now) ≤ length buffer.now) }
@@ -156,7 +156,8 @@ impl SegmentLengthsBuilder {
         }
     }
 
-    /// The segments in a slice, behind n bytes of a table, where they fit, as `describes` tests.
+    /// Returns the segments in a slice, after n bytes of a table, if they fit, as `describes`
+    /// checks.
     pub fn into_slice_segments(
         self,
         slice: &[u8],
@@ -170,7 +171,7 @@ impl SegmentLengthsBuilder {
         BufferSegments::behind_table(slice, segment_table_bytes_len, self)
     }
 
-    /// Where each segment begins and ends, in words.
+    /// Returns the words at which each segment begins and ends.
     pub fn to_segment_indices(self) -> Vec<(usize, usize)>
         ensures { result.items ≡ ranges_from 0 (lengths_of self) }
     {
@@ -178,8 +179,8 @@ impl SegmentLengthsBuilder {
     }
 }
 
-/// The words of bytes, the lowest byte of each first; those past the last whole word aren't looked
-/// at. `OutOfMemory`: there is a word, and the memory for them was refused.
+/// Returns the words of bytes, the lowest byte of each first; bytes past the last whole word aren't
+/// looked at. `OutOfMemory`: there is a word, and the memory for the words was refused.
 pub fn words_of(alloc: Global, bytes: &[u8]) -> Result<Vec<u64>>
     ensures words { IfOk result (λ v. v.items ≡ whole_words bytes.now) }
     ensures refusal { IfErr result
@@ -194,7 +195,7 @@ pub fn words_of(alloc: Global, bytes: &[u8]) -> Result<Vec<u64>>
     Ok(words)
 }
 
-/// The segments of a message: the bytes of all, and where each one's words lie in them.
+/// The segments of a message: the bytes of all, and the places of the words of each.
 #[derive(Drop)]
 pub struct OwnedSegments {
     bytes: Vec<u8>,
@@ -207,7 +208,7 @@ impl OwnedSegments {
     ghost use Rattle.capnp_stream.specs.Lending.{LendsBytes};
     ghost use Rattle.capnp_stream.specs.Segments.{lengths_of, owned_bytes, owned_ranges, bytes_of_segments, segments_of};
 
-    /// The segments of a table, one after the other in the bytes.
+    /// Makes the segments of a table, which follow one another in the bytes.
     pub(crate) fn new(bytes: Vec<u8>, table: SegmentLengthsBuilder) -> OwnedSegments
         requires { 8 * sum (lengths_of table) ≤ length bytes.items }
         ensures bytes { owned_bytes result ≡ bytes.items }
@@ -217,14 +218,14 @@ impl OwnedSegments {
         OwnedSegments { bytes, indices }
     }
 
-    /// The bytes of all segments, one behind the other.
+    /// Returns the bytes of all segments, one after the other.
     pub fn as_slice(&self) -> &[u8]
         ensures { result.now ≡ owned_bytes self.now }
     {
         self.bytes.as_slice()
     }
 
-    /// The bytes of all segments, one behind the other, to be written over.
+    /// Returns the bytes of all segments, one after the other, to be written over.
     pub fn as_mut_slice(&mut self) -> &mut [u8]
         ensures* writes_back { sem 𝓛 (LendsBytes self.entry result) }
         ensures value { result.now ≡ owned_bytes self.old }
@@ -232,8 +233,8 @@ impl OwnedSegments {
         &mut self.bytes
     }
 
-    /// The words of a segment, or none past the last. `OutOfMemory`: the segment has a word, and
-    /// the memory for its words was refused.
+    /// Returns the words of a segment, or `None` past the last. `OutOfMemory`: the segment has a
+    /// word, and the memory for its words was refused.
     pub fn segment_words(&self, alloc: Global, id: SegmentId) -> Result<Option<Vec<u64>>>
         ensures words { IfOk result
             (λ o. IfSome o (λ v. slice_get (segments_of self.now) id ≡ Some v.items)) }
@@ -248,8 +249,8 @@ impl OwnedSegments {
     }
 }
 
-/// The bytes of all segments, one behind the other. They are written over by `as_mut_slice`, which
-/// keeps their number.
+/// The bytes of all segments, one after the other. `as_mut_slice` writes over them, and keeps their
+/// number.
 impl Deref for OwnedSegments {
     type Target = Vec<u8>;
 
@@ -267,7 +268,7 @@ impl ReaderSegments for OwnedSegments {
 
     ghost segments = { bytes_of_segments };
 
-    /// The bytes of a segment, each word's lowest first, or none past the last.
+    /// Returns the bytes of a segment, each word's lowest first, or `None` past the last.
     fn get_segment(&self, id: SegmentId) -> Option<&[u8]>
         ensures bytes { option_copied result ≡ slice_get (bytes_of_segments self.now) id }
         ensures words { IfSome result

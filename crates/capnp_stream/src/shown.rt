@@ -1,4 +1,4 @@
-//! Messages of which a source shows every byte.
+//! Messages that a source shows whole.
 ghost use Rattle.std.specs.Prelude.{IfSome};
 ghost use Rattle.capnp_stream.specs.Flat.{Describes};
 ghost use Rattle.capnp_stream.specs.Shown.{Lays};
@@ -6,8 +6,9 @@ ghost use Rattle.capnp_stream.specs.Shown.{Lays};
 use crate::flat::{NoAllocSegmentTableInfo, info_at};
 use crate::frames::{HALF, is_within};
 
-/// How the framed message at the front of the bytes lies there; `None` where they begin with none,
-/// or with a part of one. A table of one segment, which most messages have, is read at once.
+/// Returns the layout of the framed message at the front of the bytes; `None` if they don't begin
+/// with a message, or begin with a part of one. A table of one segment, which most messages have,
+/// is read at once.
 #[inline(always)]
 fn shown_info(shown: &[u8]) -> Option<NoAllocSegmentTableInfo>
     ensures { IfSome result (λ i. Describes i shown.now) }
@@ -25,9 +26,9 @@ fn shown_info(shown: &[u8]) -> Option<NoAllocSegmentTableInfo>
     })
 }
 
-/// Copies the framed message that the bytes begin with to the front of a buffer, and returns how it
-/// lies there. `None` where the bytes begin with no message, or with a part of one, or where it has
-/// more words than the limit, or more bytes than the buffer.
+/// Copies the framed message at the front of the bytes to the front of a buffer, and returns its
+/// layout there. It returns `None` if the bytes don't begin with a message, or begin with a part of
+/// one, or if the message has more words than the limit, or more bytes than the buffer.
 #[inline(always)]
 pub(crate) fn lay_message(
     shown: &[u8],

@@ -10,10 +10,12 @@ use crate::buffers::{BufferSegments, NoAllocBufferSegments, NoAllocSliceSegments
 use capnp_units::errors::Result;
 use std::alloc::Global;
 
-/// The segments of the framed message at the front of the slice, which then begins behind it.
+/// Returns the segments of the framed message at the front of the slice, and moves the slice past
+/// the message.
 ///
-/// A message of more words than the limit is refused. Refused by the kind of the first part that
-/// can't be read, and by `OutOfMemory` where all can; the slice is then as it was.
+/// A message of more words than the limit is refused. It is refused with the kind of the first part
+/// that can't be read, and with `OutOfMemory` if all parts can be read; then the slice is
+/// unchanged.
 pub fn read_message_from_flat_slice<'a>(
     alloc: Global,
     slice: &mut &'a [u8],
@@ -30,7 +32,7 @@ pub fn read_message_from_flat_slice<'a>(
     BufferSegments::from_slice(alloc, slice, limit)
 }
 
-/// The message as by the function above, which takes no memory.
+/// Returns the segments like the function above, and takes no memory.
 pub fn read_message_from_flat_slice_no_alloc<'a>(
     slice: &mut &'a [u8],
     limit: Option<usize>,

@@ -15,7 +15,7 @@ use capnp_stream_io::traits::BufRead;
 use capnp_units::errors::{Error, Result};
 use capnp_units::kinds::ErrorKind;
 
-/// How many bytes the longest table has.
+/// The number of bytes of the longest table.
 pub(crate) const LONGEST_TABLE: usize = 4 * SEGMENTS_COUNT_LIMIT;
 
 /// Reads a piece into the first `len` bytes of a buffer.
@@ -39,8 +39,8 @@ pub(crate) fn fill_front<F: MessageForm, R: BufRead>(
     F::read_piece(source, front)
 }
 
-/// Reads the first word of a table into the front of a buffer, and returns how many segments it
-/// counts, from 1 to 511.
+/// Reads the first word of a table into the front of a buffer, and returns the number of segments
+/// that it counts, from 1 to 511.
 pub(crate) fn fill_count<F: MessageForm, R: BufRead>(
     source: &mut R,
     buffer: &mut [u8],
@@ -70,7 +70,7 @@ pub(crate) fn fill_count<F: MessageForm, R: BufRead>(
     Ok(count)
 }
 
-/// Reads the rest of a table of `count` segments into a buffer, behind its first word.
+/// Reads the rest of a table of `count` segments into a buffer, after its first word.
 pub(crate) fn fill_others<F: MessageForm, R: BufRead>(
     source: &mut R,
     buffer: &mut [u8],

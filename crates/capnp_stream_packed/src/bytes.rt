@@ -10,7 +10,7 @@ use capnp_stream_io::traits::{BufRead, Read};
 use capnp_units::errors::{Error, Result};
 use capnp_units::kinds::ErrorKind;
 
-/// Whether no byte is left. Nothing is taken.
+/// Returns whether no byte is left. Nothing is taken.
 pub(crate) fn is_at_end<R: BufRead>(source: &mut R) -> Result<bool>
     ensures at { IfOk result (λ b. IfSome (R.remaining source.old) (λ xs. IsTrue b ↔ (xs ≡ []))) }
     ensures kept { Keeps (R.remaining source.old) (R.remaining source.new) }
@@ -21,7 +21,7 @@ pub(crate) fn is_at_end<R: BufRead>(source: &mut R) -> Result<bool>
     Ok(shown.is_empty())
 }
 
-/// The next byte, or `None` where none is left.
+/// Returns the next byte, or `None` if no byte is left.
 pub(crate) fn next_byte<R: BufRead>(source: &mut R) -> Result<Option<u8>>
     ensures byte { IfOk result (λ o.
         TakesByte (R.remaining source.old) (R.remaining source.new) o) }
@@ -37,7 +37,7 @@ pub(crate) fn next_byte<R: BufRead>(source: &mut R) -> Result<Option<u8>>
     Ok(Some(byte))
 }
 
-/// The next byte, or this kind where none is left.
+/// Returns the next byte, or is refused with this kind if no byte is left.
 pub(crate) fn byte_or<R: BufRead>(source: &mut R, end: ErrorKind) -> Result<u8>
     requires { IsEndKind end }
     ensures byte { IfOk result (λ b.

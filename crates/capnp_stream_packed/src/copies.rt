@@ -1,5 +1,5 @@
-//! Puts bytes to the front of a buffer. Few are put there in one piece of a fixed size, and then
-//! any bytes stand behind them: no call and no loop depends on how many they are.
+//! Copies bytes to the front of a buffer. A few bytes are copied as one piece of a fixed size, and
+//! then any bytes follow them: no call and no loop depends on the number of bytes.
 ghost use Rattle.std.specs.Prelude.{◌≡◌, ◌≤◌, ◌+◌, ◌*◌, ◌++◌, length, take, drop, replicate, IsTrue};
 
 /// Copies a chunk of n bytes, if both have one and these `len` are in it.
@@ -92,7 +92,7 @@ fn clear_some(len: usize, to: &mut [u8])
     }
 }
 
-/// Clears n bytes. Mostly these are none.
+/// Clears n bytes, which are mostly 0.
 #[inline(always)]
 pub(crate) fn clear_front(len: usize, to: &mut [u8])
     requires { len ≤ length to.old }
@@ -117,7 +117,7 @@ pub(crate) fn copy_first(from: &[u8], to: &mut [u8])
     to[..8].copy_from_slice(&word);
 }
 
-/// Copies the word behind n bytes, which are the same already.
+/// Copies the word after n bytes, which are equal already.
 #[inline(always)]
 fn copy_word(at: usize, from: &[u8], to: &mut [u8])
     requires here { at + 8 ≤ length from.now }
@@ -129,8 +129,8 @@ fn copy_word(at: usize, from: &[u8], to: &mut [u8])
     copy_first(&from[at..], &mut to[at..]);
 }
 
-/// Copies a word and n behind it. Up to three behind it are copied without a branch: where there
-/// are fewer the last is copied again, so that no room behind it is needed.
+/// Copies a word and n words after it. Up to three words after it are copied without a branch: if
+/// there are fewer, the last is copied again, so that no room after it is needed.
 #[inline(always)]
 pub(crate) fn copy_words(behind: usize, from: &[u8], to: &mut [u8])
     requires here { 8 * behind + 8 ≤ length from.now }

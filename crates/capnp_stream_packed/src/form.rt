@@ -13,17 +13,17 @@ use capnp_stream_io::traits::{BufRead, Read, Write};
 use capnp_units::errors::Result;
 
 /// Words in groups, each a tag byte and the bytes that aren't zero, with runs of zero words and of
-/// words as they are.
+/// verbatim words.
 ///
-/// A piece is read in whole groups where the source shows them, else byte by byte, and no byte
-/// behind it is taken. `PrematureEndOfPackedInput`: a group is cut, its count is missing, or the
-/// input ends between two groups. `FailedToFillTheWholeBuffer`: a run of words as they are is cut,
-/// or no byte is left before the first group. `PackedInputDidNotEndCleanlyOnASegmentBoundary`: a
-/// run has more words than the piece has left; none of them was read.
+/// A piece is read in whole groups if the source shows them, otherwise byte by byte, and no byte
+/// after it is taken. `PrematureEndOfPackedInput`: a group is cut, its count is missing, or the
+/// input ends between two groups. `FailedToFillTheWholeBuffer`: a run of verbatim words is cut, or
+/// no byte is left before the first group. `PackedInputDidNotEndCleanlyOnASegmentBoundary`: a run
+/// has more words than the piece has left; none of them was read.
 ///
 /// Written groups mark exactly the bytes that aren't zero, and are followed by the longest runs
-/// within the piece, of at most 255 words. A run of words as they are goes on while a word has at
-/// most one zero byte.
+/// within the piece, of at most 255 words. A run of verbatim words goes on while a word has at most
+/// one zero byte.
 #[derive(Clone, Copy, Debug)]
 pub struct Packed;
 
@@ -36,7 +36,7 @@ impl MessageForm for Packed {
 
     ghost faults = { is_packed_fault };
 
-    /// After a refusal the buffer holds words in front of the fault, and zeros behind them.
+    /// After a refusal the buffer holds the words before the fault, followed by zeros.
     fn read_piece<R: BufRead>(source: &mut R, buf: &mut [u8]) -> Result<()>
         requires { length buf.old % 8 ≡ 0 }
         ensures ok { OnOk result (TakesPiece unpacked (R.remaining source.old)

@@ -1,4 +1,4 @@
-//! The runs behind written groups.
+//! Runs after written groups.
 ghost use Rattle.std.specs.Prelude.{◌≡◌, ◌*◌, ◌≤◌, length};
 ghost use Rattle.capnp_model.specs.Packing.{is_zero, is_dense, run_of, longest_run};
 ghost use Rattle.capnp_model.specs.Bytes.{AreBytes};
@@ -13,7 +13,7 @@ pub(crate) fn are_bytes(bytes: &[u8])
     ensures { AreBytes bytes.now }
 {}
 
-/// How many words at the front are zero, at most 255.
+/// Returns the number of zero words at the front, at most 255.
 fn zero_words(bytes: &[u8]) -> u8
     ensures count { result ≡ run_of is_zero 255 (whole_words bytes.now) }
     ensures fits { 8 * result ≤ length bytes.now }
@@ -30,7 +30,7 @@ fn zero_words(bytes: &[u8]) -> u8
     count
 }
 
-/// How many words at the front have at most one zero byte, at most 255.
+/// Returns the number of words at the front that have at most one zero byte, at most 255.
 fn dense_words(bytes: &[u8]) -> u8
     ensures count { result ≡ run_of is_dense 255 (whole_words bytes.now) }
     ensures fits { 8 * result ≤ length bytes.now }
@@ -47,7 +47,7 @@ fn dense_words(bytes: &[u8]) -> u8
     count
 }
 
-/// The run behind a word of this tag, in front of these bytes.
+/// Returns the run after a word of this tag, before these bytes.
 pub(crate) fn longest_run(tag: u8, behind: &[u8]) -> Run
     ensures run { run_view result ≡ longest_run tag (whole_words behind.now) }
     ensures fits { 8 * run_words result ≤ length behind.now }

@@ -10,9 +10,9 @@ ghost use Rattle.capnp_stream.specs.Frames.{TakesMessage, IsFrameFault};
 
 use capnp_model::laws::{packed_words, texts_of_messages, written_messages};
 
-/// Where the bytes to come are those that `Packed::write_piece` wrote, and then any others,
-/// `Packed::read_piece` returns its words and leaves exactly the others. Only a failed device keeps
-/// it from that.
+/// If the bytes to come are those that `Packed::write_piece` wrote, and then any others,
+/// `Packed::read_piece` returns its words and leaves exactly the others. Only a failed device
+/// prevents this.
 pub fn written_pieces_are_read()
     ensures read { (ws rest : List ℕ) (new : Option (List ℕ)) (words : List ℕ) → AreWords ws
         → length words ≡ length ws → TakesPiece unpacked (Some (packed ws ++ rest)) new words
@@ -24,7 +24,7 @@ pub fn written_pieces_are_read()
     packed_words();
 }
 
-/// Where the bytes to come are those of a packed message, and then any others, `read_message` gives
+/// If the bytes to come are those of a packed message, and then any others, `read_message` returns
 /// its segments and leaves exactly the others; it finds no fault in them.
 pub fn written_messages_are_read()
     ensures read { (limit : Option ℕ) (s u : Segments) (rest : List ℕ) (new : Option (List ℕ))
@@ -37,7 +37,7 @@ pub fn written_messages_are_read()
     written_messages();
 }
 
-/// A packed piece of n words has at most 8 n + (n + 3) / 2 bytes, and none where n is 0.
+/// A packed piece of n words has at most 8 n + (n + 3) / 2 bytes, and no bytes if n is 0.
 pub fn sizes_of_pieces()
     ensures none { packed [] ≡ [] }
     ensures most { (ws : List ℕ) → length (packed ws) ≤ 8 * length ws + (length ws + 3) / 2 }

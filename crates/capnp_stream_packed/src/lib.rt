@@ -1,7 +1,7 @@
 //! Packed streams: words in groups, messages of segments in them, and packed sources and sinks.
 //!
-//! Messages are segments here, read under a limit of words. What needs a message's reader or
-//! builder, its options or its allocator, stays for the crate of messages.
+//! Messages are segments here, read under a limit of words. Functions that need a message's reader
+//! or builder, its options or its allocator are in the crate of messages.
 #![tactic(auto)]
 
 mod bytes;

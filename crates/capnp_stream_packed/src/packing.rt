@@ -12,11 +12,11 @@ use crate::written::pack_groups;
 use capnp_stream_io::traits::Write;
 use capnp_units::errors::Result;
 
-/// How many bytes are packed before they are written. The words of a run as they are, for which
-/// there is no room, are written by themselves.
+/// The number of bytes that are packed before they are written. Verbatim words of a run for which
+/// there is no room are written by themselves.
 const BUFFER_LEN: usize = 128;
 
-/// Writes the words of a run as they are. Without any the sink isn't called.
+/// Writes the verbatim words of a run. If there are no words, the sink isn't called.
 fn write_run<W: Write>(out: &mut W, run: &[u8]) -> Result<()>
     ensures ok { OnOk result (Appends (W.contents out.old) (W.contents out.new) run.now) }
     ensures falls { OnOk result (RoomFalls (W.room out.old) (W.room out.new) (length run.now)) }
@@ -31,7 +31,7 @@ fn write_run<W: Write>(out: &mut W, run: &[u8]) -> Result<()>
     out.write_all(run)
 }
 
-/// Writes the groups of the first words. Returns the bytes behind these.
+/// Writes the groups of the first words. Returns the bytes after these words.
 fn write_groups<'a, W: Write>(out: &mut W, bytes: &'a [u8]) -> Result<&'a [u8]>
     requires whole { length bytes.now % 8 ≡ 0 }
     requires some { 0 < length bytes.now }

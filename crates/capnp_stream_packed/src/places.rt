@@ -1,9 +1,9 @@
-//! Which bytes of a word a tag marks.
+//! The bytes of a word that a tag marks.
 ghost use Rattle.std.specs.Prelude.{◌≡◌};
 ghost use Rattle.capnp_stream_packed.specs.Tags.{eight_places};
 
-/// Row t tells which bytes of a word the tag t marks, in order; behind them stands 8, which is no
-/// byte.
+/// Row t has the bytes of a word that the tag t marks, in order, followed by 8, which is not the
+/// index of a byte.
 static PLACES: [[u8; 8]; 256] = [
     [8, 8, 8, 8, 8, 8, 8, 8],
     [0, 8, 8, 8, 8, 8, 8, 8],
@@ -263,7 +263,7 @@ static PLACES: [[u8; 8]; 256] = [
     [0, 1, 2, 3, 4, 5, 6, 7],
 ];
 
-/// The row of a tag.
+/// Returns the row of a tag.
 #[inline(always)]
 pub(crate) fn places_of(tag: u8) -> [u8; 8]
     ensures { result ≡ eight_places tag }

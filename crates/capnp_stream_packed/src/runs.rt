@@ -4,8 +4,8 @@ ghost use Rattle.capnp_stream_packed.specs.Runs.{IsOver, NeedsBytes, end_kind, r
 
 use capnp_units::kinds::ErrorKind;
 
-/// What comes next in a piece: its first group, a further group, or n words of a run, behind which
-/// a group comes.
+/// The next part of a piece: its first group, a further group, or n words of a run, followed by a
+/// group.
 #[derive(Clone, Copy)]
 pub(crate) enum Run {
     First,
@@ -15,7 +15,7 @@ pub(crate) enum Run {
 }
 
 impl Run {
-    /// The kind of an end where a group should begin.
+    /// Returns the kind of an end at which a group should begin.
     pub(crate) fn end_kind(self) -> ErrorKind
         ensures { result ≡ end_kind self }
     {
@@ -25,7 +25,7 @@ impl Run {
         }
     }
 
-    /// Whether no word of the run is left, so that a group comes next.
+    /// Returns whether no word of the run is left, so that a group comes next.
     #[inline(always)]
     pub(crate) fn is_over(self) -> bool
         ensures { IsTrue result ↔ IsOver self }
@@ -36,7 +36,7 @@ impl Run {
         }
     }
 
-    /// Whether the next word needs bytes: no zero word of a run is left.
+    /// Returns whether the next word needs bytes: no zero word of a run is left.
     pub(crate) fn needs_bytes(self) -> bool
         ensures { IsTrue result ↔ NeedsBytes self }
     {
@@ -46,7 +46,7 @@ impl Run {
         }
     }
 
-    /// The bytes of this run as they are written, and those behind it.
+    /// Returns the bytes of this run as they are written, and the later bytes.
     pub(crate) fn split(self, bytes: &[u8]) -> (&[u8], &[u8])
         requires { 8 * run_words self ≤ length bytes.now }
         ensures written { result.0.now ≡ run_bytes self bytes.now }

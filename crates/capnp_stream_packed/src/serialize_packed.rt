@@ -16,9 +16,9 @@ use std::alloc::Global;
 /// each as a piece.
 ///
 /// There are 1 to 2^32 - 1 segments, each of whole words, fewer than 2^32. After a refusal a
-/// beginning of it was written. `OutOfMemory`: the sink wants memory, or the table of more than one
-/// segment does. `BufferNotLargeEnough`: the sink has an end, and less room than the message has
-/// bytes. `Device`: the sink failed.
+/// beginning of the message was written. `OutOfMemory`: the sink needs memory, or the table of more
+/// than one segment does. `BufferNotLargeEnough`: the sink has an end, and less room than the
+/// message has bytes. `Device`: the sink failed.
 pub fn write_message_segments<W: Write, S: ReaderSegments>(
     alloc: Global,
     out: &mut W,
@@ -34,8 +34,8 @@ pub fn write_message_segments<W: Write, S: ReaderSegments>(
 }
 
 /// Writes the packed message of one segment, whose whole words these bytes are, fewer than 2^32.
-/// After a refusal a beginning of it was written, and the kind is one that `write_message_segments`
-/// gives; `OutOfMemory` where the sink wants memory.
+/// After a refusal a beginning of the message was written, and the kind is one that
+/// `write_message_segments` returns; `OutOfMemory` if the sink needs memory.
 pub fn write_segment<W: Write>(out: &mut W, bytes: &[u8]) -> Result<()>
     requires { IsSegment bytes.now }
     ensures { Writes W.may_grow (packed_message (whole_words bytes.now ∷ []))

@@ -1,5 +1,5 @@
-//! Unpacks whole groups of the bytes that a source shows, without a look at their end between the
-//! bytes of a group.
+//! Unpacks whole groups of the bytes that a source shows, without checking for their end between
+//! the bytes of a group.
 ghost use Rattle.std.specs.Prelude.{◌≡◌, ◌<◌, ◌≤◌, ◌%◌, ◌⊎◌, length, take, drop, IfSome};
 ghost use Rattle.capnp_stream_packed.specs.Runs.{IsOver, NeedsBytes};
 ghost use Rattle.capnp_stream_packed.specs.Steps.{IsFirst};
@@ -8,10 +8,10 @@ use crate::copies::{clear_front, copy_first, copy_front, copy_words};
 use crate::runs::Run;
 use crate::tags::{byte_behind, marked, spread};
 
-/// A group that isn't followed by words as they are has at most a tag, eight bytes and a count.
+/// The most bytes of a group that isn't followed by verbatim words: a tag, eight bytes and a count.
 pub(crate) const GROUP_LEN: usize = 10;
 
-/// The byte at the front of some; 0 where there is none.
+/// Returns the first byte; 0 if there is none.
 #[inline(always)]
 fn first_byte(bytes: &[u8]) -> u8
     ensures { IsFirst result bytes.now }
@@ -22,7 +22,7 @@ fn first_byte(bytes: &[u8]) -> u8
     }
 }
 
-/// The eight bytes behind a tag.
+/// Returns the eight bytes after a tag.
 #[inline(always)]
 fn behind_tag(bytes: &[u8; GROUP_LEN]) -> &[u8; 8]
     ensures { result.now ≡ take 8 (drop 1 bytes.now) }
@@ -33,8 +33,8 @@ fn behind_tag(bytes: &[u8; GROUP_LEN]) -> &[u8; 8]
     behind
 }
 
-/// A whole group and its whole run: n bytes were taken and m bytes of a buffer filled. Then the
-/// byte behind them, if there is one.
+/// A whole group and its whole run: n bytes were taken and m bytes of a buffer filled. It also has
+/// the next byte, if there is one.
 #[derive(Clone, Copy)]
 pub(crate) struct Group {
     taken: usize,
@@ -45,8 +45,8 @@ pub(crate) struct Group {
 impl Group {
     ghost use Rattle.capnp_stream_packed.specs.Steps.{BeginsWithTag, UnpacksGroup};
 
-    /// The group of the tag 0 at the front of these bytes, and its run, of which the group has the
-    /// count. The group's word stands in the buffer. `None`: the run has more words than the buffer
+    /// Returns the group of the tag 0 at the front of these bytes, and its run, whose count is in
+    /// the group. The group's word is in the buffer. `None`: the run has more words than the buffer
     /// has room for.
     #[inline(always)]
     fn of_zeros(shown: &[u8], buf: &mut [u8]) -> Option<Group>
@@ -68,9 +68,9 @@ impl Group {
         })
     }
 
-    /// The group of the tag 255 at the front of these bytes, and its run, of which the group has
-    /// the count. The group's word stands in the buffer. `None`: the run isn't shown whole, or has
-    /// more words than the buffer has room for.
+    /// Returns the group of the tag 255 at the front of these bytes, and its run, whose count is in
+    /// the group. The group's word is in the buffer. `None`: the run isn't shown whole, or has more
+    /// words than the buffer has room for.
     #[inline(always)]
     fn of_words(shown: &[u8], buf: &mut [u8]) -> Option<Group>
         requires long { 10 ≤ length shown.now }
@@ -96,8 +96,8 @@ impl Group {
         })
     }
 
-    /// The group of the tag 0 or 255 at the front of these bytes, and its run. The group's word
-    /// stands in the buffer. `None`: the run isn't shown whole, or has more words than the buffer
+    /// Returns the group of the tag 0 or 255 at the front of these bytes, and its run. The group's
+    /// word is in the buffer. `None`: the run isn't shown whole, or has more words than the buffer
     /// has room for.
     #[inline(always)]
     fn with_run(tag: u8, shown: &[u8], buf: &mut [u8]) -> Option<Group>
@@ -116,7 +116,7 @@ impl Group {
     }
 }
 
-/// n bytes were taken and m bytes of a buffer filled, up to where a run stands.
+/// A step, which took n bytes and filled m bytes of a buffer, and ended at a run.
 #[derive(Clone, Copy)]
 pub(crate) struct Step {
     pub(crate) taken: usize,
@@ -127,8 +127,8 @@ pub(crate) struct Step {
 impl Step {
     ghost use Rattle.capnp_stream_packed.specs.Steps.{Unpacks};
 
-    /// Fills the front of the buffer with what is left of a run, as far as the words as they are
-    /// are shown.
+    /// Fills the front of the buffer with the rest of a run, as far as its verbatim words are
+    /// shown.
     #[inline(always)]
     pub(crate) fn of_run(run: Run, shown: &[u8], buf: &mut [u8]) -> Step
         requires { length buf.old % 8 ≡ 0 }
@@ -202,8 +202,8 @@ impl Step {
         }
     }
 
-    /// Fills the front of the buffer with what is left of a run and with whole groups, as far as
-    /// they are shown.
+    /// Fills the front of the buffer with the rest of a run and with whole groups, as far as they
+    /// are shown.
     #[inline(always)]
     pub(crate) fn of_shown(run: Run, shown: &[u8], buf: &mut [u8]) -> Step
         requires { length buf.old % 8 ≡ 0 }

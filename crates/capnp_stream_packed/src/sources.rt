@@ -1,9 +1,9 @@
-//! Where the bytes of a word stand behind a tag.
+//! The places of the bytes of a word after a tag.
 ghost use Rattle.std.specs.Prelude.{◌≡◌};
 ghost use Rattle.capnp_stream_packed.specs.Tags.{sources};
 
-/// Row t tells of each byte of a word where it stands among the bytes behind the tag t: as many
-/// places on as bytes before it are marked. At 8, where none stands, if t doesn't mark it.
+/// Row t has for each byte of a word its place among the bytes after the tag t: the number of
+/// marked bytes before it. If t doesn't mark the byte, the place is 8, which has no byte.
 static SOURCES: [[u8; 8]; 256] = [
     [8, 8, 8, 8, 8, 8, 8, 8],
     [0, 8, 8, 8, 8, 8, 8, 8],
@@ -263,7 +263,7 @@ static SOURCES: [[u8; 8]; 256] = [
     [0, 1, 2, 3, 4, 5, 6, 7],
 ];
 
-/// The row of a tag.
+/// Returns the row of a tag.
 #[inline(always)]
 pub(crate) fn sources_of(tag: u8) -> [u8; 8]
     ensures { result ≡ sources 8 tag 0 }

@@ -19,7 +19,7 @@ use capnp_units::kinds::ErrorKind;
 
 /// The words of a packed source, a piece for each call of `read`.
 ///
-/// It doesn't tell the bytes to come, since how they are cut into pieces decides which of them can
+/// It doesn't expose the bytes to come, because the division into pieces decides which of them can
 /// be read.
 #[derive(Drop)]
 pub struct PackedRead<R> {
@@ -31,13 +31,13 @@ impl<R: BufRead> Read for PackedRead<R> {
 
     ghost refuses = { IsUnpackingKind };
 
-    /// Fills `buf`, which has whole words, with one piece, and returns its length in bytes; 0 where
-    /// it is empty, or no byte is left.
+    /// Fills `buf`, which has whole words, with one piece, and returns its length in bytes; 0 if
+    /// `buf` is empty, or no byte is left.
     ///
     /// `BufferNotLargeEnough`: `buf` ends in a part of a word; nothing is taken. `Device`: the
-    /// source failed; any other kind says why the bytes that are left begin with no such piece.
-    /// Then less than the piece was taken, and `buf` is as it was, or holds words in front of the
-    /// fault and zeros behind them.
+    /// source failed; any other kind says why the bytes that are left don't begin with such a
+    /// piece. Then less than the piece was taken, and `buf` is unchanged, or holds the words before
+    /// the fault, followed by zeros.
     fn read(&mut self, buf: &mut [u8]) -> Result<usize>
         ensures bound { ReadsAtMost result buf.new }
         ensures bytes { ReadConsumes None None result buf.new }
@@ -61,9 +61,9 @@ impl<R: BufRead> Read for PackedRead<R> {
     /// Fills `buf`, which has whole words, with one piece.
     ///
     /// `BufferNotLargeEnough`: `buf` ends in a part of a word; nothing is taken. `Device`: the
-    /// source failed; any other kind says why the bytes that are left begin with no such piece.
-    /// Then less than the piece was taken, and `buf` is as it was, or holds words in front of the
-    /// fault and zeros behind them.
+    /// source failed; any other kind says why the bytes that are left don't begin with such a
+    /// piece. Then less than the piece was taken, and `buf` is unchanged, or holds the words before
+    /// the fault, followed by zeros.
     fn read_exact(&mut self, buf: &mut [u8]) -> Result<()>
         ensures ok { OnOk result (Consumes None None buf.new) }
         ensures part { IfErr result (λ e.
@@ -87,8 +87,8 @@ impl<R: BufRead> Read for PackedRead<R> {
     }
 }
 
-/// A packed sink of words, a piece for each call. It is no `Write`, since it takes whole words
-/// alone.
+/// A packed sink of words, a piece for each call. It is not a `Write`, because it only takes whole
+/// words.
 #[derive(Drop)]
 pub struct PackedWrite<W> {
     pub inner: W,
@@ -98,9 +98,9 @@ impl<W: Write> PackedWrite<W> {
     /// Writes these bytes, which are whole words, as one piece, of at most 8 n + (n + 3) / 2 bytes
     /// for n words.
     ///
-    /// After a refusal a beginning of it was written. `BufferNotLargeEnough`: the sink has an end,
-    /// and less room than the piece has bytes. `OutOfMemory`: the sink wants memory. `Device`: it
-    /// failed.
+    /// After a refusal a beginning of the piece was written. `BufferNotLargeEnough`: the sink has
+    /// an end, and less room than the piece has bytes. `OutOfMemory`: the sink needs memory.
+    /// `Device`: it failed.
     pub fn write_piece(&mut self, bytes: &[u8]) -> Result<()>
         requires { length bytes.now % 8 ≡ 0 }
         ensures { Writes W.may_grow (packed (whole_words bytes.now))
@@ -110,10 +110,10 @@ impl<W: Write> PackedWrite<W> {
         write_words(&mut self.inner, bytes)
     }
 
-    /// Writes these bytes as one piece, or refuses them where they end in a part of a word.
+    /// Writes these bytes as one piece, or refuses them if they end in a part of a word.
     ///
-    /// `BufferNotLargeEnough`: they aren't whole words, and nothing was written. Else it refuses as
-    /// `write_piece` does.
+    /// `BufferNotLargeEnough`: they aren't whole words, and nothing was written. Otherwise it is
+    /// refused like `write_piece`.
     pub fn write_all(&mut self, bytes: &[u8]) -> Result<()>
         ensures written { length bytes.now % 8 ≡ 0
             → Writes W.may_grow (packed (whole_words bytes.now))

@@ -1,7 +1,7 @@
 //! Tags of groups.
 //!
-//! Bit i of a tag marks byte i of a word. The marked bytes stand behind the tag, in order; the
-//! others are zero:
+//! Bit i of a tag marks byte i of a word. The marked bytes follow the tag, in order; the others are
+//! zero:
 //!
 //! ```text
 //! word  00 00 0c 00 00 22 00 00
@@ -19,7 +19,7 @@ use crate::places::places_of;
 use crate::sources::sources_of;
 use std::simd::prelude::*;
 
-/// The lane i of `bytes` that stands at place i of `places`; zero at the place 8.
+/// Returns, in lane i, the byte at place i of `places`; zero for the place 8.
 #[inline(always)]
 fn at_places(bytes: &[u8; 8], places: [u8; 8]) -> [u8; 8]
     requires { (i : ℕ) → slice_index places i < 9 }
@@ -33,7 +33,7 @@ fn at_places(bytes: &[u8; 8], places: [u8; 8]) -> [u8; 8]
     [a, b, c, d, e, f, g, h]
 }
 
-/// How many bytes a tag marks.
+/// Returns the number of bytes that a tag marks.
 #[inline(always)]
 pub(crate) fn marked(tag: u8) -> usize
     ensures count { result ≡ marks 8 tag }
@@ -42,8 +42,7 @@ pub(crate) fn marked(tag: u8) -> usize
     tag.count_ones() as usize
 }
 
-/// The word whose tag this is, of the bytes behind the tag. Behind those that it marks they may be
-/// any.
+/// Returns the word of a tag from the bytes after the tag. Bytes after the marked ones are ignored.
 #[inline(always)]
 pub(crate) fn spread(tag: u8, behind: &[u8; 8]) -> [u8; 8]
     ensures { (more : List ℕ)
@@ -52,9 +51,9 @@ pub(crate) fn spread(tag: u8, behind: &[u8; 8]) -> [u8; 8]
     at_places(behind, sources_of(tag))
 }
 
-/// The byte behind those that the tag marks, of the eight bytes behind the tag: where the group has
-/// no count, it is the next tag. It is shifted out of bytes that were read already, so that no
-/// further read has to wait for the tag.
+/// Returns the byte after those that the tag marks, from the eight bytes after the tag. If the
+/// group has no count, this byte is the next tag. It is shifted out of bytes that were read
+/// already, so that no further read has to wait for the tag.
 #[inline(always)]
 pub(crate) fn byte_behind(tag: u8, behind: &[u8; 8]) -> u8
     requires { tag ≢ 255 }
@@ -65,7 +64,7 @@ pub(crate) fn byte_behind(tag: u8, behind: &[u8; 8]) -> u8
     left.to_le_bytes()[0]
 }
 
-/// The tag of a word.
+/// Returns the tag of a word.
 #[inline(always)]
 pub(crate) fn tag_of(word: &[u8; 8]) -> u8
     ensures { result ≡ byte_tag word.now }
@@ -74,7 +73,7 @@ pub(crate) fn tag_of(word: &[u8; 8]) -> u8
     marks.to_bitmask() as u8
 }
 
-/// The bytes of a word that its tag marks, in order. Behind them stand others.
+/// Returns the bytes of a word that its tag marks, in order, followed by others.
 #[inline(always)]
 pub(crate) fn gather(tag: u8, word: &[u8; 8]) -> [u8; 8]
     requires { tag ≡ byte_tag word.now }
@@ -83,7 +82,7 @@ pub(crate) fn gather(tag: u8, word: &[u8; 8]) -> [u8; 8]
     at_places(word, places_of(tag))
 }
 
-/// Whether at most one byte of a word is zero.
+/// Returns whether at most one byte of a word is zero.
 #[inline(always)]
 pub(crate) fn is_dense(word: &[u8; 8]) -> bool
     ensures { result ≡ is_dense (from_le_bytes w64 word.now) }

@@ -19,14 +19,14 @@ use capnp_stream_io::traits::{BufRead, Read};
 use capnp_units::errors::{Error, Result};
 use capnp_units::kinds::ErrorKind;
 
-/// A word that was read, and what comes behind it.
+/// A word that was read, and the next part of its piece.
 #[derive(Clone, Copy)]
 pub(crate) struct Unpacked {
     pub(crate) word: [u8; 8],
     pub(crate) run: Run,
 }
 
-/// A byte of a word: the next byte where the bit marks it, else zero.
+/// Returns a byte of a word: the next byte if the bit marks it, otherwise zero.
 fn byte_at<R: BufRead>(source: &mut R, bit: u8) -> Result<u8>
     ensures byte { IfOk result (λ b.
         Takes (byte_at bit) (R.remaining source.old) (R.remaining source.new) b) }
@@ -40,7 +40,7 @@ fn byte_at<R: BufRead>(source: &mut R, bit: u8) -> Result<u8>
     byte_or(source, ErrorKind::PrematureEndOfPackedInput)
 }
 
-/// The bytes of a word, by its tag.
+/// Returns the bytes of a word, by its tag.
 fn tagged_word<R: BufRead>(source: &mut R, tag: u8) -> Result<[u8; 8]>
     ensures word { IfOk result (λ w.
         Takes (tagged tag) (R.remaining source.old) (R.remaining source.new) w) }
@@ -57,7 +57,7 @@ fn tagged_word<R: BufRead>(source: &mut R, tag: u8) -> Result<[u8; 8]>
     Ok(word)
 }
 
-/// The bytes of a word as they are.
+/// Returns the bytes of a verbatim word.
 fn verbatim_word<R: BufRead>(source: &mut R) -> Result<[u8; 8]>
     ensures word { IfOk result (λ w.
         Takes (taken 8) (R.remaining source.old) (R.remaining source.new) w) }
@@ -72,7 +72,7 @@ fn verbatim_word<R: BufRead>(source: &mut R) -> Result<[u8; 8]>
     Ok(word)
 }
 
-/// A count of words, of which the piece has `left`.
+/// Returns a count of words in a piece that has `left` words left.
 fn read_count<R: BufRead>(source: &mut R, left: usize) -> Result<u8>
     ensures count_read { IfOk result (λ k.
         Takes (count_at left) (R.remaining source.old) (R.remaining source.new) k) }
@@ -87,7 +87,7 @@ fn read_count<R: BufRead>(source: &mut R, left: usize) -> Result<u8>
     Ok(count)
 }
 
-/// The run behind a group of this tag, in a piece that has `left` more words.
+/// Returns the run after a group of this tag, in a piece that has `left` more words.
 fn read_run<R: BufRead>(source: &mut R, tag: u8, left: usize) -> Result<Run>
     ensures run { IfOk result (λ r.
         Takes (run_at left tag) (R.remaining source.old) (R.remaining source.new) (run_view r)) }
@@ -102,8 +102,8 @@ fn read_run<R: BufRead>(source: &mut R, tag: u8, left: usize) -> Result<Run>
     }
 }
 
-/// The word of a group, where the run before is over and the piece has `left` words behind this
-/// one.
+/// Returns the word of a group, if the run before it is over and the piece has `left` words after
+/// this word.
 fn read_group<R: BufRead>(source: &mut R, run: Run, left: usize) -> Result<Unpacked>
     requires { IsOver run }
     ensures word { IfOk result (λ u.
@@ -121,7 +121,7 @@ fn read_group<R: BufRead>(source: &mut R, run: Run, left: usize) -> Result<Unpac
     Ok(Unpacked { word, run })
 }
 
-/// The next word of a piece that has `left` words behind it.
+/// Returns the next word of a piece that has `left` words after it.
 pub(crate) fn next_word<R: BufRead>(source: &mut R, run: Run, left: usize) -> Result<Unpacked>
     ensures word { IfOk result (λ u.
         ContinuesWith (unpacked_from (left + 1) (run_view run)) (R.remaining source.old)
@@ -145,8 +145,8 @@ pub(crate) fn next_word<R: BufRead>(source: &mut R, run: Run, left: usize) -> Re
     }
 }
 
-/// Fills the front of the buffer with what is left of a run and with whole groups, as far as the
-/// source shows them.
+/// Fills the front of the buffer with the rest of a run and with whole groups, as far as the source
+/// shows them.
 #[inline(always)]
 fn shown_words<R: BufRead>(source: &mut R, run: Run, buf: &mut [u8]) -> Result<Step>
     requires { length buf.old % 8 ≡ 0 }
@@ -161,8 +161,8 @@ fn shown_words<R: BufRead>(source: &mut R, run: Run, buf: &mut [u8]) -> Result<S
     Ok(step)
 }
 
-/// Fills the front of the buffer with the next word of a piece, whose words it has room for, byte
-/// by byte.
+/// Fills the front of the buffer with the next word of a piece, for which it has room, byte by
+/// byte.
 #[inline(never)]
 fn one_word<R: BufRead>(source: &mut R, run: Run, buf: &mut [u8]) -> Result<Step>
     requires whole { length buf.old % 8 ≡ 0 }
@@ -183,8 +183,8 @@ fn one_word<R: BufRead>(source: &mut R, run: Run, buf: &mut [u8]) -> Result<Step
     })
 }
 
-/// Fills the front of the buffer with the next words of a piece, whose words it has room for. What
-/// a source shows is taken in whole groups; a group that isn't shown whole is read byte by byte.
+/// Fills the front of the buffer with the next words of a piece, for which it has room. Bytes that
+/// a source shows are taken in whole groups; a group that isn't shown whole is read byte by byte.
 #[inline(always)]
 fn next_words<R: BufRead>(source: &mut R, run: Run, buf: &mut [u8]) -> Result<Step>
     requires whole { length buf.old % 8 ≡ 0 }
@@ -207,8 +207,8 @@ fn next_words<R: BufRead>(source: &mut R, run: Run, buf: &mut [u8]) -> Result<St
     one_word(source, step.run, buf)
 }
 
-/// Fills the front of the buffer as `next_words` does, or refuses, and then clears the buffer: what
-/// it holds doesn't depend on how the bytes were shown.
+/// Fills the front of the buffer like `next_words`. If it is refused, it clears the buffer, so the
+/// contents don't depend on how the bytes were shown.
 #[inline(always)]
 fn next_words_or_zeros<R: BufRead>(source: &mut R, run: Run, buf: &mut [u8]) -> Result<Step>
     requires whole { length buf.old % 8 ≡ 0 }
@@ -228,9 +228,9 @@ fn next_words_or_zeros<R: BufRead>(source: &mut R, run: Run, buf: &mut [u8]) -> 
     step
 }
 
-/// Fills the buffer with the words of a piece that are left, which are as many as it holds, from
-/// inside a run on. After a refusal it holds the words in front of the fault, and zeros behind
-/// them.
+/// Fills the buffer with the rest of the words of a piece, from inside a run on. The piece has as
+/// many words left as the buffer. After a refusal the buffer holds the words before the fault,
+/// followed by zeros.
 #[inline(never)]
 fn read_rest<R: BufRead>(source: &mut R, run: Run, buf: &mut [u8]) -> Result<()>
     requires { length buf.old % 8 ≡ 0 }
@@ -254,8 +254,8 @@ fn read_rest<R: BufRead>(source: &mut R, run: Run, buf: &mut [u8]) -> Result<()>
     Ok(())
 }
 
-/// Fills the buffer with the words of one piece, which are as many as it holds. After a refusal it
-/// holds the words in front of the fault, and zeros behind them.
+/// Fills the buffer with the words of one piece, which has as many words as the buffer. After a
+/// refusal the buffer holds the words before the fault, followed by zeros.
 pub(crate) fn read_words<R: BufRead>(source: &mut R, buf: &mut [u8]) -> Result<()>
     requires { length buf.old % 8 ≡ 0 }
     ensures ok { OnOk result

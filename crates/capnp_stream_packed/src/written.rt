@@ -1,5 +1,5 @@
-//! Packs whole groups into a buffer that has room for them, without a look at its end between the
-//! bytes of a group.
+//! Packs whole groups into a buffer that has room for them, without checking for its end between
+//! the bytes of a group.
 ghost use Rattle.std.specs.Prelude.{◌≡◌, ◌≤◌, ◌<◌, ◌%◌, ◌∷◌, ◌++◌, length, take};
 ghost use Rattle.capnp_model.specs.Packing.{byte_tag, nonzero, count_byte};
 ghost use Rattle.capnp_stream_packed.specs.Runs.{run_view};
@@ -11,8 +11,8 @@ use crate::runs::Run;
 use crate::shown::GROUP_LEN;
 use crate::tags::{gather, marked, tag_of};
 
-/// n bytes of a buffer spell words. Behind them come the words of a run as they are, for which the
-/// buffer had no room, and then the groups of the rest.
+/// The first n bytes of a buffer, which spell words. Then come the verbatim words of a run, for
+/// which the buffer had no room, and then the groups of the rest.
 #[derive(Clone, Copy)]
 pub(crate) struct Written<'a> {
     pub(crate) len: usize,
@@ -20,8 +20,8 @@ pub(crate) struct Written<'a> {
     pub(crate) rest: &'a [u8],
 }
 
-/// Puts a word's tag, the bytes that it marks and the count of its run to the front of the buffer,
-/// and returns how many bytes these are.
+/// Writes a word's tag, the bytes that it marks and the count of its run to the front of the
+/// buffer, and returns their number.
 #[inline(always)]
 fn put_head(word: &[u8; 8], tag: u8, run: Run, buf: &mut [u8]) -> usize
     requires tag_of { tag ≡ byte_tag word.now }
