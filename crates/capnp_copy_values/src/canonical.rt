@@ -1,4 +1,4 @@
-//! The canonical copy of a value into an arena, in place of another.
+//! Canonical copies of values into an arena, which replace other values.
 ghost use Rattle.std.specs.Prelude.{◌≡◌, ◌^◌, ◌<◌};
 ghost use Rattle.capnp_wire_objects.specs.Places.{place_view};
 ghost use Rattle.capnp_copy_values.specs.Copies.{source_in, limited, FollowsFew};
@@ -21,26 +21,24 @@ use capnp_wire_canonical::laws::{copies_follow_few, segments_of_words};
 use capnp_wire_objects::arena::{NullArena, ReaderArena};
 use capnp_wire_objects::place::{Place, ROOT};
 
-/// Puts a copy of the value of a pointer in a source in place of the value of the pointer at a
-/// place, which is cleared. The copy is the trimmed tree, as a canonical message has it. A value
-/// with a capability is refused.
+/// Replaces the value of the pointer at a place, which is cleared, by a copy of the value of a
+/// pointer in a source. The copy is the trimmed tree, as in a canonical message. A value with a
+/// capability is refused.
 ///
-/// It goes by way of lent words, over which the value's canonical words are written first, and
-/// takes no other memory. A word more than the limiter has left, up to 2^29 - 1, always suffices.
-/// The source's pointers are followed once, nulls too, and its objects paid for, as by
-/// `write_canonical`. It is refused
-/// - at the first fault within n levels, by its kind;
+/// The value's canonical words are first written over lent words, and no other memory is taken. One
+/// word more than the limiter has left, up to 2^29 - 1, always suffices. The source's pointers are
+/// followed once, nulls too, and its objects paid for, like in `write_canonical`. It is refused
+/// - at the first fault within n levels, with its kind;
 /// - with `CapabilityInCanonical` at a capability;
 /// - with `ReadLimitExceeded` at the first object that costs more words than are left;
-/// - with `BufferNotLargeEnough` only where its canonical words, and those that were granted, and
-///   one, are more than were lent;
-/// - else as `copy_from` is of the canonical words, for want of room in the arena.
+/// - with `BufferNotLargeEnough` only if its canonical words, and the granted words and one more,
+///   exceed the lent words;
+/// - otherwise like `copy_from` of the canonical words, for lack of room in the arena.
 ///
-/// After a refusal all the arena's words stand as they were, and those that were allocated are
-/// zero.
+/// After a refusal all the arena's words are unchanged, and those that were allocated are zero.
 ///
-/// It takes the steps of `write_canonical`, and those of `copy_from` over what that wrote. No more
-/// of the lent words are written than were granted, and one.
+/// It takes the steps of `write_canonical`, and those of `copy_from` over the canonical words. The
+/// number of lent words that are written is at most one more than the number of granted words.
 pub fn copy_canonical_from<A: BuilderArena, B: ReaderArena>(
     arena: &mut A,
     slot: Place,

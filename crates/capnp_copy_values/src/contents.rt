@@ -21,7 +21,7 @@ use capnp_units::limiter::ReadLimiter;
 use capnp_wire_objects::arena::ReaderArena;
 use capnp_wire_objects::place::Place;
 
-/// Writes bytes over a struct's data, and zeros behind them.
+/// Writes bytes over a struct's data, followed by zeros.
 fn write_data<A: BuilderArena>(arena: &mut A, object: StructPlace, bytes: &[u8])
     requires there { is_some (words_at (words_in (A.segments arena.old)) (place_view object.start)
         object.data_words) ≡ true }
@@ -43,7 +43,8 @@ fn write_data<A: BuilderArena>(arena: &mut A, object: StructPlace, bytes: &[u8])
     arena.zero_words(behind, object.data_words as usize - words);
 }
 
-/// Puts what fits of a data section into a struct's data, with zeros behind it. Its pointers stand.
+/// Copies the part of a data section that fits into a struct's data, followed by zeros. Its
+/// pointers are unchanged.
 pub fn copy_data_from<A: BuilderArena>(arena: &mut A, object: StructPlace, section: &[u8])
     requires there { is_some (words_at (words_in (A.segments arena.old)) (place_view object.start)
         object.data_words) ≡ true }
@@ -60,7 +61,7 @@ pub fn copy_data_from<A: BuilderArena>(arena: &mut A, object: StructPlace, secti
     write_data(arena, object, &section[..bytes]);
 }
 
-/// Clears n pointers of a struct, those behind the first ones.
+/// Clears n pointers of a struct, after the first ones.
 fn clear_rest<A: BuilderArena>(arena: &mut A, object: StructPlace, kept: u16)
     requires near { object.start.position + (object.data_words + object.pointers) < 2 ^ 61 }
     requires few { kept ≤ object.pointers }
@@ -80,20 +81,20 @@ fn clear_rest<A: BuilderArena>(arena: &mut A, object: StructPlace, kept: u16)
     }
 }
 
-/// Puts the content of a struct of a source into a struct that lies in an arena:
-/// - of its data section as many bytes as fit, with zeros behind them;
-/// - copies of the values of as many pointers as it has a place for, in place of the old values,
-///   which are cleared.
+/// Copies the content of a struct of a source into a struct in an arena:
+/// - as many bytes of its data section as fit, followed by zeros;
+/// - copies of the values of as many pointers as the struct has, which replace the old values;
+///   these are cleared.
 ///
-/// The struct's further pointers become null. The source's pointers stand in a row, and n levels
-/// may be followed from each. Those that the struct has no place for aren't followed.
+/// The struct's further pointers become null. The source's pointers follow one another, and n
+/// levels may be followed from each. Pointers for which the struct has no place aren't followed.
 ///
-/// The source's own words were paid for already: its pointers are followed, nulls too, and refused
-/// as by `copy_from`. After a refusal the data are the source's. Of the pointers the first ones
-/// have the copies, and the others their old values. All else stands. The words that old values
-/// left are zero, as are new ones that have no use. Refused or not, it allocates no more words than
-/// twice those that it grants. Where the struct's segment has room for all words of the copies, it
-/// takes exactly these, and there is no want of room.
+/// The source's own words were paid for before. Its pointers are followed, nulls too, and refused
+/// like in `copy_from`. After a refusal the data are the source's. The first pointers have the
+/// copies, and the others their old values. Everything else is unchanged. The words of cleared
+/// values are zero, and so are new words without a use. Refused or not, it allocates at most twice
+/// the words that it grants. If the struct's segment has room for all words of the copies, it takes
+/// exactly these, and isn't refused for lack of room.
 pub fn copy_content_from<A: BuilderArena, B: ReaderArena>(
     arena: &mut A,
     object: StructPlace,

@@ -1,4 +1,4 @@
-//! The plain copy of a value into an arena, in place of another.
+//! Plain copies of values into an arena, which replace other values.
 ghost use Rattle.std.specs.Prelude.{◌≡◌, ◌+◌, ◌*◌, ◌^◌, ◌<◌, ◌≤◌, true, length, map};
 ghost use Rattle.capnp_model.specs.Segments.{after};
 ghost use Rattle.capnp_units.specs.Segments.{words_in};
@@ -23,8 +23,8 @@ use capnp_wire_objects::follow::follow_within;
 use capnp_wire_objects::object::{Object, words_of_elements};
 use capnp_wire_objects::place::Place;
 
-/// The structs of a list in a source: where the first begins, how many words they are said to
-/// take, how many they are, and what each has.
+/// The structs of a list in a source: the place of the first, the number of words that they claim,
+/// their count, and the size of each.
 #[derive(Clone, Copy, Debug, PartialEq, Eq)]
 struct StructRows {
     start: Place,
@@ -34,24 +34,25 @@ struct StructRows {
     pointers: u16,
 }
 
-/// Puts a copy of the value of a pointer in a source in place of the value of the pointer at a
-/// place, which is cleared. The whole tree is copied, with its capabilities' indices as they are.
+/// Replaces the value of the pointer at a place, which is cleared, by a copy of the value of a
+/// pointer in a source. The whole tree is copied, with the indices of its capabilities unchanged.
 ///
 /// The source's pointers are followed in the order of reading, nulls too, and its objects are paid
-/// for, as by `size_at`. It is refused
-/// - at the first fault within n levels, by its kind;
+/// for, like in `size_at`. It is refused
+/// - at the first fault within n levels, with its kind;
 /// - with `ReadLimitExceeded` at the first object that costs more words than are left;
-/// - with `SizeOverflow` exactly where a count, or the message's words with the next object and a
-///   pad, would pass 2^29 - 1;
-/// - else as the allocator refuses.
+/// - with `SizeOverflow` exactly if a count, or the message's words with the next object and a pad,
+///   would exceed 2^29 - 1;
+/// - otherwise with the allocator's error.
 ///
-/// After a refusal all words stand as they were, and those that were allocated are zero. Refused or
-/// not, it allocates no more words than twice those that it grants. Where the pointer's segment has
-/// room for all words of the copy, it takes exactly these, and there is no want of room.
+/// After a refusal all words are unchanged, and those that were allocated are zero. Refused or not,
+/// it allocates at most twice the words that it grants. If the pointer's segment has room for all
+/// words of the copy, it takes exactly these, and isn't refused for lack of room.
 ///
-/// It takes a step for each pointer that it follows, which are no more than the words that it
-/// grants, and one, and goes over data by whole slices. New words are filled first, the old value
-/// is cleared then, and the pointer is written last. Each level takes a few hundred bytes of stack.
+/// It takes a step for each pointer that it follows; the number of these pointers is at most one
+/// more than the words that it grants. It copies data by whole slices. New words are filled first,
+/// then the old value is cleared, and the pointer is written last. Each level takes a few hundred
+/// bytes of stack.
 #[cycle(copy)]
 pub fn copy_from<A: BuilderArena, B: ReaderArena>(
     arena: &mut A,
@@ -82,7 +83,7 @@ pub fn copy_from<A: BuilderArena, B: ReaderArena>(
     copy_object(arena, slot, limiter, source, object, levels - 1)
 }
 
-/// Clears the pointer at a place and writes a capability over it, where the object is one.
+/// Clears the pointer at a place, and writes a capability over it if the object is a capability.
 fn put_leaf<A: BuilderArena>(arena: &mut A, slot: Place, object: Object)
     requires there { HasWords (A.segments arena.old) slot 1 }
     requires leaf { is_leaf object ≡ true }
@@ -99,24 +100,24 @@ fn put_leaf<A: BuilderArena>(arena: &mut A, slot: Place, object: Object)
     }
 }
 
-/// Puts a copy of an object of a source in place of the value of the pointer at a place, which is
-/// cleared. The object is a struct or a list that a reader stands on, and is copied as by
-/// `set_struct` and `set_list`. n levels may be followed from each of its pointers. A list is
-/// copied as it lies, its structs with all their words, however it was read.
+/// Replaces the value of the pointer at a place, which is cleared, by a copy of an object of a
+/// source. The object is the struct or the list of a reader, and is copied like in `set_struct` and
+/// `set_list`. n levels may be followed from each of its pointers. A list is copied as it is, its
+/// structs with all their words, as whatever list it was read.
 ///
-/// The object's own words were paid for already. It is refused
-/// - as by `copy_from` behind it;
-/// - with `SizeOverflow` exactly where its counts, or the message's words with it and a pad, would
-///   pass 2^29 - 1;
-/// - else as the allocator refuses.
+/// The object's own words were paid for before. It is refused
+/// - like `copy_from` for the values of its pointers;
+/// - with `SizeOverflow` exactly if its counts, or the message's words with the object and a pad,
+///   would exceed 2^29 - 1;
+/// - otherwise with the allocator's error.
 ///
-/// After a refusal all words stand as they were, and those that were allocated are zero. Refused or
-/// not, it allocates no more words than twice those of the copy and those that it grants. Where the
-/// pointer's segment has room for all words of the copy, it takes exactly these, and there is no
-/// want of room.
+/// After a refusal all words are unchanged, and those that were allocated are zero. Refused or not,
+/// it allocates at most twice the sum of the words of the copy and the words that it grants. If the
+/// pointer's segment has room for all words of the copy, it takes exactly these, and isn't refused
+/// for lack of room.
 ///
-/// Each pointer in the object is followed, and from there on it takes the steps of `copy_from`.
-/// Lists of plain elements and of structs without pointers take one step, whatever they count.
+/// Each pointer in the object is followed, and from there on it takes the steps of `copy_from`. A
+/// list of plain elements or of structs without pointers takes one step, whatever its length.
 #[cycle(copy)]
 pub fn copy_object<A: BuilderArena, B: ReaderArena>(
     arena: &mut A,
@@ -158,7 +159,7 @@ pub fn copy_object<A: BuilderArena, B: ReaderArena>(
     }
 }
 
-/// Makes the copy of an object of zero words, from a place on.
+/// Fills zero words from a place on with the copy of an object.
 #[cycle(copy)]
 fn fill<A: BuilderArena, B: ReaderArena>(
     arena: &mut A,
@@ -222,8 +223,8 @@ fn fill<A: BuilderArena, B: ReaderArena>(
     }
 }
 
-/// Copies n pointers in a row of a source over the first of a struct's, whose data words lie before
-/// them.
+/// Copies n pointers in a row of a source over the first of a struct's pointers; the struct's data
+/// words are before them.
 #[cycle(copy)]
 pub(crate) fn fill_row<A: BuilderArena, B: ReaderArena>(
     arena: &mut A,
@@ -262,7 +263,7 @@ pub(crate) fn fill_row<A: BuilderArena, B: ReaderArena>(
     Ok(())
 }
 
-/// Copies a struct of a source over one of the same size.
+/// Copies a struct of a source over a struct of the same size.
 #[cycle(copy)]
 fn fill_struct<A: BuilderArena, B: ReaderArena>(
     arena: &mut A,
@@ -304,7 +305,7 @@ fn fill_struct<A: BuilderArena, B: ReaderArena>(
     )
 }
 
-/// Copies the structs of a list of a source over those of a list of as many of the same size, whose
+/// Copies the structs of a list of a source over those of a list of equal length and size, whose
 /// tag is at a place. Structs without pointers are copied as one slice.
 #[cycle(copy)]
 fn fill_elements<A: BuilderArena, B: ReaderArena>(

@@ -1,4 +1,4 @@
-//! Defaults that are written in place of null.
+//! Defaults that replace null.
 ghost use Rattle.std.specs.Prelude.{◌≡◌, ◌<◌, ◌^◌};
 ghost use Rattle.capnp_units.specs.Segments.{words_in};
 ghost use Rattle.capnp_wire_objects.specs.Places.{place_view};
@@ -15,23 +15,23 @@ use capnp_wire::backing::{Backing, default_backing};
 use capnp_wire_objects::arena::{NullArena, ReaderArena};
 use capnp_wire_objects::place::{Place, word_at};
 
-/// How deep a default may be nested.
+/// The most levels of a default.
 const DEFAULT_LEVELS: u32 = 64;
 
-/// Whether the pointer at a place is null, or not there.
+/// Returns whether the pointer at a place is null, or doesn't exist.
 fn is_null_at<A: ReaderArena>(arena: &A, place: Place) -> bool
     ensures { result ≡ is_null_or_absent (words_in (A.segments arena.now)) (place_view place) }
 {
     word_at(arena, place).unwrap_or(0) == 0
 }
 
-/// Puts a copy of a default in place of null: the root of the one segment that has these words.
-/// Nothing happens where the pointer isn't null, or the default's root is.
+/// Replaces null by a copy of a default: the root of the one segment that has these words. Nothing
+/// happens if the pointer isn't null, or if the default's root is null.
 ///
-/// The default is read 64 levels deep, and costs nothing. It is refused as `copy_from` is. A
-/// default that can be read within its levels is refused only for want of room, with `SizeOverflow`
-/// or as the allocator refuses. It isn't where the pointer's segment has room for its words. Then
-/// all words stand as they were, and those that were allocated are zero.
+/// The default is read 64 levels deep, and costs nothing. It is refused like `copy_from`. A default
+/// that can be read within its levels is only refused for lack of room, with `SizeOverflow` or the
+/// allocator's error. It isn't refused if the pointer's segment has room for its words. After a
+/// refusal all words are unchanged, and those that were allocated are zero.
 pub fn write_default<A: BuilderArena>(arena: &mut A, slot: Place, default: &[Word]) -> Result<()>
     requires there { HasWords (A.segments arena.old) slot 1 }
     requires near { slot.position < 2 ^ 61 }

@@ -6,8 +6,8 @@ ghost use Rattle.capnp_model_writes.specs.Footprints.{Owns};
 ghost use Rattle.capnp_model_writes.specs.Changes.{Replaces};
 ghost use Rattle.capnp_copy_values.specs.Copies.{BecomesCopy, GrowsByZeros};
 
-/// A value that a copy takes the place of is replaced, however few levels it has; one that a
-/// refused copy leaves stands.
+/// A value that a copy replaces is replaced, however few levels it has; a value that a refused copy
+/// leaves is unchanged.
 pub fn values_after_copies()
     ensures copied { (levels n : ℕ) (s u : Segments) (p : Place) (t v : Tree)
         → BecomesCopy levels s u p v → Owns n s p t → Replaces (n + levels) s u p v }

@@ -30,8 +30,8 @@ use capnp_wire_objects::arena::ReaderArena;
 use capnp_wire_objects::object::{Object, words_of_elements};
 use capnp_wire_objects::place::Place;
 
-/// Where the elements of a list lie that is read, and what they are: for structs, each has n data
-/// words and pointers.
+/// The place and the kind of the elements of a list to read: structs have n data words and pointers
+/// each.
 #[derive(Clone, Copy, Debug, PartialEq, Eq)]
 pub struct ListSource {
     pub start: Place,
@@ -41,7 +41,7 @@ pub struct ListSource {
     pub pointers: u16,
 }
 
-/// The object that such a list is.
+/// Returns the object of such a list.
 fn object_of(list: ListSource) -> Object
     ensures { result ≡ listed_object list }
 {
@@ -85,8 +85,8 @@ fn write_elements<A: BuilderArena>(
     write_bytes(arena, start, words, bytes);
 }
 
-/// Writes a struct over one of the same size: its data, and copies of the values of its pointers,
-/// which stand in a row of a source.
+/// Writes a struct over a struct of the same size: its data, and copies of the values of its
+/// pointers, which follow one another in a source.
 fn fill_element<A: BuilderArena, B: ReaderArena>(
     arena: &mut A,
     object: StructPlace,
@@ -123,7 +123,7 @@ fn fill_element<A: BuilderArena, B: ReaderArena>(
     )
 }
 
-/// Writes the structs of a list over those of a list of as many of the same size, whose tag is at a
+/// Writes the structs of a list over those of a list of equal length and size, whose tag is at a
 /// place. Structs without pointers are written as one slice.
 fn fill_structs<A: BuilderArena, B: ReaderArena>(
     arena: &mut A,
@@ -184,7 +184,7 @@ fn fill_structs<A: BuilderArena, B: ReaderArena>(
     Ok(())
 }
 
-/// Makes the list of zero words, from a place on.
+/// Fills zero words from a place on with the list.
 fn fill_list<A: BuilderArena, B: ReaderArena>(
     arena: &mut A,
     start: Place,
@@ -225,24 +225,24 @@ fn fill_list<A: BuilderArena, B: ReaderArena>(
     }
 }
 
-/// Puts a copy of a list of a source in place of the value of the pointer at a place, which is
-/// cleared. The bytes are its plain elements or the words of its structs. The values of its
-/// pointers are copied by where they stand. A list of structs is copied whole, however it was read.
-/// n levels may be followed from each pointer.
+/// Replaces the value of the pointer at a place, which is cleared, by a copy of a list of a source.
+/// The bytes are its plain elements or the words of its structs. The values of its pointers are
+/// copied from their places in the source. A list of structs is copied whole, as whatever list it
+/// was read. n levels may be followed from each pointer.
 ///
-/// The list's own words were paid for already, and its pointers are followed, nulls too. It is
+/// The list's own words were paid for before, and its pointers are followed, nulls too. It is
 /// refused
-/// - as by `copy_from`, of its pointers;
-/// - with `SizeOverflow` exactly where the count, the words of structs, or the message's words with
-///   it and a pad would pass 2^29 - 1;
-/// - else as the allocator refuses.
+/// - like `copy_from` for its pointers;
+/// - with `SizeOverflow` exactly if the count, the words of structs, or the message's words with
+///   the list and a pad would exceed 2^29 - 1;
+/// - otherwise with the allocator's error.
 ///
-/// After a refusal all words stand as they were, and those that were allocated are zero. Refused or
-/// not, it allocates no more words than twice the list's and those that it grants. Where the
-/// pointer's segment has room for all words of the copy, it takes exactly these, and there is no
-/// want of room.
+/// After a refusal all words are unchanged, and those that were allocated are zero. Refused or not,
+/// it allocates at most twice the sum of the list's words and the words that it grants. If the
+/// pointer's segment has room for all words of the copy, it takes exactly these, and isn't refused
+/// for lack of room.
 ///
-/// Lists of plain elements and of structs without pointers take one step, whatever they count.
+/// A list of plain elements or of structs without pointers takes one step, whatever its length.
 pub fn set_list<A: BuilderArena, B: ReaderArena>(
     arena: &mut A,
     slot: Place,

@@ -1,4 +1,4 @@
-//! What the copy of an object takes, and the pointer to it.
+//! The words of the copy of an object, and the pointer to the copy.
 ghost use Rattle.std.specs.Prelude.{◌≡◌, ◌+◌, ◌-◌, ◌*◌, ◌^◌, ◌<◌, ◌≤◌, true, IfOk, IfErr, OnErr};
 ghost use Rattle.std.specs.Option.{is_some};
 ghost use Rattle.capnp_model.specs.Segments.{word_at};
@@ -21,19 +21,19 @@ use capnp_wire_objects::named::NamedObject;
 use capnp_wire_objects::object::{Object, words_of_elements};
 use capnp_wire_objects::place::Place;
 
-/// Where the upper half of a pointer word begins, 32 bits up.
+/// The beginning of the upper half of a pointer word, 32 bits up.
 const UPPER_HALF: u64 = 0x1_0000_0000;
-/// Where the pointers of a struct are counted, 48 bits up.
+/// The unit of a struct pointer's count of pointers, 48 bits up.
 const POINTERS: u64 = 0x1_0000_0000_0000;
-/// Where the elements of a list are counted, 35 bits up.
+/// The unit of a list pointer's count of elements, 35 bits up.
 const ELEMENTS: u64 = 0x8_0000_0000;
 /// The number of a list of pointers among the sizes of elements.
 const SIZE_OF_POINTERS: u64 = 6;
 /// The number of a list of structs.
 const SIZE_OF_STRUCTS: u64 = 7;
 
-/// The words of the copy of an object. They are refused with `SizeOverflow` exactly where a count
-/// that its pointer or tag tells passes 2^29 - 1.
+/// Returns the number of words of the copy of an object. It is refused with `SizeOverflow` exactly
+/// if a count of its pointer or tag exceeds 2^29 - 1.
 fn words_of_copy(object: Object) -> Result<u32>
     ensures words { IfOk result (λ n.
         (n ≡ copied_words object) × (n ≤ 2 ^ 29) × (most_counted object < 2 ^ 29)) }
@@ -65,11 +65,11 @@ fn words_of_copy(object: Object) -> Result<u32>
     Ok(words as u32)
 }
 
-/// Room for the copy of an object that the pointer at a place will name, as `allocate_near` gives
-/// it. It is refused, and nothing is allocated,
-/// - with `SizeOverflow` exactly where a count or the message's words, a pad counted, would pass
+/// Allocates room for the copy of an object that the pointer at a place will name, like
+/// `allocate_near`. It is refused, and nothing is allocated,
+/// - with `SizeOverflow` exactly if a count or the message's words, including a pad, would exceed
 ///   2^29 - 1;
-/// - else as the allocator refuses, which is asked only where there is no room.
+/// - otherwise with the allocator's error; the allocator is only asked if there is no room.
 pub(crate) fn room_for<A: BuilderArena>(arena: &mut A, slot: Place, object: Object) -> Result<Room>
     requires { is_some (word_at (words_in (A.segments arena.old)) (place_view slot)) ≡ true }
     ensures ok { IfOk result (GivesRoom (A.segments arena.old) (A.segments arena.new) slot object) }
@@ -87,7 +87,7 @@ pub(crate) fn room_for<A: BuilderArena>(arena: &mut A, slot: Place, object: Obje
     allocate_near(arena, slot, words)
 }
 
-/// The word of a pointer to the copy of an object, told with offset 0.
+/// Returns the word of a pointer to the copy of an object, with offset 0.
 pub(crate) fn pointer_word(object: Object) -> u64
     requires { most_counted object < 2 ^ 29 }
     ensures word { result ≡ copied_pointer object }
@@ -119,7 +119,7 @@ pub(crate) fn pointer_word(object: Object) -> u64
     }
 }
 
-/// The copy of an object, where it begins at a place.
+/// Returns the copy of an object that begins at a place.
 pub(crate) fn copy_at(start: Place, object: Object) -> NamedObject
     requires { most_counted object < 2 ^ 29 }
     ensures { named_view result ≡ copied_at (place_view start) object }
@@ -158,7 +158,7 @@ pub(crate) fn copy_at(start: Place, object: Object) -> NamedObject
     }
 }
 
-/// The tag of a list of n structs.
+/// Returns the tag of a list of n structs.
 pub(crate) fn tag_word(count: u32, data_words: u16, pointers: u16) -> u64
     requires { count < 2 ^ 29 }
     ensures { result ≡ struct_pointer count data_words pointers }

@@ -19,20 +19,21 @@ use capnp_wire_objects::arena::ReaderArena;
 use capnp_wire_objects::object::Object;
 use capnp_wire_objects::place::Place;
 
-/// Puts a copy of a struct of a source in place of the value of the pointer at a place, which is
-/// cleared. Copied are its data section's bytes, in as many words as they need, and the values of
-/// its pointers, which stand in a row. n levels may be followed from each pointer.
+/// Replaces the value of the pointer at a place, which is cleared, by a copy of a struct of a
+/// source. The copy has the bytes of its data section, in as many words as they need, and the
+/// values of its pointers, which follow one another. n levels may be followed from each pointer.
 ///
-/// The struct's own words were paid for already, and its pointers are followed, nulls too. It is
+/// The struct's own words were paid for before, and its pointers are followed, nulls too. It is
 /// refused
-/// - as by `copy_from`, of its pointers;
-/// - with `SizeOverflow` exactly where the message's words with it and a pad would pass 2^29 - 1;
-/// - else as the allocator refuses.
+/// - like `copy_from` for its pointers;
+/// - with `SizeOverflow` exactly if the message's words with the struct and a pad would exceed 2^29
+///   - 1;
+/// - otherwise with the allocator's error.
 ///
-/// After a refusal all words stand as they were, and those that were allocated are zero. Refused or
-/// not, it allocates no more words than twice the struct's and those that it grants. Where the
-/// pointer's segment has room for all words of the copy, it takes exactly these, and there is no
-/// want of room.
+/// After a refusal all words are unchanged, and those that were allocated are zero. Refused or not,
+/// it allocates at most twice the sum of the struct's words and the words that it grants. If the
+/// pointer's segment has room for all words of the copy, it takes exactly these, and isn't refused
+/// for lack of room.
 pub fn set_struct<A: BuilderArena, B: ReaderArena>(
     arena: &mut A,
     slot: Place,

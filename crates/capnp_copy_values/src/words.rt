@@ -1,4 +1,4 @@
-//! Words that go from one arena into another.
+//! Copying of words from one arena into another.
 ghost use Rattle.std.specs.Prelude.{◌≡◌, ◌+◌, ◌*◌, true};
 ghost use Rattle.std.specs.Option.{is_some};
 ghost use Rattle.capnp_model.specs.Segments.{words_at};

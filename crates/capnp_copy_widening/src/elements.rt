@@ -17,7 +17,7 @@ use capnp_copy_arenas::init::ListPlace;
 use capnp_units::sizes::{ElementSize, data_bits_per_element};
 use capnp_wire_objects::place::Place;
 
-/// The struct of an element of a list of structs.
+/// Returns the struct of an element of a list of structs.
 fn element_of(list: ListPlace, index: u32) -> StructPlace
     requires { list.start.position + 1 + index * (list.data_words + list.pointers) < 2 ^ 61 }
     ensures start { place_view result.start ≡ struct_begin list index }
@@ -34,7 +34,7 @@ fn element_of(list: ListPlace, index: u32) -> StructPlace
     }
 }
 
-/// Where the pointers of a struct begin, behind its data.
+/// Returns the place of the first pointer of a struct, after its data.
 fn pointers_of(place: StructPlace) -> Place
     requires { place.start.position < 2 ^ 61 }
     ensures { place_view result ≡ after (place_view place.start) place.data_words }
@@ -45,8 +45,8 @@ fn pointers_of(place: StructPlace) -> Place
     }
 }
 
-/// Moves what a struct holds to one of zeros and nulls that is as wide or wider: its data are
-/// copied, its children move.
+/// Moves the content of a struct to a struct of zeros and nulls that is at least as wide: its data
+/// are copied, its children move.
 fn move_element<A: BuilderArena>(
     arena: &mut A,
     from: StructPlace,
@@ -70,7 +70,8 @@ fn move_element<A: BuilderArena>(
     move_pointers(arena, source, target, from.pointers as u32, pads);
 }
 
-/// Moves the elements of a list of structs to those of a new one, each to one as wide or wider.
+/// Moves the elements of a list of structs to those of a new list, each to one that is at least as
+/// wide.
 fn move_elements<A: BuilderArena>(
     arena: &mut A,
     old: ListPlace,
@@ -143,8 +144,8 @@ fn copy_numbers<A: BuilderArena>(arena: &mut A, old: ListPlace, new: ListPlace)
     }
 }
 
-/// Moves what a list holds to a new list of structs of zeros and nulls, each as wide or wider than
-/// an element.
+/// Moves the content of a list to a new list of structs of zeros and nulls, each at least as wide
+/// as an element.
 pub fn fill_elements<A: BuilderArena>(
     arena: &mut A,
     old: ListPlace,

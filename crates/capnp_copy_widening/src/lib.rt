@@ -1,5 +1,5 @@
-//! Structs and lists that are got where they lie, wide enough: a narrower one is widened in its
-//! place.
+//! Reading of structs and lists for writing, with at least a requested width: a narrower one is
+//! widened in place.
 #![tactic(auto)]
 
 mod elements;

@@ -1,4 +1,4 @@
-//! Lists that are got.
+//! Lists that are read for writing.
 ghost use Rattle.std.specs.Prelude.{◌≡◌, ◌⊎◌, ◌+◌, ◌-◌, ◌*◌, ◌<◌, ◌≤◌, ◌^◌, ℕ, true, Some, Ok, IfOk};
 ghost use Rattle.std.specs.Option.{is_some};
 ghost use Rattle.capnp_model.specs.Readings.{is_accepted_as};
@@ -23,17 +23,17 @@ use capnp_wire_objects::named::found_at;
 use capnp_wire_objects::object::{Object, whole};
 use capnp_wire_objects::place::Place;
 
-/// Who takes a list's elements as ones of an expected size.
+/// The side that accepts a list's elements as elements of an expected size.
 #[derive(Clone, Copy)]
 pub enum Taker {
-    /// Bits are taken as bits alone.
+    /// Bits are only accepted as bits.
     Reader,
-    /// Bits are taken as voids too: nothing of them is read.
+    /// Bits are also accepted as voids: none of them is read.
     Builder,
 }
 
-/// Whether elements of a size can be read as ones of an expected size. Structs have n data words
-/// and pointers.
+/// Returns whether elements of a size can be read as elements of an expected size. Structs have n
+/// data words and pointers.
 fn is_accepted(expected: ElementSize, size: ElementSize, data_words: u16, pointers: u16) -> bool
     ensures { result ≡ is_accepted_as (size_number expected) (list_head size data_words pointers) }
 {
@@ -50,8 +50,8 @@ fn is_accepted(expected: ElementSize, size: ElementSize, data_words: u16, pointe
     }
 }
 
-/// Whether a list's elements are taken as ones of an expected size: as they can be read, and by a
-/// builder bits as voids too.
+/// Returns whether a list's elements are accepted as elements of an expected size: if they can be
+/// read as such, and by a builder bits also as voids.
 fn is_taken(taker: Taker, expected: ElementSize, list: ListPlace) -> bool
     ensures { result ≡ is_taken_by taker expected list }
 {
@@ -64,19 +64,19 @@ fn is_taken(taker: Taker, expected: ElementSize, list: ListPlace) -> bool
     }
 }
 
-/// The list that the pointer at a place names, near or far, with elements that are taken as ones of
-/// the expected size:
-/// - bits as bits, and by a builder as voids;
-/// - other plain elements and pointers as elements with as many bits and pointers at most;
-/// - structs as what their first data word or their first pointer can be.
+/// Returns the list that the pointer at a place names, near or far, with elements that are accepted
+/// as elements of the expected size:
+/// - bits as bits, and by a builder also as voids;
+/// - other plain elements and pointers as elements with at most as many bits and pointers;
+/// - structs as elements that their first data word or their first pointer can be.
 ///
 /// A null pointer has the empty list of the expected size, at the pointer itself; every other list
-/// lies whole. Nothing is written.
+/// exists as a whole. Nothing is written.
 ///
 /// It is refused
-/// - as a reader refuses what is there (`object_at`);
-/// - with `WrongPointerKind` where a struct or a capability is there;
-/// - with `WrongElementSize` where the elements aren't taken so.
+/// - like a reader refuses the object there (`object_at`);
+/// - with `WrongPointerKind` if a struct or a capability is there;
+/// - with `WrongElementSize` if the elements aren't accepted.
 #[tactic(auto, unfolding(capnp_wire_objects::specs::Objects::object_at))]
 pub fn get_list<A: ReaderArena>(
     arena: &A,

@@ -13,24 +13,24 @@ use capnp_units::errors::Result;
 use capnp_wire_objects::named::{FoundObject, NamedObject, found_at};
 use capnp_wire_objects::place::{Place, has_words, word_at};
 
-/// Where the upper half of a pointer word begins, 32 bits up.
+/// The beginning of the upper half of a pointer word, 32 bits up.
 const UPPER_HALF: u64 = 0x1_0000_0000;
-/// How many kinds of pointers there are; the lowest two bits of a word tell which it is.
+/// The number of kinds of pointers; the lowest two bits of a word are the kind.
 const KINDS: u64 = 4;
-/// The kind of a far pointer. The kinds below it, of structs and lists, tell an offset.
+/// The kind of a far pointer. The lower kinds, of structs and lists, have an offset.
 const FAR: u64 = 2;
-/// The kind of a far pointer, and that its pad has two words.
+/// The kind of a far pointer, with the mark that its pad has two words.
 const DOUBLE_FAR: u64 = 6;
-/// Where a pad's position stands, three bits up.
+/// The unit of a pad's position, three bits up.
 const POSITION: u64 = 8;
-/// How many offsets thirty bits have.
+/// The number of offsets of thirty bits.
 const OFFSETS: usize = 0x4000_0000;
-/// What an offset counts in: it stands two bits up.
+/// The unit of an offset, two bits up.
 const OFFSET: u64 = 4;
-/// The word of a pointer to an empty struct, which lies at the pointer itself, at offset -1.
+/// The word of a pointer to an empty struct, which is at the pointer itself, at offset -1.
 const EMPTY_STRUCT: u64 = 0xffff_fffc;
 
-/// Writes n words from one place on at another, where no word lies in both.
+/// Writes n words from one place on at another, if the two do not overlap.
 pub fn copy_words<A: BuilderArena>(arena: &mut A, from: Place, to: Place, count: u32)
     requires from { HasWords (A.segments arena.old) from count }
     requires to { HasWords (A.segments arena.old) to count }
@@ -54,8 +54,8 @@ pub fn copy_words<A: BuilderArena>(arena: &mut A, from: Place, to: Place, count:
     }
 }
 
-/// Writes a pointer whose word is told with offset 0: to an object in its segment, or over a pad of
-/// two words.
+/// Writes a pointer whose word the caller gives with offset 0: to an object in its segment, or over
+/// a pad of two words.
 fn point_at<A: BuilderArena>(
     arena: &mut A,
     slot: Place,
@@ -92,7 +92,7 @@ fn point_at<A: BuilderArena>(
     }
 }
 
-/// Where the struct or the list begins that was found.
+/// Returns the place at which the struct or the list begins that was found.
 fn start_of(found: Result<FoundObject>) -> Option<Place>
     ensures { IfOk found (λ f. option_map place_view result ≡ start_of (named_view f.object)) }
 {
@@ -107,9 +107,9 @@ fn start_of(found: Result<FoundObject>) -> Option<Place>
     }
 }
 
-/// Moves the value of the pointer at one place to another, where null is: the first becomes null.
-/// What lies behind the pointer stays where it is, so the new one needs a pad of two words where it
-/// stands in another segment.
+/// Moves the value of the pointer at one place to another, which has null: the first becomes null.
+/// The object of the pointer stays at its place, so the new pointer needs a pad of two words if it
+/// is in another segment.
 pub fn move_pointer<A: BuilderArena>(arena: &mut A, from: Place, to: Place, pad: Option<Place>)
     requires from { HasWords (A.segments arena.old) from 1 }
     requires to { HasWords (A.segments arena.old) to 1 }
@@ -146,7 +146,7 @@ pub fn move_pointer<A: BuilderArena>(arena: &mut A, from: Place, to: Place, pad:
 }
 
 /// Moves the values of n pointers in a row to another row, which begins with as many nulls. Each
-/// takes a pad of two words of its own, unless none is given.
+/// takes a pad of two words of its own, unless no pad is given.
 pub fn move_pointers<A: BuilderArena>(
     arena: &mut A,
     from: Place,
@@ -178,7 +178,7 @@ pub fn move_pointers<A: BuilderArena>(
     }
 }
 
-/// The pad of the pointer at an index, where there are pads.
+/// Returns the pad of the pointer at an index, if there are pads.
 pub fn pad_at(pads: Option<Place>, index: u32) -> Option<Place>
     requires { IsNearPad pads index }
     ensures { result ≡ pad_from pads index }

@@ -16,15 +16,15 @@ use capnp_units::limits::MOST_WORDS;
 use capnp_units::sizes::SegmentId;
 use capnp_wire_objects::place::Place;
 
-/// Allocates words for a wider object that the pointer at a place will name. They lie in the old
-/// object's segment where that has room for them, so that the pointers that move to it reach what
-/// they lead to. A pad of one word stands before them where the pointer is in another segment. Else
-/// they lie behind a pad in any segment, with n words more, for pads of those pointers, whose place
-/// is returned. Nothing is written.
+/// Allocates words for a wider object that the pointer at a place will name. The words are in the
+/// old object's segment if it has room for them, so that the pointers that move to it reach their
+/// objects. If the pointer is in another segment, a pad of one word precedes them. Otherwise they
+/// are after a pad in any segment, with n more words for pads of those pointers, whose place is
+/// returned. Nothing is written.
 ///
-/// It is refused only where there is no room so, and nothing is allocated then:
-/// - with `SizeOverflow` exactly where the message's words would pass 2^29 - 1, all pads counted;
-/// - else as the allocator refuses.
+/// It is only refused if neither has room, and then nothing is allocated:
+/// - with `SizeOverflow` exactly if the message's words, including all pads, would exceed 2^29 - 1;
+/// - otherwise with the allocator's error.
 pub fn allocate_wider<A: BuilderArena>(
     arena: &mut A,
     slot: Place,

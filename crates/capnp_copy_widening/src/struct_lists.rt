@@ -1,4 +1,4 @@
-//! Lists that are got as lists of structs, and widened.
+//! Lists that are read as lists of structs for writing, and widened.
 ghost use Rattle.std.specs.Prelude.{◌≡◌, ◌+◌, ◌*◌, ◌<◌, ◌≤◌, ◌^◌, ◌↔◌, true, Ok, IfOk, IfErr};
 ghost use Rattle.std.specs.Option.{is_some};
 ghost use Rattle.capnp_model.specs.Segments.{words_at};
@@ -26,7 +26,7 @@ use capnp_units::limits::MOST_WORDS;
 use capnp_units::sizes::{ElementSize, StructSize};
 use capnp_wire_objects::place::{Place, word_at};
 
-/// The size of an element as a struct: what a plain one holds is one data word, and a pointer is
+/// Returns the size of an element as a struct: a plain element is one data word, and a pointer is
 /// one pointer.
 fn element_size(list: ListPlace) -> StructSize
     ensures { (result.data_words ≡ least_data_words list) ×
@@ -44,7 +44,7 @@ fn element_size(list: ListPlace) -> StructSize
     }
 }
 
-/// Whether a list is one of structs of at least a size.
+/// Returns whether a list is a list of structs of at least a size.
 fn is_wide(list: ListPlace, size: StructSize) -> bool
     ensures { (result ≡ true) ↔ IsWideList list size.data_words size.pointers }
 {
@@ -53,8 +53,8 @@ fn is_wide(list: ListPlace, size: StructSize) -> bool
         && list.pointers >= size.pointers
 }
 
-/// The words of a new list of structs without its tag, and of two for each pointer of the old list.
-/// It is refused with `SizeOverflow` where the structs' pass 2^29 - 1.
+/// Returns the words of a new list of structs without its tag, and two words for each pointer of
+/// the old list. It is refused with `SizeOverflow` if the structs' words exceed 2^29 - 1.
 fn words_of_wider(old: ListPlace, size: StructSize) -> Result<(u32, u64)>
     requires short { (size.data_words + size.pointers ≡ 0) → (old.count < 2 ^ 29) }
     ensures words { IfOk result (λ r.
@@ -73,14 +73,14 @@ fn words_of_wider(old: ListPlace, size: StructSize) -> Result<(u32, u64)>
     Ok((words as u32, pads))
 }
 
-/// Puts a list of wider structs in place of one that the pointer at a place names. What its
-/// elements hold moves, and its own words and the pads become zero.
+/// Replaces a list that the pointer at a place names by a list of wider structs. The content of its
+/// elements moves, and its own words and the pads become zero.
 ///
-/// It is refused only where there is no room beside the old list. Nor is there any for the new one
-/// elsewhere, with a pad before it and two words for each old pointer. Then all stands as it was.
-/// It is refused
-/// - with `SizeOverflow` exactly where the message's words with all these would pass 2^29 - 1;
-/// - else as the allocator refuses.
+/// It is only refused if there is no room beside the old list, and no room elsewhere for the new
+/// list with a pad before it and two words for each old pointer. Then everything is unchanged. It
+/// is refused
+/// - with `SizeOverflow` exactly if the message's words with all these would exceed 2^29 - 1;
+/// - otherwise with the allocator's error.
 fn widen_list<A: BuilderArena>(
     arena: &mut A,
     slot: Place,
@@ -122,21 +122,22 @@ fn widen_list<A: BuilderArena>(
     Ok(new)
 }
 
-/// The list that the pointer at a place names, near or far, as one of structs with at least these
-/// sections. A list of structs that are wide enough stays where it is. One of narrower structs, of
-/// numbers, of pointers or of voids is widened. Each element becomes a struct with the greater of
-/// both sizes and keeps all that it holds. A number stands in the lowest bits of the first data
-/// word, a pointer as the first pointer. It gets zeros and nulls, and what is left behind becomes
-/// zero. Null stays, and has the empty list, at the pointer itself.
+/// Returns the list that the pointer at a place names, near or far, as a list of structs with at
+/// least these sections. A list of structs that are wide enough stays at its place. A list of
+/// narrower structs, of numbers, of pointers or of voids is widened. Each element becomes a struct
+/// with the greater of both sizes and keeps everything that it holds. A number becomes the lowest
+/// bits of the first data word, a pointer the first pointer. The rest is zeros and nulls, and the
+/// words that the list leaves become zero. Null stays, and has the empty list, at the pointer
+/// itself.
 ///
-/// It is refused, and all stands as it was,
-/// - as a reader refuses what is there (`object_at`);
-/// - with `WrongPointerKind` where a struct or a capability is there;
-/// - with `WrongElementSize` where a list of bits is there;
-/// - with `SizeOverflow`, where a new list has no room beside the old one, exactly where the
-///   message's words would pass 2^29 - 1. Its words and its tag, a pad, and two words for each old
-///   pointer are counted;
-/// - else as the allocator refuses.
+/// It is refused, and everything is unchanged,
+/// - like a reader refuses the object there (`object_at`);
+/// - with `WrongPointerKind` if a struct or a capability is there;
+/// - with `WrongElementSize` if a list of bits is there;
+/// - with `SizeOverflow`, if a new list has no room beside the old one, exactly if the message's
+///   words would exceed 2^29 - 1. These include its words and its tag, a pad, and two words for
+///   each old pointer;
+/// - otherwise with the allocator's error.
 pub fn get_struct_list<A: BuilderArena>(
     arena: &mut A,
     slot: Place,

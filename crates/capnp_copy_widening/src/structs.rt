@@ -1,4 +1,4 @@
-//! Structs that are got, and widened.
+//! Structs that are read for writing, and widened.
 ghost use Rattle.std.specs.Prelude.{◌≡◌, ◌+◌, ◌<◌, ◌≤◌, ◌^◌, true};
 ghost use Rattle.std.specs.Option.{is_some};
 ghost use Rattle.capnp_model.specs.Segments.{after, words_at};
@@ -23,13 +23,13 @@ use capnp_units::sizes::StructSize;
 use capnp_wire_objects::object::{Object, object_at};
 use capnp_wire_objects::place::Place;
 
-/// Puts a wider struct in place of one that the pointer at a place names: its data and children
+/// Replaces a struct that the pointer at a place names by a wider struct: its data and children
 /// move, and its own words and the pads become zero.
 ///
-/// It is refused, and all stands as it was,
-/// - with `SizeOverflow` exactly where the message's words would pass 2^29 - 1, a pad and two words
-///   for each old pointer counted;
-/// - else as the allocator refuses.
+/// It is refused, and everything is unchanged,
+/// - with `SizeOverflow` exactly if the message's words, including a pad and two words for each old
+///   pointer, would exceed 2^29 - 1;
+/// - otherwise with the allocator's error.
 fn widen_struct<A: BuilderArena>(
     arena: &mut A,
     slot: Place,
@@ -64,7 +64,7 @@ fn widen_struct<A: BuilderArena>(
     })
 }
 
-/// Where the pointers of a struct begin, behind its data.
+/// Returns the place of the first pointer of a struct, after its data.
 fn pointers_behind(start: Place, data_words: u16) -> Place
     requires { start.position < 2 ^ 61 }
     ensures { place_view result ≡ after (place_view start) data_words }
@@ -75,17 +75,17 @@ fn pointers_behind(start: Place, data_words: u16) -> Place
     }
 }
 
-/// The struct that the pointer at a place names, near or far, with at least these sections. A null
-/// pointer gets an empty struct of them. A struct with a smaller section is widened: it keeps all
-/// that it holds and gets zeros and nulls, and what it leaves behind becomes zero. A struct that is
-/// wide enough stays where it is.
+/// Returns the struct that the pointer at a place names, near or far, with at least these sections.
+/// A null pointer gets an empty struct of them. A struct with a smaller section is widened: it
+/// keeps everything that it holds and gets zeros and nulls, and the words that it leaves become
+/// zero. A struct that is wide enough stays at its place.
 ///
-/// It is refused, and all stands as it was,
-/// - as a reader refuses what is there (`object_at`);
-/// - with `WrongPointerKind` where a list or a capability is there;
-/// - with `SizeOverflow` exactly where the message's words would pass 2^29 - 1. Those of a new
-///   struct and a pad are counted, and for a wider one also two for each old pointer;
-/// - else as the allocator refuses.
+/// It is refused, and everything is unchanged,
+/// - like a reader refuses the object there (`object_at`);
+/// - with `WrongPointerKind` if a list or a capability is there;
+/// - with `SizeOverflow` exactly if the message's words would exceed 2^29 - 1. These include a new
+///   struct and a pad, and for a wider struct also two words for each old pointer;
+/// - otherwise with the allocator's error.
 pub fn get_struct<A: BuilderArena>(
     arena: &mut A,
     slot: Place,
