@@ -23,12 +23,11 @@ use capnp_wire_objects::arena::NullArena;
 use capnp_wire_objects::object::{Object, object_at};
 use capnp_wire_objects::place::{Place, ROOT};
 
-/// How deep the children of the value of a message may be nested: a level less than the 64 of the
-/// value.
+/// The most levels of the children of the value of a message: one less than the 64 of the value.
 const INNER_LEVELS: u32 = 63;
 
-/// Puts the content of the root that words hold into a struct, as far as it fits; a null root
-/// counts as the empty struct. What is no struct is refused with `TypeMismatch`.
+/// Copies the content of the root of words into a struct, as far as it fits; a null root counts as
+/// the empty struct. A root that is not a struct is refused with `TypeMismatch`.
 pub(crate) fn copy_content<A: BuilderArena>(
     arena: &mut A,
     object: StructPlace,

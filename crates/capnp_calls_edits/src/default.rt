@@ -9,8 +9,8 @@ use capnp_schema_structs::roots::{default_said, default_words};
 use capnp_units::sizes::Word;
 use capnp_values_queries::fields::Field;
 
-/// The words of the default of a field that is a pointer to a struct or a list; `None` where it has
-/// no default.
+/// Returns the words of the default of a field that is a pointer to a struct or a list; `None` if
+/// it has no default.
 pub(crate) fn default_of<'a>(field: Field<'a>) -> Option<&'a [Word]>
     ensures { (i : ℕ) (ty : Ty) (d : Option Tree)
         → option_map (λ e. e.body) (entry_of_field field.entry) ≡ Some (pointer_slot i ty d)

@@ -1,4 +1,4 @@
-//! Calls written at the elements of lists where their paths end.
+//! Calls written at the elements of lists at the ends of their paths.
 ghost use Rattle.std.specs.Prelude.{ℕ, ◌≡◌, ◌<◌, true, [], IfErr, OnOk};
 ghost use Rattle.capnp_model.specs.Accepted.{schema_of};
 ghost use Rattle.capnp_model.specs.Calls.{set_to, message};
@@ -39,8 +39,8 @@ use capnp_values_queries::introspect::{Type, TypeVariant};
 use capnp_values_queries::slots::width_of;
 use capnp_wire_objects::arena::NullArena;
 
-/// Sets an element to a plain value of its type, or a Void one to any. Other elements, and values
-/// out of range, are refused with `TypeMismatch`.
+/// Sets an element to a plain value of its type, or a Void element to any value. Other elements,
+/// and values out of range, are refused with `TypeMismatch`.
 fn set_plain<A: BuilderArena>(
     arena: &mut A,
     list: ListPlace,
@@ -73,8 +73,9 @@ fn set_plain<A: BuilderArena>(
     }
 }
 
-/// Sets an element that is a struct or a list to the value of a message, or a Void one to any. A
-/// struct takes over as much as it has place for. Other elements are refused with `TypeMismatch`.
+/// Sets an element that is a struct or a list to the value of a message, or a Void element to any
+/// value. A struct takes over as much as it has place for. Other elements are refused with
+/// `TypeMismatch`.
 fn set_message<A: BuilderArena>(
     arena: &mut A,
     list: ListPlace,
@@ -148,8 +149,8 @@ fn set_value<A: BuilderArena>(
     }
 }
 
-/// Writes a call at the element where its path ends. A `get`, `init` and `clear` are refused: an
-/// element is none of these's target.
+/// Writes a call at the element at the end of its path. A `get`, `init` and `clear` are refused:
+/// they have no elements as targets.
 pub(crate) fn write_element_end<A: BuilderArena>(
     arena: &mut A,
     list: ListPlace,

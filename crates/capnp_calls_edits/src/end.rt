@@ -1,4 +1,4 @@
-//! Calls written where their paths end.
+//! Calls written at the ends of their paths.
 ghost use Rattle.std.specs.Prelude.{◌≡◌, [], IfErr, OnOk};
 ghost use Rattle.capnp_model.specs.Coverage.{Grows};
 ghost use Rattle.capnp_units.specs.Segments.{words_in};
@@ -19,7 +19,7 @@ use capnp_units::errors::{Error, Result};
 use capnp_units::kinds::ErrorKind;
 use capnp_values_queries::fields::Field;
 
-/// Writes a call at the field where its path ends.
+/// Writes a call at the field at the end of its path.
 pub(crate) fn write_end<A: BuilderArena>(
     arena: &mut A,
     object: StructPlace,

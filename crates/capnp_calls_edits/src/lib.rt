@@ -1,4 +1,4 @@
-//! Calls written along their paths, where a message lies.
+//! Calls written along their paths, into a message in place.
 #![tactic(auto)]
 
 mod contents;

@@ -29,8 +29,8 @@ use capnp_values_queries::introspect::Type;
 use capnp_wire::laws::gets_are_readings;
 use capnp_wire_objects::place::Place;
 
-/// Readies the list of elements of a type behind a pointer. A null pointer gets the default, and
-/// where the elements are structs, the list becomes one of structs of their schema's sizes.
+/// Readies the list of elements of a type that a pointer leads to. A null pointer gets the default,
+/// and if the elements are structs, the list becomes a list of structs of their schema's sizes.
 fn begin_list<A: BuilderArena>(
     arena: &mut A,
     slot: Place,
@@ -64,12 +64,12 @@ fn begin_list<A: BuilderArena>(
     }
 }
 
-/// The list of elements of a type behind a pointer. A null pointer gets the default, where there is
-/// one, else the list is empty, at the pointer itself. Where the elements are structs, the list
-/// becomes one of structs of their schema's sizes.
+/// Returns the list of elements of a type that a pointer leads to. A null pointer gets the default,
+/// if there is one; otherwise the list is empty, at the pointer itself. If the elements are
+/// structs, the list becomes a list of structs of their schema's sizes.
 ///
-/// It is refused as `write_default` is, then as `get_struct_list` and a reader's `get_list` of
-/// `capnp_copy_widening`. So bits aren't taken as voids.
+/// It is refused like `write_default`, then like `get_struct_list` and a reader's `get_list` of
+/// `capnp_copy_widening`. So bits aren't accepted as voids.
 pub(crate) fn list_behind<A: BuilderArena>(
     arena: &mut A,
     slot: Place,

@@ -1,4 +1,4 @@
-//! Values of messages that calls set behind pointers.
+//! Values of messages that calls set in pointer fields.
 ghost use Rattle.std.specs.Prelude.{◌≡◌, ◌<◌, ◌^◌, true, [], IfErr, OnOk};
 ghost use Rattle.capnp_model.specs.Accepted.{areas_of};
 ghost use Rattle.capnp_model.specs.Calls.{set_to, message, message_root};
@@ -40,7 +40,7 @@ use capnp_wire::structs::StructReader;
 use capnp_wire_objects::arena::{NullArena, ReaderArena};
 use capnp_wire_objects::place::{Place, ROOT};
 
-/// Whether a slot of a type can be set to the value of a message.
+/// Returns whether a slot of a type can be set to the value of a message.
 fn takes_message(ty: Type) -> bool
     ensures { result ≡ takes_message (ty_of ty) }
 {
@@ -50,8 +50,8 @@ fn takes_message(ty: Type) -> bool
     }
 }
 
-/// Puts the value of a message in place of the value of the pointer at a place; a null root counts
-/// as the empty struct.
+/// Replaces the value of the pointer at a place by the value of a message; a null root counts as
+/// the empty struct.
 pub(crate) fn put_message<A: BuilderArena>(
     arena: &mut A,
     slot: Place,
@@ -124,8 +124,9 @@ fn set_group<A: BuilderArena>(
     set_fields(arena, object, field, root)
 }
 
-/// Sets a group or a field of a struct's, a list's or no type to the value of a message, or a Void
-/// field to any, and marks its union. Other fields are refused with `TypeMismatch`.
+/// Sets a group or a field whose type is a struct, a list or an untyped pointer to the value of a
+/// message, or a Void field to any value, and marks its union. Other fields are refused with
+/// `TypeMismatch`.
 pub(crate) fn set_message<A: BuilderArena>(
     arena: &mut A,
     object: StructPlace,

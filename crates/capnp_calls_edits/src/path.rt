@@ -48,32 +48,32 @@ use capnp_values_queries::slots::FieldPlace;
 use capnp_values_queries::structs::StructSchema;
 use capnp_wire_objects::place::Place;
 
-/// Writes a call along its path, at a struct that is there and wide enough for its schema. Where
-/// the record machine does the call, whatever struct is owned there becomes what the call's edit
-/// makes of it, and nothing else changes. On the way a null pointer gets its default, else an empty
-/// struct. A narrower struct is widened to its schema's sizes, and a list whose elements' type is a
-/// struct becomes one of structs of its sizes, whatever its elements were.
+/// Writes a call along its path, at a struct that exists and is wide enough for its schema. If the
+/// record machine does the call, any struct that is owned there becomes what the call's edit makes
+/// of it, and nothing else changes. On the way a null pointer gets its default, otherwise an empty
+/// struct. A narrower struct is widened to its schema's sizes. A list whose elements' type is a
+/// struct becomes a list of structs of its sizes, whatever its elements were.
 ///
-/// No name is compared where a field of the call was found under the struct that stands there.
+/// No name is compared if a field of the call was found under the struct that is there.
 ///
-/// Whether the call is done isn't looked at: a caller tests that on a reader first. One that the
-/// record machine does is refused only by a size past a limit of the format, or by a refusal that
-/// the arena gave, with its kind. Others are refused so:
+/// Whether the call is done isn't checked: a caller tests that on a reader first. A call that the
+/// record machine does is only refused by a size past a limit of the format, or by a refusal that
+/// the arena gave, with its kind. Other calls are refused like this:
 ///
-/// - `WrongStep`: the path begins with no name, or goes on by a name or an index where the schema
-///   has none; or the call is a `get`.
+/// - `WrongStep`: the path doesn't begin with a name, or continues by a name or an index that the
+///   schema doesn't have; or the call is a `get`.
 /// - `FieldNotFound`: the struct lacks the name.
 /// - `IndexOutOfRange`: the list has no such index.
 /// - `TypeMismatch`: a field or an element doesn't take the value.
-/// - A struct on the way is refused as by `struct_or_default`, a list as by a reader's `get_list`
-///   and `get_struct_list` of `capnp_copy_widening`. So bits aren't taken as voids.
-/// - The last field is refused as by `clear_field`, `begin_field`, `initn_slot` and `set_flat`. An
-///   element at the path's end is refused as by `set_flat` and `init_element` of
-///   `capnp_schema_lists` and by `copy_content_from`.
+/// - A struct on the way is refused like in `struct_or_default`, a list like in a reader's
+///   `get_list` and `get_struct_list` of `capnp_copy_widening`. So bits aren't accepted as voids.
+/// - The last field is refused like in `clear_field`, `begin_field`, `initn_slot` and `set_flat`.
+///   An element at the path's end is refused like in `set_flat` and `init_element` of
+///   `capnp_schema_lists` and in `copy_content_from`.
 ///
 /// After a refusal structs and lists on the way may be widened or have their defaults. The last
-/// field may be as before, and a group, or an element that is a struct, may have a part of the
-/// value. Each segment of the message is still there, and no shorter.
+/// field may be unchanged, and a group, or an element that is a struct, may have a part of the
+/// value. Each segment of the message still exists, and is not shorter.
 ///
 /// Each step takes stack.
 pub fn write_path<A: BuilderArena>(
@@ -102,8 +102,8 @@ pub fn write_path<A: BuilderArena>(
     )
 }
 
-/// Writes a call along its path at a struct, as `write_path`, where the record machine does it as
-/// it reads the struct's data to some extent.
+/// Writes a call along its path at a struct, like `write_path`, if the record machine does the call
+/// when it reads the struct's data to some extent.
 #[cycle(path)]
 fn write_steps<A: BuilderArena>(
     arena: &mut A,
@@ -136,7 +136,7 @@ fn write_steps<A: BuilderArena>(
     }
 }
 
-/// Writes a call along the rest of its path, which has a step, behind a field.
+/// Writes a call along the rest of its path, which has a step, at the value of a field.
 #[cycle(path)]
 fn write_behind<A: BuilderArena>(
     arena: &mut A,
@@ -174,8 +174,8 @@ fn write_behind<A: BuilderArena>(
     }
 }
 
-/// Writes a call along the rest of its path at the value behind a pointer. A null pointer gets the
-/// default that these words hold, else the empty value.
+/// Writes a call along the rest of its path at the value of a pointer. A null pointer gets the
+/// default that these words hold, otherwise the empty value.
 #[cycle(path)]
 fn write_value<A: BuilderArena>(
     arena: &mut A,
@@ -212,8 +212,8 @@ fn write_value<A: BuilderArena>(
     }
 }
 
-/// Writes a call along the rest of its path at the struct behind a pointer. A null pointer gets the
-/// default that these words hold, else the empty struct.
+/// Writes a call along the rest of its path at the struct of a pointer. A null pointer gets the
+/// default that these words hold, otherwise the empty struct.
 #[cycle(path)]
 fn write_struct<A: BuilderArena>(
     arena: &mut A,
@@ -241,8 +241,8 @@ fn write_struct<A: BuilderArena>(
     write_steps(arena, inner, schema, path, way, action)
 }
 
-/// Writes a call along the rest of its path at the list behind a pointer, whose elements are of a
-/// type. A null pointer gets the default that these words hold.
+/// Writes a call along the rest of its path at the list of a pointer, whose elements are of a type.
+/// A null pointer gets the default that these words hold.
 #[cycle(path)]
 fn write_list<A: BuilderArena>(
     arena: &mut A,
@@ -280,8 +280,7 @@ fn write_list<A: BuilderArena>(
     write_element(arena, inner, index, set, element, rest, way, action)
 }
 
-/// Writes a call along the rest of its path at an element of a list, whose elements are there under
-/// their type.
+/// Writes a call along the rest of its path at an element of a list, whose elements fit their type.
 #[cycle(path)]
 fn write_element<A: BuilderArena>(
     arena: &mut A,

@@ -1,4 +1,4 @@
-//! Values that calls set into the fields where their paths end.
+//! Values that calls set into the fields at the ends of their paths.
 ghost use Rattle.std.specs.Prelude.{◌≡◌, ◌<◌, ◌^◌, [], true, IfSome, IfErr, OnOk};
 ghost use Rattle.capnp_model.specs.Schemas.{width};
 ghost use Rattle.capnp_model.specs.Calls.{set_to, plain_content};

@@ -1,4 +1,4 @@
-//! Calls that set fields, written where a message's canonical words stand.
+//! Calls that set fields, written into a message's canonical words in place.
 #![tactic(auto)]
 
 pub mod sets;

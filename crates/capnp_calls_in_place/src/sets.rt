@@ -20,7 +20,8 @@ use capnp_units::errors::Result;
 use capnp_units::sizes::Word;
 use std::alloc::Global;
 
-/// The number that a splice puts into the root itself; `None` where it puts something else.
+/// Returns the number that a splice writes into the root itself; `None` if it writes something
+/// else.
 fn number_of(splice: &Splice) -> Option<PlainSet>
     ensures { IfSome result (λ set. (splice.now.hops.items ≡ [])
         × (splice.now.put ≡ puts.Number set)) }
@@ -37,8 +38,8 @@ fn number_of(splice: &Splice) -> Option<PlainSet>
     }
 }
 
-/// What a call puts into the data of a root. `None` where it isn't the `set` of a plain field of
-/// the root that is no member of a union, to a value of its type.
+/// Returns the number that a call writes into the data of a root. `None` unless the call is the
+/// `set` of a plain field of the root that is not a member of a union, to a value of its type.
 pub fn plain_set(call: &Resolved<'_>) -> Option<PlainSet>
     ensures { (schema : AnySchema) → KnowsSplice schema call.now
         → IfSome result (IsPlain schema (call_of call.now)) }
@@ -49,8 +50,8 @@ pub fn plain_set(call: &Resolved<'_>) -> Option<PlainSet>
     }
 }
 
-/// What each call puts into the data of a root; `None` where one puts none. `OutOfMemory`: the list
-/// can't grow.
+/// Returns the number that each call writes into the data of a root; `None` if a call writes no
+/// number. `OutOfMemory`: the list can't grow.
 pub fn plain_sets(alloc: Global, calls: &[Resolved<'_>]) -> Result<Option<Vec<PlainSet>>>
     ensures plain { (schema : AnySchema) → KnowSplices schema calls.now
         → IfOk result (λ found. IfSome found
@@ -67,10 +68,10 @@ pub fn plain_sets(alloc: Global, calls: &[Resolved<'_>]) -> Result<Option<Vec<Pl
     Ok(Some(sets))
 }
 
-/// Puts numbers into the data of a root whose message is these canonical words. It returns whether
-/// they are the canonical words of what that makes, trimmed. Where the root is no struct with a
-/// word for each number, or its last data word becomes zero, they aren't, and some of the numbers
-/// may be put. Nothing but the root's data changes.
+/// Writes numbers into the data of a root whose message has these canonical words. It returns
+/// whether the words are the canonical words of the result, trimmed. They aren't if the root is not
+/// a struct with a word for each number, or if its last data word becomes zero; then some of the
+/// numbers may be written. Only the root's data change.
 pub fn write_sets(words: &mut [Word], sets: &[PlainSet]) -> bool
     ensures sets { (schema : AnySchema) (calls : List ModelCall) (t : Tree) → result ≡ true
         → ArePlain schema calls sets.now → Fits t → trim t ≡ t

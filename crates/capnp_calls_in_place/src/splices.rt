@@ -1,4 +1,4 @@
-//! Calls that set fields along paths, written where a message's canonical words stand.
+//! Calls that set fields along paths, written into a message's canonical words in place.
 ghost use Rattle.std.specs.Prelude.{◌≡◌, ◌≤◌, length, option_copied, IfOk, IfErr, IfSome};
 ghost use Rattle.capnp_units.specs.declared.kinds.ErrorKind.{ErrorKind};
 ghost use Rattle.capnp_values_queries.specs.declared.structs.StructSchema.{StructSchema as AnySchema};
@@ -11,10 +11,10 @@ use capnp_calls_splice::splice::{Splice, Spliced};
 use capnp_units::errors::Result;
 use capnp_units::sizes::Word;
 
-/// What a call puts, and where. `None` where
-/// - it isn't the `set` of a plain field, a text or data, of an element of a list of one of these,
-///   or of a member of a union that is plain or void, to a value of its type;
-/// - its path goes elsewhere than by structs, groups and elements of lists of structs;
+/// Returns the write of a call, with its place. `None` if
+/// - the call isn't the `set` of a plain field, a text or data, of an element of a list of one of
+///   these, or of a plain or void member of a union, to a value of its type;
+/// - its path leads through something other than structs, groups and elements of lists of structs;
 /// - a field before the last is a member of a union.
 #[inline]
 pub fn call_splice<'a>(call: &'a Resolved<'_>) -> Option<&'a Splice>
@@ -25,7 +25,7 @@ pub fn call_splice<'a>(call: &'a Resolved<'_>) -> Option<&'a Splice>
     call.splice()
 }
 
-/// Whether `call_splice` finds what each call puts.
+/// Returns whether `call_splice` finds the write of each call.
 pub fn are_spliced(calls: &[Resolved<'_>]) -> bool
     ensures { result ≡ have_splices calls.now }
 {
@@ -37,7 +37,7 @@ pub fn are_spliced(calls: &[Resolved<'_>]) -> bool
     true
 }
 
-/// Puts what a call puts, as `put_splice` does. `Unplaced` where that isn't found.
+/// Does the write of a call, like `put_splice`. `Unplaced` if there is no such write.
 fn write_splice(words: &mut Vec<Word>, count: usize, call: &Resolved<'_>) -> Result<Spliced>
     requires inside { count ≤ length words.old.items }
     ensures told { IfOk result (TellsCall call.now count words.old.items words.new.items) }
@@ -50,16 +50,16 @@ fn write_splice(words: &mut Vec<Word>, count: usize, call: &Resolved<'_>) -> Res
     }
 }
 
-/// Puts what calls put, one after the other, into a message whose `count` canonical words stand at
-/// the front of a buffer. `Done` tells how many words there are then: the canonical words of what
-/// the calls make of the value, trimmed, each struct with as many data words as it needs.
+/// Does the writes of calls, one after the other, in a message whose `count` canonical words are at
+/// the front of a buffer. `Done` has the number of words afterwards: the canonical words of the
+/// calls' result on the value, trimmed, each struct with as many data words as it needs.
 ///
-/// `Unplaced` where there are no calls, or what the first puts isn't found, or has no place: the
-/// words in use are as they were. `Spoiled` where that is so of a later call, or where an element
-/// of a list of structs would need more or fewer data words than the list has for each: some may
-/// be put, and the words are of no use.
+/// `Unplaced` if there are no calls, or the write of the first isn't found, or has no place: the
+/// used words are unchanged. `Spoiled` if this happens at a later call, or if an element of a list
+/// of structs would need more or fewer data words than the list has for each: some writes may be
+/// done, and the words must not be used.
 ///
-/// `OutOfMemory`: the buffer is too short for what is put, and the memory for more words was
+/// `OutOfMemory`: the buffer is too short for the writes, and the memory for more words was
 /// refused.
 pub fn write_splices(words: &mut Vec<Word>, count: usize, calls: &[Resolved<'_>]) -> Result<Spliced>
     requires inside { count ≤ length words.old.items }

@@ -1,4 +1,4 @@
-//! Which union members are active.
+//! The test for active union members.
 ghost use Rattle.std.specs.Prelude.{◌≡◌};
 ghost use Rattle.capnp_values.specs.Sources.{struct_seen};
 ghost use Rattle.capnp_calls_replies.specs.Parts.{OfField, IsLive};
@@ -9,7 +9,7 @@ use capnp_values::laws::discriminants_are_read;
 use capnp_values_queries::fields::Field;
 use capnp_wire_objects::arena::ReaderArena;
 
-/// Whether a field of a struct is no union member, or the active one.
+/// Returns whether a field of a struct is not a union member, or is the active member.
 pub(crate) fn is_active<A: ReaderArena>(
     reader: dynamic_struct::Reader<'_, A>,
     field: Field<'_>,

@@ -1,4 +1,4 @@
-//! Replies where the path of a call ends.
+//! Replies at the end of the path of a call.
 ghost use Rattle.std.specs.Prelude.{◌≡◌, ◌<◌, false, [], IfOk, IfErr};
 ghost use Rattle.capnp_units.specs.Errors.{kind_of};
 ghost use Rattle.capnp_units.specs.declared.kinds.ErrorKind.{ErrorKind};
@@ -28,7 +28,7 @@ use capnp_values_queries::structs::StructSchema;
 use capnp_wire_objects::arena::ReaderArena;
 use std::alloc::Global;
 
-/// The reply to `init` of a slot of the type: only structs and untyped pointers are made.
+/// Returns the reply to `init` of a slot of the type: only structs and untyped pointers are made.
 fn init_reply(ty: Type) -> Reply
     ensures { (s : Schema) → reply_view result ≡ content_reply (init_content s (ty_of ty)) }
 {
@@ -54,8 +54,8 @@ fn init_reply(ty: Type) -> Reply
     }
 }
 
-/// The reply to `initn` where values of the type stand: only texts, data and lists are made, else
-/// it is refused by the kind.
+/// Returns the reply to `initn` at values of the type: only texts, data and lists are made, others
+/// are refused with the kind.
 fn initn_reply(count: u32, ty: Type, otherwise: ErrorKind) -> Reply
     ensures { (s : Schema) → reply_view result
         ≡ content_reply (initn_content s count (ty_of ty) (kind_of otherwise)) }
@@ -79,7 +79,7 @@ fn initn_reply(count: u32, ty: Type, otherwise: ErrorKind) -> Reply
     }
 }
 
-/// The reply to a write of a slot of the type.
+/// Returns the reply to a write of a slot of the type.
 fn slot_reply(action: &Action, ty: Type) -> Reply
     ensures { (s : Schema) → reply_view result
         ≡ content_reply (type_content s (action_view action.now) (ty_of ty)) }
@@ -98,7 +98,7 @@ fn slot_reply(action: &Action, ty: Type) -> Reply
     }
 }
 
-/// The reply to `set` of an element of the type.
+/// Returns the reply to `set` of an element of the type.
 fn set_element(value: &SlotValue, ty: Type) -> Reply
     ensures { (s : Schema) → reply_view result
         ≡ content_reply (element_content s (set_to (slot_value_view value.now)) (ty_of ty)) }
@@ -124,7 +124,7 @@ fn set_element(value: &SlotValue, ty: Type) -> Reply
     }
 }
 
-/// The reply to `initn` of an element of the type.
+/// Returns the reply to `initn` of an element of the type.
 fn initn_element(count: u32, ty: Type) -> Reply
     ensures { (s : Schema) → reply_view result
         ≡ content_reply (element_content s (initn count) (ty_of ty)) }
@@ -148,7 +148,7 @@ fn initn_element(count: u32, ty: Type) -> Reply
     }
 }
 
-/// The reply to a write of an element of the type.
+/// Returns the reply to a write of an element of the type.
 fn element_reply(action: &Action, ty: Type) -> Reply
     ensures { (s : Schema) → reply_view result
         ≡ content_reply (element_content s (action_view action.now) (ty_of ty)) }
@@ -161,14 +161,14 @@ fn element_reply(action: &Action, ty: Type) -> Reply
     }
 }
 
-/// Whether an action reads.
+/// Returns whether an action reads.
 fn is_get(action: &Action) -> bool
     ensures { result ≡ is_get (action_view action.now) }
 {
     matches!(action, Action::Get)
 }
 
-/// The group that a field is, if it is one.
+/// Returns the group of a field, if the field is a group.
 pub(crate) fn group_of<'a>(field: Field<'a>) -> Option<StructSchema<'a>>
     ensures { IsGroupOf field.entry result }
 {
@@ -178,7 +178,7 @@ pub(crate) fn group_of<'a>(field: Field<'a>) -> Option<StructSchema<'a>>
     }
 }
 
-/// The reply to a write of a field.
+/// Returns the reply to a write of a field.
 fn field_write(field: Field<'_>, action: &Action) -> Reply
     requires write { is_get (action_view action.now) ≡ false }
     ensures { OfBody field.entry
@@ -190,7 +190,7 @@ fn field_write(field: Field<'_>, action: &Action) -> Reply
     }
 }
 
-/// What is replied where the path ends at a field.
+/// Returns the reply at a path that ends at a field.
 // Inlined, what it takes of the stack would be taken by each step of the path.
 #[inline(never)]
 pub(crate) fn field_end<A: ReaderArena>(
@@ -211,7 +211,7 @@ pub(crate) fn field_end<A: ReaderArena>(
     Ok(field_write(field, action))
 }
 
-/// What is replied where the path ends at an element of a list.
+/// Returns the reply at a path that ends at an element of a list.
 // Inlined, what it takes of the stack would be taken by each step of the path.
 #[inline(never)]
 pub(crate) fn element_end<A: ReaderArena>(

@@ -1,4 +1,4 @@
-//! What groups are refused by that are set to structs.
+//! Faults of setting groups to structs.
 ghost use Rattle.std.specs.Prelude.{◌≡◌, true, Some, option_map};
 ghost use Rattle.std.specs.Option.{is_some};
 ghost use Rattle.capnp_units.specs.Errors.{kind_of};
@@ -25,15 +25,16 @@ use capnp_values_queries::structs::StructSchema;
 use capnp_wire::structs::StructReader;
 use capnp_wire_objects::arena::ReaderArena;
 
-/// The kind, if it is refused.
+/// Returns the kind, if the write is refused.
 fn refused_if(refused: bool, kind: ErrorKind) -> Option<ErrorKind>
     ensures { option_map kind_of result ≡ refused_if refused (kind_of kind) }
 {
     if refused { Some(kind) } else { None }
 }
 
-/// What a slot of a type is refused by. Those of no type and capabilities can't be set, which
-/// members always are, and others where their pointer is there. What is there has to be read.
+/// Returns the kind with which a slot of a type is refused. Untyped pointers and capabilities can't
+/// be set: as members they are always refused, otherwise only if their pointer isn't null. A value
+/// there has to be readable.
 fn refusal(ty: Type, members: bool, is_there: bool, is_bad: bool) -> Option<ErrorKind>
     ensures { option_map kind_of result ≡ refusal_of (ty_of ty) members is_there is_bad }
 {
@@ -62,7 +63,7 @@ fn refusal(ty: Type, members: bool, is_there: bool, is_bad: bool) -> Option<Erro
     }
 }
 
-/// The fault of a field that is no group.
+/// Returns the fault of a field that is not a group.
 fn slot_fault<A: ReaderArena>(
     reader: dynamic_struct::Reader<'_, A>,
     field: Field<'_>,
@@ -79,15 +80,15 @@ fn slot_fault<A: ReaderArena>(
     refusal(field.get_type(), members, is_there, got.is_err())
 }
 
-/// Whether a field is a union member.
+/// Returns whether a field is a union member.
 fn is_member(field: Field<'_>) -> bool
     ensures { (e : Entry) → entry_of_field field.entry ≡ Some e → result ≡ is_some e.member }
 {
     field.get_proto().discriminant_value != NO_DISCRIMINANT
 }
 
-/// The fault of a field, where it is the turn of the members that are active, or of the fields that
-/// are none.
+/// Returns the fault of a field, if it is the turn of the active members, or of the fields that are
+/// not members.
 #[cycle(groups)]
 fn entry_fault<A: ReaderArena>(
     source: StructReader<'_, A>,
@@ -110,7 +111,7 @@ fn entry_fault<A: ReaderArena>(
     }
 }
 
-/// The first fault among the members, or among the others, by index.
+/// Returns the first fault among the members, or among the others, by index.
 #[cycle(groups)]
 fn fields_fault<A: ReaderArena>(
     source: StructReader<'_, A>,
@@ -130,8 +131,8 @@ fn fields_fault<A: ReaderArena>(
     None
 }
 
-/// The first fault of setting a group to a struct, which is read under the group's schema: that of
-/// its active members, then that of its other fields.
+/// Returns the first fault of setting a group to a struct, which is read under the group's schema:
+/// first that of its active members, then that of its other fields.
 #[cycle(groups)]
 pub(crate) fn group_fault<A: ReaderArena>(
     source: StructReader<'_, A>,

@@ -20,8 +20,8 @@ use capnp_calls::{Action, SlotValue};
 use capnp_units::kinds::ErrorKind;
 use capnp_values_queries::structs::StructSchema;
 
-/// The reply to `set` of a group to the value of a message: its first fault as a struct under the
-/// group's schema, null the empty one.
+/// Returns the reply to `set` of a group to the value of a message: its first fault as a struct
+/// under the group's schema; null is the empty struct.
 fn message_reply(schema: StructSchema<'_>, value: &MessageValue) -> Reply
     ensures { let s = schema_around schema.entry in
         reply_view result
@@ -38,7 +38,7 @@ fn message_reply(schema: StructSchema<'_>, value: &MessageValue) -> Reply
     }
 }
 
-/// The reply to `set` of a group: groups are set from structs.
+/// Returns the reply to `set` of a group: groups are set to structs.
 fn set_reply(schema: StructSchema<'_>, value: &SlotValue) -> Reply
     ensures { let s = schema_around schema.entry in
         reply_view result
@@ -55,7 +55,7 @@ fn set_reply(schema: StructSchema<'_>, value: &SlotValue) -> Reply
     }
 }
 
-/// The reply to a write of a group.
+/// Returns the reply to a write of a group.
 pub(crate) fn group_reply(schema: StructSchema<'_>, action: &Action) -> Reply
     requires { is_get (action_view action.now) ≡ false }
     ensures { let s = schema_around schema.entry in (r : Reading)

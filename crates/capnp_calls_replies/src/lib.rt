@@ -1,4 +1,4 @@
-//! What calls reply at structs that are read.
+//! Replies of calls at structs that are read.
 #![tactic(auto)]
 
 mod active;

@@ -1,4 +1,4 @@
-//! What the values of messages are read as.
+//! Reading of the values of messages.
 ghost use Rattle.std.specs.Prelude.{◌≡◌, pos, option_map};
 ghost use Rattle.capnp_model.specs.Trees.{Tree};
 ghost use Rattle.capnp_model.specs.Schemas.{struct, list};
@@ -21,14 +21,14 @@ use capnp_wire::structs::StructReader;
 use capnp_wire_objects::arena::{NullArena, ReaderArena};
 use capnp_wire_objects::place::ROOT;
 
-/// The words of a message's value, to be read where they lie.
+/// Returns the words of a message's value, to be read in place.
 pub(crate) fn kept<'a>(value: &'a MessageValue) -> Backing<'a, NullArena>
     ensures { RootLeadsTo (kept_bytes result) (pos 2147483647) (tree_of_message value.now) }
 {
     Backing::Default(value.segment())
 }
 
-/// The struct that the value at the root is, null the empty one; `None` where it is a list.
+/// Returns the struct at the root, the empty struct for null; `None` if the root is a list.
 pub(crate) fn struct_in<'a, A: ReaderArena>(arena: &'a A) -> Option<StructReader<'a, A>>
     ensures { (t : Tree) → RootLeadsTo (A.segments arena.now) (A.nesting arena.now) t
         → IsMessageStruct t (option_map (seen_struct A.segments) result) }
@@ -41,7 +41,8 @@ pub(crate) fn struct_in<'a, A: ReaderArena>(arena: &'a A) -> Option<StructReader
     }
 }
 
-/// Whether the value at the root is a list whose elements can be read as the type; null is none.
+/// Returns whether the value at the root is a list whose elements can be read as the type; null is
+/// not a list.
 fn has_list<A: ReaderArena>(arena: &A, element: Type) -> bool
     ensures { (t : Tree) → RootLeadsTo (A.segments arena.now) (A.nesting arena.now) t
         → result ≡ is_list_of t (ty_of element) }
@@ -59,7 +60,7 @@ fn has_list<A: ReaderArena>(arena: &A, element: Type) -> bool
     }
 }
 
-/// Whether the value of a message is a struct; null counts as the empty one.
+/// Returns whether the value of a message is a struct; null counts as the empty struct.
 pub(crate) fn is_struct(value: &MessageValue, id: u64) -> bool
     ensures { reply_by_type result
         ≡ content_reply (value_content (message (tree_of_message value.now)) (struct id)) }
@@ -67,7 +68,8 @@ pub(crate) fn is_struct(value: &MessageValue, id: u64) -> bool
     struct_in(&kept(value)).is_some()
 }
 
-/// Whether the value of a message is a list whose elements can be read as the type; null is none.
+/// Returns whether the value of a message is a list whose elements can be read as the type; null is
+/// not a list.
 pub(crate) fn is_list(value: &MessageValue, element: Type) -> bool
     ensures { reply_by_type result ≡ content_reply
         (value_content (message (tree_of_message value.now)) (list (ty_of element))) }

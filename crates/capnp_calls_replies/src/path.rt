@@ -26,7 +26,7 @@ use capnp_values_queries::fields::Field;
 use capnp_wire_objects::arena::ReaderArena;
 use std::alloc::Global;
 
-/// What is replied along a path at a struct or a group.
+/// Returns the reply along a path at a struct or a group.
 #[cycle(path)]
 pub(crate) fn at_struct<A: ReaderArena>(
     alloc: Global,
@@ -52,7 +52,7 @@ pub(crate) fn at_struct<A: ReaderArena>(
     }
 }
 
-/// What is replied along the rest of a path at a field of a struct or a group.
+/// Returns the reply along the rest of a path at a field of a struct or a group.
 #[cycle(path)]
 fn at_field<A: ReaderArena>(
     alloc: Global,
@@ -82,7 +82,7 @@ fn at_field<A: ReaderArena>(
     }
 }
 
-/// What is replied along the rest of a path, which has a step, at a value.
+/// Returns the reply along the rest of a path, which has a step, at a value.
 #[cycle(path)]
 fn behind<A: ReaderArena>(
     alloc: Global,
@@ -118,7 +118,7 @@ fn behind<A: ReaderArena>(
     }
 }
 
-/// What is replied along the rest of a path, which has a step, at a list.
+/// Returns the reply along the rest of a path, which has a step, at a list.
 #[cycle(path)]
 fn at_list<A: ReaderArena>(
     alloc: Global,
@@ -145,7 +145,7 @@ fn at_list<A: ReaderArena>(
     }
 }
 
-/// What is replied along the rest of a path at an element of a list.
+/// Returns the reply along the rest of a path at an element of a list.
 #[cycle(path)]
 fn at_element<A: ReaderArena>(
     alloc: Global,

@@ -1,4 +1,4 @@
-//! What a call replies at a struct that is read.
+//! Replies of calls at a struct that is read.
 ghost use Rattle.std.specs.Prelude.{◌≡◌, IfOk, IfErr};
 ghost use Rattle.capnp_units.specs.declared.kinds.ErrorKind.{ErrorKind};
 ghost use Rattle.capnp_calls.specs.Replies.{reply_view};
@@ -13,14 +13,14 @@ use capnp_values::dynamic_struct;
 use capnp_wire_objects::arena::ReaderArena;
 use std::alloc::Global;
 
-/// What a call replies at a struct: the text of a `get`, a refusal, or `Done` where it is to be
-/// written. Nothing is written, and the struct may have other sizes than its schema says. No name
-/// is compared where a field of the call was found under the struct that stands there.
+/// Returns the reply of a call at a struct: the text of a `get`, a refusal, or `Done` if the call
+/// is to be written. Nothing is written, and the struct's sizes may differ from its schema's. No
+/// name is compared if a field of the call was found under the struct that is there.
 ///
-/// It takes memory for the text of a `get` alone. It takes stack for each step of the path, and for
-/// each group within a group that is set. A text takes it for at most 1,024 structs, groups and
-/// lists in one another. The error is `OutOfMemory`: a growth was refused, or a text would have
-/// more of these in one another.
+/// It only takes memory for the text of a `get`. It takes stack for each step of the path, and for
+/// each group within a group that is set. A text takes stack for at most 1,024 nested structs,
+/// groups and lists. The error is `OutOfMemory`: an allocation was refused, or a text would have
+/// more nested structs, groups and lists.
 pub fn reply_to<A: ReaderArena>(
     alloc: Global,
     root: dynamic_struct::Reader<'_, A>,

@@ -27,8 +27,8 @@ use capnp_values_queries::fields::Field;
 use capnp_wire_objects::arena::ReaderArena;
 use std::alloc::Global;
 
-/// The text of a value on one line as a reply, or `UnreadablePointer` where a fault is met in it.
-/// The error is want of memory.
+/// Returns the text of a value on one line as a reply, or `UnreadablePointer` if the value has a
+/// fault. The error is lack of memory.
 fn text_reply<A: ReaderArena>(alloc: Global, value: dynamic_value::Reader<'_, A>) -> Result<Reply>
     ensures text { IfOk result (λ reply. IsTextReply (shown A.segments value.entry) reply) }
     ensures memory { IfErr result (λ e. e.kind ≡ ErrorKind.OutOfMemory) }
@@ -41,7 +41,7 @@ fn text_reply<A: ReaderArena>(alloc: Global, value: dynamic_value::Reader<'_, A>
     }
 }
 
-/// The reply to `get` of an element of a list.
+/// Returns the reply to `get` of an element of a list.
 pub(crate) fn shown_element<A: ReaderArena>(
     alloc: Global,
     list: dynamic_list::Reader<'_, A>,
@@ -62,8 +62,8 @@ pub(crate) fn shown_element<A: ReaderArena>(
     }
 }
 
-/// The text of a field of a struct on one line as a reply, or `UnreadablePointer` where a fault is
-/// met in it. The error is want of memory.
+/// Returns the text of a field of a struct on one line as a reply, or `UnreadablePointer` if the
+/// field has a fault. The error is lack of memory.
 fn field_reply<A: ReaderArena>(
     alloc: Global,
     reader: dynamic_struct::Reader<'_, A>,
@@ -83,8 +83,8 @@ fn field_reply<A: ReaderArena>(
     }
 }
 
-/// The reply to `get` of a field of a struct: a null pointer is told as its default, else as the
-/// empty value.
+/// Returns the reply to `get` of a field of a struct: a null pointer is shown as its default,
+/// otherwise as the empty value.
 pub(crate) fn shown_field<A: ReaderArena>(
     alloc: Global,
     reader: dynamic_struct::Reader<'_, A>,

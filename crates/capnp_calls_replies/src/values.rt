@@ -1,4 +1,4 @@
-//! What values are refused by in slots and elements.
+//! Tests of values against the types of slots and elements.
 ghost use Rattle.std.specs.Prelude.{◌≡◌, ◌≤◌, ◌<◌};
 ghost use Rattle.capnp_model.specs.Schemas.{bool, int, uint, «enum», text, blob, untyped, struct, list};
 ghost use Rattle.capnp_model.specs.Calls.{plain_content, value_content};
@@ -14,7 +14,7 @@ use capnp_calls::reply::Reply;
 use capnp_units::kinds::ErrorKind;
 use capnp_values_queries::introspect::{Type, TypeVariant};
 
-/// Done where a value is of the type, else `TypeMismatch`.
+/// Returns `Done` if a value is of the type, otherwise `TypeMismatch`.
 fn matching(fits: bool) -> Reply
     ensures { reply_view result ≡ reply_by_type fits }
 {
@@ -25,7 +25,7 @@ fn matching(fits: bool) -> Reply
     }
 }
 
-/// Whether a value is a number without a sign of n bits.
+/// Returns whether a value is an unsigned number of n bits.
 fn fits_unsigned(value: &SlotValue, width: u32) -> bool
     requires { width ≤ 64 }
     ensures { reply_by_type result
@@ -41,7 +41,7 @@ fn fits_unsigned(value: &SlotValue, width: u32) -> bool
     }
 }
 
-/// Whether a value is a number with a sign of n bits.
+/// Returns whether a value is a signed number of n bits.
 fn fits_signed(value: &SlotValue, width: u32) -> bool
     requires some { 0 < width }
     requires most { width ≤ 64 }
@@ -58,7 +58,7 @@ fn fits_signed(value: &SlotValue, width: u32) -> bool
     }
 }
 
-/// Whether a value is a truth value.
+/// Returns whether a value is a truth value.
 fn is_bool(value: &SlotValue) -> bool
     ensures { reply_by_type result
         ≡ content_reply (plain_content bool (slot_value_view value.now)) }
@@ -66,7 +66,7 @@ fn is_bool(value: &SlotValue) -> bool
     matches!(value, SlotValue::Bool(_))
 }
 
-/// Whether a value is an enum's.
+/// Returns whether a value is an enum's.
 fn is_enum(value: &SlotValue, id: u64) -> bool
     ensures { reply_by_type result
         ≡ content_reply (plain_content («enum» id) (slot_value_view value.now)) }
@@ -74,7 +74,7 @@ fn is_enum(value: &SlotValue, id: u64) -> bool
     matches!(value, SlotValue::Enum(_))
 }
 
-/// Whether a value is a text.
+/// Returns whether a value is a text.
 fn is_text(value: &SlotValue) -> bool
     ensures { reply_by_type result
         ≡ content_reply (value_content (slot_value_view value.now) text) }
@@ -82,7 +82,7 @@ fn is_text(value: &SlotValue) -> bool
     matches!(value, SlotValue::Text(_))
 }
 
-/// Whether a value is data.
+/// Returns whether a value is data.
 fn is_data(value: &SlotValue) -> bool
     ensures { reply_by_type result
         ≡ content_reply (value_content (slot_value_view value.now) blob) }
@@ -90,7 +90,7 @@ fn is_data(value: &SlotValue) -> bool
     matches!(value, SlotValue::Data(_))
 }
 
-/// Whether a value is a message that is a struct, null the empty one.
+/// Returns whether a value is a message that is a struct; null is the empty struct.
 fn fits_struct(value: &SlotValue, id: u64) -> bool
     ensures { reply_by_type result
         ≡ content_reply (value_content (slot_value_view value.now) (struct id)) }
@@ -105,7 +105,7 @@ fn fits_struct(value: &SlotValue, id: u64) -> bool
     }
 }
 
-/// Whether a value is a message that is a list of such elements.
+/// Returns whether a value is a message that is a list of such elements.
 fn fits_list(value: &SlotValue, element: Type) -> bool
     ensures { reply_by_type result
         ≡ content_reply (value_content (slot_value_view value.now) (list (ty_of element))) }
@@ -120,7 +120,7 @@ fn fits_list(value: &SlotValue, element: Type) -> bool
     }
 }
 
-/// The reply to a write of an untyped pointer, which takes texts, data and messages.
+/// Returns the reply to a write of an untyped pointer, which takes texts, data and messages.
 fn untyped_reply(value: &SlotValue) -> Reply
     ensures { reply_view result
         ≡ content_reply (value_content (slot_value_view value.now) untyped) }
@@ -133,8 +133,8 @@ fn untyped_reply(value: &SlotValue) -> Reply
     }
 }
 
-/// The reply to a write of a value where values of the type stand: Void takes any value, a number
-/// only those in its range.
+/// Returns the reply to a write at values of the type: Void takes any value, a number only those in
+/// its range.
 pub(crate) fn value_reply(value: &SlotValue, ty: Type) -> Reply
     ensures { reply_view result
         ≡ content_reply (value_content (slot_value_view value.now) (ty_of ty)) }

@@ -1,4 +1,4 @@
-//! Calls in turn at the struct of a builder.
+//! Sequences of calls at the struct of a builder.
 ghost use Rattle.std.specs.Prelude.{◌≡◌, map, Err, IfOk, IfErr};
 ghost use Rattle.capnp_copy_arenas.specs.Deep.{IsDeep};
 ghost use Rattle.capnp_copy_arenas.specs.Refusals.{IsSizeOrRefusal};
@@ -18,9 +18,9 @@ use capnp_copy_arenas::arena::BuilderArena;
 use capnp_schema_structs::dynamic_struct;
 use std::alloc::Global;
 
-/// Answers calls in turn at the struct of a builder, as `run_at` does, whose refusals it has. The
-/// calls are resolved first, and memory for that which is refused is `Refused` too. The handle
-/// stays where it was.
+/// Answers calls in order at the struct of a builder, like `run_at`, and with its refusals. The
+/// calls are resolved first, and a refusal of memory for that is `Refused` too. The handle stays at
+/// its place.
 pub fn run<A: BuilderArena>(
     alloc: Global,
     root: &mut dynamic_struct::Builder<'_, A>,

@@ -1,4 +1,4 @@
-//! Why calls in turn end early.
+//! Reasons for which sequences of calls end early.
 ghost use Rattle.std.specs.Prelude.{◌≡◌};
 ghost use Rattle.capnp_units.specs.declared.kinds.ErrorKind.{ErrorKind};
 ghost use Rattle.capnp_calls_run.specs.declared.fault.RunFault.{RunFault};
@@ -6,13 +6,13 @@ ghost use Rattle.capnp_calls_run.specs.declared.fault.RunFault.{RunFault};
 use capnp_units::errors::Error;
 use std::alloc::AllocFailed;
 
-/// Why calls in turn ended early.
+/// The reason for which a sequence of calls ended early.
 #[derive(Clone, Copy, Debug, PartialEq, Eq)]
 pub enum RunFault {
-    /// A call puts a text or data of 2^29 bytes or more with its last zero, or a list of structs of
-    /// 2^29 words or more.
+    /// A call makes a text or data of 2^29 bytes or more including the last zero, or a list of
+    /// structs of 2^29 words or more.
     Size,
-    /// Memory was wanted, or the arena refused, or the struct isn't there.
+    /// Memory was lacking, or the arena refused, or the struct doesn't exist.
     Refused(Error),
 }
 

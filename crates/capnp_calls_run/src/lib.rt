@@ -1,5 +1,5 @@
-//! Calls in turn at a struct of a message, where it lies: each is tested where the struct is read,
-//! and then written.
+//! Sequences of calls at a struct of a message, in place: each call is tested on a reader of the
+//! struct, and then written.
 #![tactic(auto)]
 
 pub mod builder;

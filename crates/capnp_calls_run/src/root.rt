@@ -1,4 +1,4 @@
-//! Calls in turn at the root of a message.
+//! Sequences of calls at the root of a message.
 ghost use Rattle.std.specs.Prelude.{◌≡◌, map, true, Err, IfOk, IfErr};
 ghost use Rattle.std.specs.Option.{is_some};
 ghost use Rattle.capnp_model.specs.Segments.{root, words_at};
@@ -24,11 +24,11 @@ use capnp_values_queries::structs::StructSchema;
 use capnp_wire_objects::place::ROOT;
 use std::alloc::Global;
 
-/// Answers calls in turn at the root of a message, as `run_at` does. The root is got as a struct of
-/// at least its schema's two sizes, a null one as the empty struct.
+/// Answers calls in order at the root of a message, like `run_at`. The root is read as a struct of
+/// at least its schema's two sizes, a null root as the empty struct.
 ///
-/// `Refused`: as that struct is, with `WrongPointerKind` where the root is a list or a capability,
-/// and then as `run_at`. `Size`: as `run_at`.
+/// `Refused`: like that struct, with `WrongPointerKind` if the root is a list or a capability, and
+/// then like `run_at`. `Size`: like `run_at`.
 pub fn run_root<A: BuilderArena>(
     alloc: Global,
     arena: &mut A,

@@ -1,4 +1,4 @@
-//! Calls in turn, each tested where the struct is read, and then written.
+//! Sequences of calls, each tested on a reader of the struct, and then written.
 ghost use Rattle.std.specs.Prelude.{◌≡◌, ◌+◌, ◌^◌, ◌<◌, ◌≤◌, map, Err, IfOk, IfErr};
 ghost use Rattle.capnp_model.specs.Answers.{reply_of};
 ghost use Rattle.capnp_model.specs.Trees.{Trees, structure};
@@ -43,7 +43,7 @@ use capnp_wire_objects::arena::ReaderArena;
 use capnp_wire_objects::place::has_words;
 use std::alloc::Global;
 
-/// The struct, to read.
+/// Returns the struct, to read.
 fn struct_of<'a, A: ReaderArena>(
     arena: &'a A,
     object: StructPlace,
@@ -58,7 +58,7 @@ fn struct_of<'a, A: ReaderArena>(
     dynamic_struct::Reader::new(reader, schema)
 }
 
-/// What a call replies at the struct, or that it is to be written.
+/// Returns the reply of a call at the struct, or that the call is to be written.
 fn test<A: ReaderArena>(
     alloc: Global,
     arena: &A,
@@ -79,7 +79,7 @@ fn test<A: ReaderArena>(
     reply_to(alloc, struct_of(arena, object, schema), call)
 }
 
-/// Why a call that is done at the struct wasn't written there.
+/// Returns the reason for which a call that is done at the struct wasn't written there.
 fn fault_of(call: &Resolved<'_>, error: Error) -> RunFault
     ensures { (schema : AnySchema) → IsResolved schema call.now
         → TellsWhy schema (call_of call.now) error result }
@@ -90,8 +90,8 @@ fn fault_of(call: &Resolved<'_>, error: Error) -> RunFault
     }
 }
 
-/// Returns a call at the struct, which is there, else it is refused with `OutOfBounds`. After an
-/// error nothing is promised of the struct's value.
+/// Answers a call at the struct, if the struct exists; otherwise it is refused with `OutOfBounds`.
+/// After an error nothing is promised of the struct's value.
 fn answer<A: BuilderArena>(
     alloc: Global,
     arena: &mut A,
@@ -129,19 +129,18 @@ fn answer<A: BuilderArena>(
     }
 }
 
-/// Answers calls in turn at a struct of a message, each at what the calls before it left. Its reply
-/// is that of the record machine, and the struct becomes what the edits make of it. A refused call
-/// and a `get` change nothing, and don't stop the next.
+/// Answers calls in order at a struct of a message, each on the result of the earlier calls. Its
+/// reply is that of the record machine, and the struct becomes what the edits make of it. A refused
+/// call and a `get` change nothing, and don't stop the next call.
 ///
-/// The struct has at least its schema's two sizes. The calls are resolved under the schema, so that
-/// no name is looked for here. `Size`: a call that is done puts a text or data of 2^29 bytes or
-/// more with its last zero, or a list of structs of 2^29 words or more.
-/// `Refused` is
-/// - `OutOfBounds`: the struct isn't there;
-/// - `SizeOverflow`, of the arena: the words of the message would pass 2^29 - 1;
-/// - else want of memory, or what the arena refuses.
+/// The struct has at least its schema's two sizes. The calls are resolved under the schema, so no
+/// name is looked up here. `Size`: a call that is done makes a text or data of 2^29 bytes or more
+/// including the last zero, or a list of structs of 2^29 words or more. `Refused` is
+/// - `OutOfBounds`: the struct doesn't exist;
+/// - `SizeOverflow`, of the arena: the words of the message would exceed 2^29 - 1;
+/// - otherwise lack of memory, or the error of the arena.
 ///
-/// After both the calls before have their effect, and the next perhaps a part of it.
+/// After both the earlier calls have their effect, and the next call perhaps a part of it.
 pub fn run_at<A: BuilderArena>(
     alloc: Global,
     arena: &mut A,

@@ -10,7 +10,7 @@ use capnp_stream_io::adapters::{Sink, Source};
 use std::process::ExitCode;
 use std::{env, fs, io};
 
-/// Says why the program didn't begin: a word that is no text, or else want of memory.
+/// Reports why the program didn't begin: an argument is not UTF-8, or otherwise lack of memory.
 fn tell(rt: &impl Eprint, e: &io::Error) -> io::Result<()> {
     match e.kind() {
         io::ErrorKind::InvalidData => eprintln!(rt; "fault: arguments"),
@@ -18,14 +18,15 @@ fn tell(rt: &impl Eprint, e: &io::Error) -> io::Result<()> {
     }
 }
 
-/// The words behind the program's name. `InvalidData`: one is no text, or the name is none.
+/// Returns the arguments after the program's name. `InvalidData`: an argument is not UTF-8, or the
+/// name is not.
 fn words(rt: &HostRuntime) -> io::Result<Vec<String>> {
     let mut words = env::args(rt)?;
     let _name = words.next();
     Ok(words.collect(rt.alloc())?)
 }
 
-/// The file that a word names; `None` where no word does, or where it can't be read.
+/// Reads the file that an argument names; `None` if no argument names one, or if it can't be read.
 fn file(rt: &HostRuntime, words: &[String], place: usize) -> io::Result<Option<Vec<u8>>> {
     let Some(name) = words.get(place) else {
         return Ok(None);
@@ -37,8 +38,8 @@ fn file(rt: &HostRuntime, words: &[String], place: usize) -> io::Result<Option<V
     }
 }
 
-/// The status of the program over the files that the words name; an error where a word is no text
-/// or memory is wanting.
+/// Returns the status of the program over the files that the arguments name; an error if an
+/// argument is not UTF-8 or memory is lacking.
 fn run(rt: &HostRuntime) -> io::Result<u8> {
     let alloc = rt.alloc();
     let words = words(rt)?;
