@@ -3,7 +3,7 @@
 /// The data and the pointers of a struct, or of an element of a list of structs.
 #[derive(Clone, Copy)]
 pub(crate) struct Area {
-    /// The word where the data begin.
+    /// The word at which the data begin.
     pub(crate) at: usize,
     pub(crate) data_words: usize,
     pub(crate) pointers: usize,
@@ -19,29 +19,29 @@ pub(crate) struct Run {
 /// The elements of a list of structs.
 #[derive(Clone, Copy)]
 pub(crate) struct Structs {
-    /// The word where the first begins.
+    /// The word at which the first element begins.
     pub(crate) first: usize,
     pub(crate) count: usize,
     pub(crate) data_words: usize,
     pub(crate) pointers: usize,
 }
 
-/// What stands after a put.
+/// The state after a write.
 #[derive(Clone, Copy)]
 pub(crate) struct Placed {
-    /// How many words are used.
+    /// The number of used words.
     pub(crate) count: usize,
-    /// The data words of the struct, or of the element, into which it was put.
+    /// The data words of the struct or element that was written.
     pub(crate) data_words: usize,
 }
 
-/// Why nothing was put.
+/// The reason for which nothing was written.
 #[derive(Clone, Copy)]
 pub(crate) enum Unput {
-    /// There is no room for more words in the slice. They are as they were.
+    /// There is no room for more words in the slice. The words are unchanged.
     Room,
-    /// There is no place for it. The words are as they were.
+    /// There is no place for the write. The words are unchanged.
     Place,
-    /// Some of it may be put, and the words are of no use.
+    /// Some of the write may be done, and the words must not be used.
     Spoiled,
 }

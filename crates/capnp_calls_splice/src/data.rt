@@ -1,4 +1,4 @@
-//! Numbers put into the data of structs, which get as many words as they need.
+//! Writes of numbers into the data of structs, which get as many words as they need.
 ghost use Rattle.std.specs.Prelude.{◌≡◌, ℕ, ◌+◌, ◌*◌, ◌^◌, ◌<◌, ◌≤◌, length, map, IfOk, IfErr};
 ghost use Rattle.capnp_model.specs.Sections.{needed_words};
 ghost use Rattle.capnp_model.specs.Edits.{Cell};
@@ -14,10 +14,10 @@ use crate::words::put;
 use capnp_units::limits::MOST_WORDS;
 use capnp_units::sizes::Word;
 
-/// A struct has fewer words of data than this.
+/// The bound of a struct's data words: a struct has fewer.
 const STRUCT_WORDS: usize = 0x1_0000;
 
-/// An area with so many words of data.
+/// Returns an area with n words of data.
 #[inline(always)]
 fn with_data_words(area: Area, data_words: usize) -> Area
     ensures { result ≡ with_data_words area data_words }
@@ -29,7 +29,7 @@ fn with_data_words(area: Area, data_words: usize) -> Area
     }
 }
 
-/// Puts zeros over words.
+/// Writes zeros over words.
 fn zero_words(slice: &mut [Word])
     ensures zeros { words_view slice.new ≡ map (λ _. 0) (words_view slice.old) }
     ensures len { length slice.new ≡ length slice.old }
@@ -39,7 +39,7 @@ fn zero_words(slice: &mut [Word])
     }
 }
 
-/// Makes the data of a struct so many words, as `resize_data` does, where they aren't so many.
+/// Gives the data of a struct n words, like `resize_data`, if their number differs.
 #[inline]
 fn fit_data(words: &mut [Word], count: usize, area: Area, wide: usize) -> Result<usize, Unput>
     requires inside { IsAreaInside area count words.old }
@@ -57,9 +57,9 @@ fn fit_data(words: &mut [Word], count: usize, area: Area, wide: usize) -> Result
     resize_data(words, count, area, wide)
 }
 
-/// Makes the data of a struct so many words, and returns how many words are used then: zeros are
-/// added behind the data, or dropped there. `Room` where they don't fit the slice, `Place` where
-/// they are 2^29 or more.
+/// Gives the data of a struct n words, and returns the number of used words then: zeros are added
+/// after the data, or dropped there. `Room` if they don't fit the slice, `Place` if they are 2^29
+/// or more.
 fn resize_data(words: &mut [Word], count: usize, area: Area, wide: usize) -> Result<usize, Unput>
     requires inside { IsAreaInside area count words.old }
     requires wide { wide < 2 ^ 16 }
@@ -86,7 +86,7 @@ fn resize_data(words: &mut [Word], count: usize, area: Area, wide: usize) -> Res
     Ok(now)
 }
 
-/// How many of the words of a section are needed: those up to the last that isn't zero.
+/// Returns the number of words of a section that are needed: those up to the last that isn't zero.
 fn count_needed(slice: &[Word]) -> usize
     ensures needed { (section : ℕ) → AreData slice.now section
         → result ≡ needed_words (length slice.now) section }
@@ -99,8 +99,8 @@ fn count_needed(slice: &[Word]) -> usize
     count
 }
 
-/// Puts a number into the data of a struct. Where its word is the last of them, or behind it, they
-/// are as many then as are needed.
+/// Writes a number into the data of a struct. If its word is the last of them, or after the last,
+/// the data then have as many words as they need.
 pub(crate) fn put_number(
     words: &mut [Word],
     count: usize,
@@ -139,8 +139,8 @@ pub(crate) fn put_number(
     }
 }
 
-/// Puts a discriminant into the data of a struct, and then the number of its member, if it has one,
-/// each as `put_number` does.
+/// Writes a discriminant into the data of a struct, and then the number of its member, if it has
+/// one, each like `put_number`.
 pub(crate) fn put_member(
     words: &mut [Word],
     count: usize,

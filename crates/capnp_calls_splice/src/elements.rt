@@ -11,8 +11,8 @@ use crate::area::{Area, Structs, Unput};
 use crate::pointers::{first_target, gap_of, shift_all};
 use capnp_units::sizes::Word;
 
-/// The elements of the list of structs that a pointer leads to, whose words end there; `Place`
-/// where it leads to none, or past n words.
+/// Returns the elements of the list of structs that a pointer leads to; the pointer's word ends at
+/// `end`. `Place` if it doesn't lead to such a list, or leads past n words.
 pub(crate) fn structs_behind(
     words: &[Word],
     count: usize,
@@ -45,7 +45,7 @@ pub(crate) fn structs_behind(
     Ok(list)
 }
 
-/// An element of a list of structs; `Place` where the list has no such index.
+/// Returns an element of a list of structs; `Place` if the list has no such index.
 #[inline]
 pub(crate) fn element_at(list: Structs, index: u32) -> Result<Area, Unput>
     requires { list.first + list.count * (list.data_words + list.pointers) < 2 ^ 29 }
@@ -66,8 +66,9 @@ pub(crate) fn element_at(list: Structs, index: u32) -> Result<Area, Unput>
     })
 }
 
-/// Where what the pointers of n elements in a row lead to begins, which begin at a word, or ends if
-/// that is nowhere. `None` where the end isn't told, or the elements have no pointers.
+/// Returns the beginning of the objects of the pointers of n elements in a row, which begin at a
+/// word, or the end if there is no such object. `None` if the end isn't given, or the elements have
+/// no pointers.
 fn end_before_cells(
     slice: &[Word],
     list: Structs,
@@ -98,8 +99,8 @@ fn end_before_cells(
     Some(e)
 }
 
-/// Where what an element of a list leads to ends: where what the pointers of the elements behind it
-/// lead to begins, or else where all that the list leads to ends. `None` where that isn't told.
+/// Returns the end of the objects of an element of a list: the beginning of the objects of the
+/// later elements, or otherwise the end of all objects of the list. `None` if that isn't given.
 pub(crate) fn end_of_element(
     words: &[Word],
     list: Structs,
@@ -120,7 +121,7 @@ pub(crate) fn end_of_element(
     end_before_cells(later, list, list.count - behind, first, end)
 }
 
-/// Moves what the pointers of n elements in a row lead to, as `move_pointers` does.
+/// Moves the objects of the pointers of n elements in a row, like `move_pointers`.
 fn move_cells(slice: &mut [Word], list: Structs, count: usize, old: usize, new: usize)
     requires len { length slice.old ≡ count * (list.data_words + list.pointers) }
     requires width { list.data_words + list.pointers < 2 ^ 17 }
@@ -144,8 +145,7 @@ fn move_cells(slice: &mut [Word], list: Structs, count: usize, old: usize, new: 
     }
 }
 
-/// Moves what the pointers of the elements behind one of a list lead to, where they stand among
-/// words.
+/// Moves the objects of the pointers of the elements after one of a list, in place among words.
 pub(crate) fn move_elements(words: &mut [Word], list: Structs, index: u32, old: usize, new: usize)
     requires index { index < list.count }
     requires inside { list.first + list.count * (list.data_words + list.pointers)

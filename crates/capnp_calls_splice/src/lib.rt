@@ -1,4 +1,4 @@
-//! Numbers, texts and data put into the canonical words of a message, where they stand.
+//! Writes of numbers, texts and data into the canonical words of a message, in place.
 #![tactic(auto)]
 
 mod area;

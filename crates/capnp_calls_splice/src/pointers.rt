@@ -12,10 +12,10 @@ use crate::area::{Area, Run, Unput};
 use crate::plain::PlainSet;
 use capnp_units::sizes::Word;
 
-/// The pointer to an empty struct, which lies at the pointer itself.
+/// The pointer to an empty struct, which is at the pointer itself.
 const EMPTY: u64 = 0xffff_fffc;
 
-/// How many words a pointer tells between it and what it leads to.
+/// Returns the number of words between a pointer and its object.
 #[inline(always)]
 pub(crate) fn gap_of(word: u64) -> usize
     ensures { result ≡ word / 4 % 2 ^ 30 }
@@ -23,8 +23,8 @@ pub(crate) fn gap_of(word: u64) -> usize
     ((word >> 2) % 0x4000_0000) as usize
 }
 
-/// The struct that a pointer leads to, whose words end there; `Place` where it leads to none, to
-/// an empty one, or past n words.
+/// Returns the struct that a pointer leads to; the pointer's word ends at `end`. `Place` if the
+/// pointer doesn't lead to a struct, leads to an empty one, or leads past n words.
 #[inline]
 pub(crate) fn struct_behind(word: u64, end: usize, count: usize) -> Result<Area, Unput>
     requires { (end ≤ count) × (count < 2 ^ 29) }
@@ -48,8 +48,8 @@ pub(crate) fn struct_behind(word: u64, end: usize, count: usize) -> Result<Area,
     })
 }
 
-/// The bits of an element of the plain list that a pointer leads to; `Place` where its elements are
-/// pointers or structs.
+/// Returns the number of bits of an element of the plain list that a pointer leads to; `Place` if
+/// its elements are pointers or structs.
 #[inline(always)]
 fn element_bits(word: u64) -> Result<u64, Unput>
     ensures bits { IfOk result (λ bits. (word / 2 ^ 32 % 8 < 6)
@@ -67,8 +67,8 @@ fn element_bits(word: u64) -> Result<u64, Unput>
     }
 }
 
-/// The words of the list of plain elements that a pointer leads to; `Place` where it leads to none,
-/// or past n words.
+/// Returns the words of the list of plain elements that a pointer leads to; `Place` if it doesn't
+/// lead to such a list, or leads past n words.
 #[inline]
 pub(crate) fn plain_list_behind(word: u64, end: usize, count: usize) -> Result<Run, Unput>
     requires { (end ≤ count) × (count < 2 ^ 29) }
@@ -86,7 +86,8 @@ pub(crate) fn plain_list_behind(word: u64, end: usize, count: usize) -> Result<R
     Ok(Run { start, len })
 }
 
-/// Whether a pointer tells no distance: null, a capability, or the pointer to an empty struct.
+/// Returns whether a pointer has no distance: null, a capability, or the pointer to an empty
+/// struct.
 #[inline(always)]
 fn is_fixed(word: u64) -> bool
     ensures { result ≡ is_fixed word }
@@ -94,8 +95,8 @@ fn is_fixed(word: u64) -> bool
     word == 0 || (word % 4 == 3 || word == EMPTY)
 }
 
-/// Where what the first of pointers in a row leads to begins that tells a distance; the row begins
-/// at a word. `None` where none does.
+/// Returns the beginning of the object of the first pointer in a row that has a distance; the row
+/// begins at a word. `None` if no pointer has a distance.
 #[inline]
 pub(crate) fn first_target(slice: &[Word], at: usize) -> Option<usize>
     requires { at + length slice.now < 2 ^ 60 }
@@ -112,8 +113,8 @@ pub(crate) fn first_target(slice: &[Word], at: usize) -> Option<usize>
     None
 }
 
-/// Where what the pointers behind one lead to begins, or ends if that is nowhere; they begin at a
-/// word. `None` where the end isn't told.
+/// Returns the beginning of the objects of the pointers after one, which begin at a word, or the
+/// end if there is no such object. `None` if the end isn't given.
 #[inline]
 pub(crate) fn end_before(others: &[Word], at: usize, end: Option<usize>) -> Option<usize>
     requires { at + length others.now < 2 ^ 60 }
@@ -128,8 +129,8 @@ pub(crate) fn end_before(others: &[Word], at: usize, end: Option<usize>) -> Opti
     }
 }
 
-/// Where a value in place of null begins, as `end_before` says. `None` where no other pointer of
-/// its row tells a distance: neither of those in front of it nor of those behind it.
+/// Returns the beginning of a value that replaces null, like `end_before`. `None` if no other
+/// pointer of its row has a distance, neither before it nor after it.
 #[inline]
 fn start_between(front: &[Word], others: &[Word], at: usize, end: Option<usize>) -> Option<usize>
     requires { at + length others.now + length front.now < 2 ^ 60 }
@@ -149,12 +150,12 @@ fn start_between(front: &[Word], others: &[Word], at: usize, end: Option<usize>)
     }
 }
 
-/// The words in whose place those of a text or data come, behind a pointer. They are those of the
-/// plain list that it leads to. Where it is null there are none, where they would begin. `Place`
-/// where
-/// - it leads to something else, or past n words;
-/// - it is null, and no other pointer of its row tells a distance, or what those behind it lead to
-///   begins nowhere and isn't told to end.
+/// Returns the words that those of a text or data replace, for a pointer. They are those of the
+/// plain list that the pointer leads to. For null there are no words, at the place at which they
+/// would begin. `Place` if
+/// - the pointer leads to something else, or past n words;
+/// - it is null, and no other pointer of its row has a distance, or the later pointers have no
+///   objects and their end isn't given.
 #[inline]
 pub(crate) fn blob_run(
     word: u64,
@@ -183,8 +184,8 @@ pub(crate) fn blob_run(
     }
 }
 
-/// Whether a number takes the place of the element at an index of the plain list that a pointer
-/// leads to: the elements are of its width, and its place is that of the element.
+/// Returns whether a number replaces the element at an index of the plain list that a pointer leads
+/// to: the elements have its width, and its place is that of the element.
 #[inline]
 pub(crate) fn is_element(word: u64, index: u32, set: PlainSet) -> bool
     ensures { (gap : ℕ) (t : Tree) → Fits t → gap < 2 ^ 30 → word ≡ pointer gap t → IsPlainList t
@@ -200,8 +201,8 @@ pub(crate) fn is_element(word: u64, index: u32, set: PlainSet) -> bool
     }
 }
 
-/// The list of pointers that a pointer leads to, as the pointers of a struct without data; `Place`
-/// where it leads to none, or past n words.
+/// Returns the list of pointers that a pointer leads to, as the pointers of a struct without data;
+/// `Place` if it doesn't lead to such a list, or leads past n words.
 #[inline]
 pub(crate) fn pointers_behind(word: u64, end: usize, count: usize) -> Result<Area, Unput>
     requires { (end ≤ count) × (count < 2 ^ 29) }
@@ -223,7 +224,7 @@ pub(crate) fn pointers_behind(word: u64, end: usize, count: usize) -> Result<Are
     })
 }
 
-/// The pointer to a struct of these sizes that begins where that of another pointer does.
+/// Returns the pointer to a struct of these sizes with the distance of another pointer.
 #[inline]
 pub(crate) fn sized_pointer(word: u64, data_words: usize, pointers: usize) -> u64
     requires { (data_words < 2 ^ 16) × (pointers < 2 ^ 16) }
@@ -237,7 +238,7 @@ pub(crate) fn sized_pointer(word: u64, data_words: usize, pointers: usize) -> u6
     word % 0x1_0000_0000 + ((data_words as u64) << 32) + ((pointers as u64) << 48)
 }
 
-/// The pointer to a list of n bytes that begins so many words behind it.
+/// Returns the pointer to a list of n bytes that begins `gap` words after it.
 #[inline]
 pub(crate) fn bytes_pointer(gap: usize, len: u32) -> u64
     requires { (gap < 2 ^ 30) × (len < 2 ^ 29) }
@@ -246,7 +247,7 @@ pub(crate) fn bytes_pointer(gap: usize, len: u32) -> u64
     0x2_0000_0001 + 4 * gap as u64 + 0x8_0000_0000 * len as u64
 }
 
-/// A pointer with so much more, but for one that tells no distance.
+/// Returns a pointer with `by` added, or the pointer itself if it has no distance.
 #[inline(always)]
 fn with_shift(word: u64, by: u64) -> u64
     ensures { result ≡ shifted by word }
@@ -257,7 +258,7 @@ fn with_shift(word: u64, by: u64) -> u64
     word.wrapping_add(by)
 }
 
-/// Each pointer with so much more, but for those that tell no distance.
+/// Adds `by` to each pointer, except to those without a distance.
 pub(crate) fn shift_all(slice: &mut [Word], by: u64)
     ensures words { words_view slice.new ≡ map (shifted by) (words_view slice.old) }
     ensures len { length slice.new ≡ length slice.old }
@@ -267,7 +268,7 @@ pub(crate) fn shift_all(slice: &mut [Word], by: u64)
     }
 }
 
-/// Moves what pointers in a row lead to, as a message of n words gets m: by the difference.
+/// Moves the objects of pointers in a row, when a message of n words gets m: by the difference.
 #[inline]
 pub(crate) fn move_pointers(slice: &mut [Word], old: usize, new: usize)
     requires { (old < 2 ^ 29) × (new < 2 ^ 29) }

@@ -1,4 +1,4 @@
-//! Splices written where a message's canonical words stand.
+//! Splices written into a message's canonical words in place.
 ghost use Rattle.std.specs.Prelude.{◌≡◌, ℕ, suc, ◌+◌, ◌^◌, ◌<◌, ◌≤◌, List, [], ◌∷◌, length, get_or, IfOk, IfErr, IfSome, MatchOption};
 ghost use Rattle.capnp_units.specs.declared.kinds.ErrorKind.{ErrorKind};
 ghost use Rattle.capnp_model.specs.Trees.{Tree};
@@ -27,7 +27,7 @@ use capnp_units::errors::Error;
 use capnp_units::limits::MOST_WORDS;
 use capnp_units::sizes::Word;
 
-/// The pointer of a struct, and where those behind it end.
+/// The pointer of a struct, and the end of the objects of the later pointers.
 #[derive(Clone, Copy)]
 struct Slot {
     at: usize,
@@ -35,7 +35,7 @@ struct Slot {
     word: u64,
 }
 
-/// A pointer of a struct; `Place` where it hasn't so many.
+/// Returns a pointer of a struct; `Place` if the struct has no such pointer.
 #[inline]
 fn slot_of(words: &[Word], area: Area, pointer: u32) -> Result<Slot, Unput>
     requires own { area.at + area.data_words + area.pointers ≤ length words.now }
@@ -54,7 +54,7 @@ fn slot_of(words: &[Word], area: Area, pointer: u32) -> Result<Slot, Unput>
     Ok(Slot { at, end, word })
 }
 
-/// What stands after a put behind a pointer of a struct, which has the words that it had.
+/// Returns the state after a write at a pointer of a struct, which keeps its words.
 #[inline(always)]
 fn stays(area: Area, count: usize) -> Placed
     ensures { result ≡ stays area count }
@@ -65,7 +65,7 @@ fn stays(area: Area, count: usize) -> Placed
     }
 }
 
-/// Puts a text or data behind a pointer of a struct, in place of the plain list there or of null.
+/// Writes a text or data at a pointer of a struct, in place of the plain list there or of null.
 fn put_blob(
     words: &mut [Word],
     count: usize,
@@ -98,8 +98,8 @@ fn put_blob(
     Ok(stays(area, now))
 }
 
-/// Puts a text or data at an index of the list of pointers behind a pointer of a struct, in place
-/// of a plain list or of null.
+/// Writes a text or data at an index of the list of pointers of a pointer of a struct, in place of
+/// a plain list or of null.
 fn put_blob_at(
     words: &mut [Word],
     count: usize,
@@ -124,8 +124,8 @@ fn put_blob_at(
     Ok(stays(area, placed.count))
 }
 
-/// Puts a number in place of the element at an index of the list of elements of its width behind a
-/// pointer of a struct.
+/// Writes a number in place of the element at an index of the list of elements of its width, which
+/// a pointer of a struct leads to.
 fn put_number_at(
     words: &mut [Word],
     count: usize,
@@ -150,7 +150,8 @@ fn put_number_at(
     Ok(stays(area, count))
 }
 
-/// Puts a number, a member, a text or data into a struct, or into a list behind a pointer of it.
+/// Writes a number, a member, a text or data into a struct, or into a list that a pointer of the
+/// struct leads to.
 fn put_here(
     words: &mut [Word],
     count: usize,
@@ -182,7 +183,7 @@ fn put_here(
     }
 }
 
-/// The first of hops, and those behind it.
+/// Returns the first of hops, and the later ones.
 #[inline]
 fn first_hop(hops: &[Hop]) -> Option<(Hop, &[Hop])>
     ensures { MatchOption result (hops.now ≡ []) (λ p. hops.now ≡ p.0 ∷ p.1.now) }
@@ -193,8 +194,8 @@ fn first_hop(hops: &[Hop]) -> Option<(Hop, &[Hop])>
     }
 }
 
-/// Puts a number, a member, a text or data into the struct that hops lead to from this one. What
-/// this one leads to ends at a word, if that is told.
+/// Writes a number, a member, a text or data into the struct that hops lead to from this one. The
+/// objects of this struct end at a word, if that is given.
 fn put_in_cell(
     words: &mut [Word],
     count: usize,
@@ -242,7 +243,7 @@ fn put_in_cell(
     }
 }
 
-/// Where the words of a message end, for a put that may take the place of null; `None` for others.
+/// Returns the end of the words of a message, for a write that may replace null; `None` for others.
 #[inline]
 fn end_for(put: &Put, count: usize) -> Option<usize>
     ensures { IfSome result (λ e. e ≡ count) }
@@ -253,7 +254,7 @@ fn end_for(put: &Put, count: usize) -> Option<usize>
     }
 }
 
-/// Puts what a splice puts into a message, as `put_splice` does, where there is room for it.
+/// Does the write of a splice in a message, like `put_splice`, if there is room for it.
 fn put_at_root(words: &mut [Word], count: usize, splice: &Splice) -> Result<usize, Unput>
     requires inside { count ≤ length words.old }
     requires few { count < 2 ^ 29 }
@@ -274,7 +275,7 @@ fn put_at_root(words: &mut [Word], count: usize, splice: &Splice) -> Result<usiz
     Ok(placed.count)
 }
 
-/// The most words that a number adds to a message, if there is one.
+/// Returns the most words that a number adds to a message, if there is a number.
 #[inline]
 fn room_for_number(number: Option<PlainSet>) -> usize
     ensures room { result ≡ number_room number }
@@ -286,7 +287,7 @@ fn room_for_number(number: Option<PlainSet>) -> usize
     }
 }
 
-/// The most words that a put adds to a message.
+/// Returns the most words that a write adds to a message.
 fn room_for(put: &Put) -> usize
     ensures few { result ≤ 2 ^ 32 }
     ensures room { result ≡ put_room put.now }
@@ -299,7 +300,7 @@ fn room_for(put: &Put) -> usize
     }
 }
 
-/// Makes a buffer of at least n words; those in it stay. `OutOfMemory`: the memory was refused.
+/// Makes a buffer of at least n words, and keeps its words. `OutOfMemory`: the memory was refused.
 fn make_room(words: &mut Vec<Word>, count: usize) -> Result<(), Error>
     ensures kept { (n : ℕ) → n ≤ length words.old.items
         → filled n words.new.items ≡ filled n words.old.items }
@@ -313,23 +314,23 @@ fn make_room(words: &mut Vec<Word>, count: usize) -> Result<(), Error>
     Ok(())
 }
 
-/// Puts a number, a member of a union, a text or data into a message whose `count` canonical words
-/// stand at the front of a buffer. Where it is put they are the canonical words of the value with
-/// it: a struct, the root among them, has as many data words then as it needs. It has no place
-/// where
-/// - the hops lead elsewhere than to a struct that has a word or a pointer;
-/// - the struct lacks the pointer of a text or data, or that leads elsewhere than to a list of
-///   bytes, bits or numbers, and isn't null;
-/// - it is null, and no other pointer of the struct or list leads to a list or to a struct with
-///   words;
+/// Writes a number, a member of a union, a text or data into a message whose `count` canonical
+/// words are at the front of a buffer. If the write is done, they are the canonical words of the
+/// value after the write. Each struct, including the root, then has as many data words as it needs.
+/// The write has no place if
+/// - the hops don't lead to a struct that has a word or a pointer;
+/// - the struct lacks the pointer of a text or data, or the pointer isn't null and leads to
+///   something other than a list of bytes, bits or numbers;
+/// - the pointer is null, and no other pointer of the struct or list leads to a list or to a struct
+///   with words;
 /// - a list has no element at the index, or its elements are neither pointers, for a text or data,
 ///   nor of the number's width;
 /// - the struct would have 2^16 data words or more, or the message 2^29 words or more.
 ///
-/// Where an element of a list would need more or fewer data words than the list has for each, the
+/// If an element of a list would need more or fewer data words than the list has for each, the
 /// words are spoiled.
 ///
-/// The buffer grows where it is too short. `OutOfMemory`: that was refused.
+/// The buffer grows if it is too short. `OutOfMemory`: that was refused.
 pub fn put_splice(words: &mut Vec<Word>, count: usize, splice: &Splice) -> Result<Spliced, Error>
     requires inside { count ≤ length words.old.items }
     ensures told { IfOk result

@@ -1,4 +1,4 @@
-//! Words in place of others, and those behind them moved.
+//! Replacing of words, and moving of the later words.
 ghost use Rattle.std.specs.Prelude.{◌≡◌, ℕ, ◌+◌, ◌-◌, ◌^◌, ◌<◌, ◌≤◌, List, ◌++◌, length, take, drop, IfOk, IfErr};
 ghost use Rattle.capnp_wire_canonical.specs.Writes.{words_view, filled};
 ghost use Rattle.capnp_calls_splice.specs.Cells.{LeavesWords};
@@ -22,8 +22,8 @@ pub(crate) fn move_tail(words: &mut [Word], from: usize, end: usize, to: usize)
     words.copy_within(from..end, to);
 }
 
-/// Puts other words in place of a run of those that are used, and returns how many are used then.
-/// `Room` where they don't fit the slice, `Place` where they are 2^29 or more.
+/// Replaces a run of the used words by other words, and returns the number of used words then.
+/// `Room` if they don't fit the slice, `Place` if they are 2^29 or more.
 pub(crate) fn replace(
     words: &mut [Word],
     count: usize,

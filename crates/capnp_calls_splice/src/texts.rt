@@ -16,7 +16,7 @@ use capnp_units::sizes::Word;
 use std::alloc::Global;
 
 impl Blob {
-    /// A text of these bytes, with a zero byte behind them; `None` where that is 2^29 bytes or
+    /// Makes a text of these bytes, followed by a zero byte; `None` if these are 2^29 bytes or
     /// more. `OutOfMemory`: the memory for its words was refused.
     pub fn text(alloc: Global, bytes: &[u8]) -> Result<Option<Blob>>
         ensures tree { IfOk result (λ found. IfSome found (λ b.
@@ -31,8 +31,8 @@ impl Blob {
         Ok(Some(blob))
     }
 
-    /// Data of these bytes; `None` where they are 2^29 or more. `OutOfMemory`: the memory for its
-    /// words was refused.
+    /// Makes data of these bytes; `None` if they are 2^29 or more. `OutOfMemory`: the memory for
+    /// its words was refused.
     pub fn data(alloc: Global, bytes: &[u8]) -> Result<Option<Blob>>
         ensures tree { IfOk result (λ found. IfSome found (λ b.
             tree_of_blob b ≡ blob_tree bytes.now)) }
@@ -47,7 +47,7 @@ impl Blob {
     }
 }
 
-/// The word of eight bytes, counted in words from the first byte on; bytes that there aren't are
+/// Returns the word of eight bytes, counted in words from the first byte on; missing bytes are
 /// zeros.
 fn word_in(bytes: &[u8], i: usize) -> Word
     requires { 8 * i ≤ length bytes.now }
@@ -60,7 +60,7 @@ fn word_in(bytes: &[u8], i: usize) -> Word
     u64::get(&word).to_le_bytes()
 }
 
-/// A list of n bytes: these, and at most one zero byte behind them.
+/// Makes a list of n bytes: these, followed by at most one zero byte.
 fn blob_of(alloc: Global, bytes: &[u8], len: u32) -> Result<Blob>
     requires few { len < 2 ^ 29 }
     requires all { (length bytes.now ≤ len) × (len ≤ length bytes.now + 1) }

@@ -11,8 +11,8 @@ use crate::plain::PlainSet;
 use capnp_copy_arenas::bits::word_with;
 use capnp_units::sizes::Word;
 
-/// How many words of data the root of these words has; `None` where it is null or no struct, or its
-/// data aren't among the words.
+/// Returns the number of data words of the root of these words; `None` if the root is null or not a
+/// struct, or its data aren't among the words.
 pub(crate) fn root_data_words(words: &[Word]) -> Option<usize>
     ensures count { (t : Tree) → Fits t → words_view words.now ≡ canonical_words t
         → IfSome result (λ n. HasData n t) }
@@ -26,7 +26,7 @@ pub(crate) fn root_data_words(words: &[Word]) -> Option<usize>
     Some(count)
 }
 
-/// Puts a number into the words of a section, of which one is the number's.
+/// Writes a number into the words of a section; one of them is the number's.
 pub(crate) fn put(slice: &mut [Word], set: PlainSet)
     requires { set.word < length slice.old }
     ensures words { (section : ℕ) → AreData slice.old section
@@ -43,8 +43,8 @@ pub(crate) fn put(slice: &mut [Word], set: PlainSet)
     slice[at] = word.to_le_bytes();
 }
 
-/// Puts numbers into the words of a section, one after the other, and says whether each has a word
-/// there; where one has none, those before it are put.
+/// Writes numbers into the words of a section, one after the other, and returns whether each has a
+/// word there. If a number has no word, the earlier numbers are written.
 pub(crate) fn put_all(slice: &mut [Word], sets: &[PlainSet]) -> bool
     ensures words { (section : ℕ) → AreData slice.old section → result ≡ true
         → AreData slice.new (put_sets sets.now section) }
@@ -59,7 +59,7 @@ pub(crate) fn put_all(slice: &mut [Word], sets: &[PlainSet]) -> bool
     true
 }
 
-/// Whether the last of a section's words isn't zero, if there is one.
+/// Returns whether the last of a section's words isn't zero, if there is one.
 pub(crate) fn ends_in_some(slice: &[Word]) -> bool
     ensures { (section : ℕ) → AreData slice.now section → result ≡ true
         → needed_words (length slice.now) section ≡ length slice.now }

@@ -49,8 +49,8 @@ pub fn sections_are_words()
     ensures { (n section : ℕ) → section < 2 ^ (64 * n) → section_of (words_of n section) ≡ section }
 {}
 
-/// Bits that lie in one word of a section are those of the word, in reading and in writing; behind
-/// the words there are zeros.
+/// Bits in one word of a section are those of the word, in reading and in writing; after the words
+/// there are zeros.
 pub fn bits_in_words()
     ensures read { (words : List ℕ) (i j width : ℕ) → i < length words → j + width ≤ 64
         → bits_at (64 * i + j) width (section_of words) ≡ bits_at j width (slice_index words i) }
@@ -71,8 +71,8 @@ pub fn numbers_one_by_one()
     ensures zeros { (n : ℕ) → section_of (replicate n 0) ≡ 0 }
 {}
 
-/// What is read keeps the nesting limit, is the same under any other that its depth keeps, and fits
-/// its spelling.
+/// A value that is read is within the nesting limit, is the same under any other limit that is at
+/// least its depth, and fits its spelling.
 pub fn values_that_are_read()
     ensures deep { (n : ℕ) (s : Segments) (p : Place) (t : Tree) → tree_at n s p ≡ Some t
         → depth t ≤ n }
@@ -81,8 +81,8 @@ pub fn values_that_are_read()
     ensures fits { (n : ℕ) (s : Segments) (p : Place) (t : Tree) → tree_at n s p ≡ Some t → Fits t }
 {}
 
-/// What the function reads is what the relation by cases says, and that is at most one value for a
-/// place.
+/// The result of reading a value is that of the relation by cases, and the relation has at most one
+/// value for a place.
 pub fn values_as_a_relation()
     ensures read { (n : ℕ) (s : Segments) (p : Place) (t : Tree) → Means n s p t
         → tree_at n s p ≡ Some t }
@@ -92,7 +92,7 @@ pub fn values_as_a_relation()
         → Means m s p u → t ≡ u }
 {}
 
-/// A value is read exactly where no fault is met.
+/// A value is read exactly if it has no fault.
 pub fn faults_of_values()
     ensures read { (n : ℕ) (s : Segments) (p : Place) (t : Tree) → tree_at n s p ≡ Some t
         → faults_at n s p ≡ [] }
@@ -100,7 +100,7 @@ pub fn faults_of_values()
         → IsSome (tree_at n s p) }
 {}
 
-/// Segments that keep what a value covers keep the value.
+/// Segments that keep the words of a value keep the value.
 pub fn values_stay_where_their_words_stay()
     ensures by_spans { (n : ℕ) (s u : Segments) (p : Place) (t : Tree)
         → AllByRecursion (Keeps s u) (covered n s p) → tree_at n s p ≡ Some t
@@ -114,7 +114,7 @@ pub fn values_stay_where_their_words_stay()
         → tree_at n u p ≡ Some t }
 {}
 
-/// Trimming twice is trimming once; a trimmed value fits and is no deeper.
+/// Trimming twice is trimming once; a trimmed value fits and is not deeper.
 pub fn trimmed_values()
     ensures again { (t : Tree) → trim (trim t) ≡ trim t }
     ensures fits { (t : Tree) → Fits t → Fits (trim t) }
@@ -133,7 +133,7 @@ pub fn fitting_values()
     ensures zeros { (n : ℕ) → n < 2 ^ 29 → Fits (plain_list 2 n 0) }
 {}
 
-/// The words of a value mean the value, also where a first segment goes on behind them; so equal
+/// The words of a value mean the value, also if the first segment continues after them; so equal
 /// words are those of equal values.
 pub fn words_mean_their_value()
     ensures means { (t : Tree) (n : ℕ) → Fits t → depth t ≤ n
@@ -171,7 +171,7 @@ pub fn canonical_messages()
         → canonical_words (trim u) ≡ canonical_words (trim t) }
 {}
 
-/// The test for canonical words at a place holds exactly where they stand.
+/// The test for canonical words at a place holds exactly if the words are there.
 pub fn canonical_tests_at_places()
     ensures holds { (n : ℕ) (s : Segments) (p : Place) → is_canonical_at n s p ≡ true
         → (t : Tree) × (tree_at n s p ≡ Some t) × (has_capability t ≡ false)
@@ -185,8 +185,8 @@ pub fn canonical_tests_at_places()
         → slice_get s 0 ≡ Some (canonical_words t ++ more) → is_canonical_at n s root ≡ true }
 {}
 
-/// The test for a canonical message holds exactly where the canonical words of its value are its
-/// one segment, and so of each canonical copy.
+/// The test for a canonical message holds exactly if the canonical words of its value are its only
+/// segment, so it holds for each canonical copy.
 pub fn canonical_tests()
     ensures holds_of { (n : ℕ) (s : Segments) → is_canonical_message n s ≡ true → (t : Tree)
         × (tree_at n s root ≡ Some t) × (has_capability t ≡ false)
@@ -199,8 +199,8 @@ pub fn canonical_tests()
         → is_canonical_message n (canonical_words (trim t) ∷ []) ≡ true }
 {}
 
-/// The words of a value's objects are those behind its pointer, and it has a capability exactly
-/// where some are counted.
+/// The words of a value's objects are those that its pointer leads to, and it has a capability
+/// exactly if some are counted.
 pub fn sizes_of_values()
     ensures words { (t : Tree) → object_words t ≡ length (body t) }
     ensures none { (t : Tree) → capability_count t ≡ 0 → has_capability t ≡ false }
@@ -229,7 +229,7 @@ pub fn written_messages()
         → Packs limit (packed_message s) s }
 {}
 
-/// Bytes at whose front a message is read begin with its text, and bytes behind a text change
+/// Bytes that begin with a readable message begin with its text, and bytes after a text change
 /// nothing.
 pub fn texts_of_messages()
     ensures framed_front { (limit : Option ℕ) (b : List ℕ) (s : Segments) (rest : List ℕ)
@@ -265,7 +265,7 @@ pub fn records_of_own_bits()
         → shape_record g v.size v.section v.kids ≡ shape_record g w.size w.section w.kids }
 {}
 
-/// The field of a name reads as its slot does, where no other member of its union is active.
+/// The field of a name reads as its slot does, if no other member of its union is active.
 pub fn fields_by_name()
     ensures { (n : List ℕ) (fs : Fields) (member : Option ℕ) (body : Body) (active : Option ℕ)
         (size : Extent) (section : ℕ) (kids : Children) → target_of n fs ≡ target member body
@@ -281,7 +281,7 @@ pub fn older_records()
         ≡ projected (schema_of nodes) older (record_of (schema_of newer_nodes) newer t) }
 {}
 
-/// A trimmed value has the record of the value, where lists are in kind.
+/// A trimmed value has the record of the value, if lists are in kind.
 pub fn records_of_trimmed_values()
     ensures { (s : Schema) (id : ℕ) (t : Tree) → in_kind s t (struct id) ≡ true
         → record_of s id (trim t) ≡ record_of s id t }
@@ -301,7 +301,7 @@ pub fn compatible_with_itself()
         → IsCompatible (schema_of nodes) (schema_of nodes) id id }
 {}
 
-/// Compatibility goes along versions, where the newest schema is accepted.
+/// Compatibility is transitive along versions, if the newest schema is accepted.
 pub fn compatible_along_versions()
     ensures { (oldest middle : Schema) (nodes : List Node) (x y z : ℕ) → IsAccepted nodes
         → IsCompatible oldest middle x y → IsCompatible middle (schema_of nodes) y z

@@ -1,4 +1,4 @@
-//! Laws of what calls leave, each the contract of a function that does nothing.
+//! Laws of the results of calls, each the contract of a function that does nothing.
 
 ghost use Rattle.std.specs.Prelude.{◌≡◌, ℕ, ◌≤◌, List, max};
 ghost use Rattle.std.specs.List.{AllByRecursion};
@@ -24,9 +24,9 @@ pub fn depths_of_edited_values()
         → depth (edits (schema_of nodes) id calls t) ≤ max (depth t) k }
 {}
 
-/// What a path leads to is led to after a call that spares it. So a union member stays active, one
-/// that only a newer schema has as well. A call doesn't spare it that writes a member of that
-/// union, or a group, a pointer or a list's element that holds it.
+/// A path leads to the same place after a call that spares it. So a union member stays active, also
+/// one that only a newer schema has. A call doesn't spare a path if it writes a member of that
+/// union, or a group, a pointer or a list's element that holds the place.
 pub fn members_that_stay_active()
     ensures { (nodes : List Node) → IsAccepted nodes
         → (id : ℕ) (c : Call) (t : Tree) (r : Record) (way : List Step)

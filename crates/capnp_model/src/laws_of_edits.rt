@@ -63,8 +63,8 @@ pub fn root_beside_its_schema()
         (view_of_value (schema_of nodes) (edits (schema_of nodes) id calls t)) }
 {}
 
-/// What is written after the calls on a message's value reads as what the calls make of the record
-/// of the value that was read.
+/// The output after the calls on a message's value reads as the result of the calls on the record
+/// of that value.
 pub fn records_of_written_values()
     ensures kinds { (s : Schema) (t : Tree) (ty : Ty) → in_kind s (trim t) ty ≡ in_kind s t ty }
     ensures start { (nodes : List Node) (id : ℕ) (calls : List Call) (t : Tree)
@@ -79,8 +79,8 @@ pub fn records_of_written_values()
         ≡ record_replies (schema_of nodes) quoted id calls (record_of (schema_of nodes) id t) }
 {}
 
-/// A group that is set from a struct is the last beginning of its writes, the first of which marks
-/// the union.
+/// A group that is set to a struct is the last beginning of its writes; the first write marks the
+/// union.
 pub fn groups_set_by_writes()
     ensures whole { (s : Schema) (union member : Option ℕ) (g : Shape) (words : ℕ) (from c : Cell)
         → edit_field s [] (set_to (message (structure words from.section from.kids))) union member

@@ -8,8 +8,8 @@ ghost use Rattle.capnp_model.specs.RenamedCalls.{renamed_calls};
 ghost use Rattle.capnp_model.specs.Compatible.{IsCompatible, IsCompatibleWith};
 ghost use Rattle.capnp_model.specs.Admitted.{is_admitted, is_admitted_with};
 
-/// Where nothing is renamed, the newer's words are the older's own: schemas, calls, compatibility
-/// and admission are the same.
+/// If no field is renamed, the newer names are the older names: schemas, calls, compatibility and
+/// admission are the same.
 pub fn nothing_renamed()
     ensures schemas { (o : Schema) → renamed [] o ≡ o }
     ensures compatible { (o n : Schema) (older newer : ℕ)

@@ -10,7 +10,7 @@ ghost use Rattle.capnp_model.specs.Answers.{Answer};
 ghost use Rattle.capnp_model.specs.Runs.{line_of, End};
 ghost use Rattle.capnp_model.specs.SameRuns.{IsFormReader, IsRefused, HaveOneValueEach, Work, IsAnswerIn, Relays};
 
-/// What is written and logged, and how a run ends, is determined by the bytes of the input.
+/// The output and the log, and the end of a run, are determined by the bytes of the input.
 pub fn runs_by_their_bytes()
     ensures { (w : Work) (read : Reader) (write : Writer) (bytes output log others lines : List ℕ)
         (end last : End) → IsFormReader read
@@ -43,8 +43,8 @@ pub fn runs_over_equal_values()
         → HaveOneValueEach w.limits x.messages y.messages → (output ≡ others) × (log ≡ lines) }
 {}
 
-/// What a refused message held changes nothing of any other answer: the output is the same, and so
-/// is the log but for its own line.
+/// The contents of a refused message don't change other answers: the output is the same, and so is
+/// the log except for its own line.
 pub fn runs_past_a_refused_message()
     ensures { (w : Work) (read other : Reader) (write : Writer)
         (bytes texts output log others lines : List ℕ) (end last : End)

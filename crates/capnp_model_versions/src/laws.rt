@@ -20,20 +20,20 @@ ghost use Rattle.capnp_model_versions.specs.TwoVersions.{TwoVersions, older, new
 ghost use Rattle.capnp_model_versions.specs.OwnOutput.{WritesFitting, HaveFewWords};
 ghost use Rattle.capnp_model_versions.specs.TwoRelays.{TwoRelays, first, second, joined_relay, RelayWrites, CanRelay, HasShortCalls};
 
-/// In a value that fits its spelling every section lies within its words.
+/// In a value that fits its spelling every section is within its words.
 pub fn fitting_values_are_whole()
     ensures { (t : Tree) → Fits t → IsWhole t }
 {}
 
-/// Trimming a struct before or after a call gives one trimmed value, where lists are in kind and
-/// the call sets no whole struct element.
+/// Trimming a struct before or after a call gives one trimmed value, if lists are in kind and the
+/// call sets no whole struct element.
 pub fn edits_of_trimmed_values()
     ensures { (nodes : List Node) (id : ℕ) (c : Call) (t : Tree)
         → SetsNoStructElement (schema_of nodes) id c → IsRootInKind nodes id t
         → trim (edit (schema_of nodes) id c (trim t)) ≡ trim (edit (schema_of nodes) id c t) }
 {}
 
-/// Trimming a struct before or after calls gives one trimmed value, where lists are in kind and no
+/// Trimming a struct before or after calls gives one trimmed value, if lists are in kind and no
 /// call sets a whole struct element.
 pub fn calls_at_trimmed_values()
     ensures { (nodes : List Node) (id : ℕ) (calls : List Call) (t : Tree)
@@ -42,10 +42,10 @@ pub fn calls_at_trimmed_values()
         ≡ trim (edits (schema_of nodes) id calls t) }
 {}
 
-/// Two relays in a row write the words of one with the joined calls, where
-/// - the message is written on both roads;
+/// Two relays in a row write the words of one relay with the joined calls, if
+/// - the message is written by both;
 /// - the first relay's calls hold no list that is too long, and it writes at most 2^29 words; or
-///   what it writes fits its spelling.
+///   its output fits its spelling.
 pub fn relays_in_a_row()
     ensures by_words { (r : TwoRelays) (message one two both : Segments) → CanRelay r message
         → HasShortCalls r → HaveFewWords one
@@ -73,8 +73,8 @@ pub fn steps_across_versions()
 {}
 
 /// Editing under an older schema commutes with reading under a compatible newer one. Admitted calls
-/// leave one trimmed value under both. Its newer record is what the newer machine makes of the
-/// newer record, and the replies to calls other than `get` are equal.
+/// leave one trimmed value under both. Its newer record is the newer machine's result for the newer
+/// record, and the replies to calls other than `get` are equal.
 pub fn calls_across_versions()
     ensures values { (v : TwoVersions) (calls : List Call) (t : Tree) → CanRun v calls t
         → trim (edits (older v) v.older_root calls t)

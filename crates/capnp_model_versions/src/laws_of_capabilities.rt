@@ -13,10 +13,10 @@ ghost use Rattle.capnp_model.specs.Edits.{edit};
 ghost use Rattle.capnp_model.specs.Answers.{Limits, edits, value_within, opened_root};
 ghost use Rattle.capnp_model_versions.specs.Capabilities.{SetsNoCapability};
 
-/// Calls put no capability into a value: where neither the value nor a message that a call sets has
-/// one, the edited value has none. The node records need not be accepted. Nor does opening a root
-/// or trimming put one there, and a value that node records or calls keep as canonical bytes has
-/// none.
+/// Calls put no capability into a value: if neither the value nor a message that a call sets has a
+/// capability, the edited value has none. The node records need not be accepted. Opening a root or
+/// trimming doesn't add one either, and a value that node records or calls keep as canonical bytes
+/// has none.
 pub fn edited_values_without_capabilities()
     ensures one { (nodes : List Node) (id : ℕ) (c : Call) (t : Tree) → SetsNoCapability c.verb
         → has_capability t ≡ false → has_capability (edit (schema_of nodes) id c t) ≡ false }

@@ -1,4 +1,4 @@
-//! Laws of what fits its spelling, each the contract of a function that does nothing.
+//! Laws of values that fit their spelling, each the contract of a function that does nothing.
 
 ghost use Rattle.std.specs.Prelude.{◌≡◌, ℕ, List, []};
 ghost use Rattle.std.specs.List.{AllByRecursion};
@@ -16,7 +16,7 @@ ghost use Rattle.capnp_model_versions.specs.Fitting.{HasShortLists, HoldsShortLi
 ghost use Rattle.capnp_model_versions.specs.OwnOutput.{SizesSuffice, SufficeEach, WritesFitting, HaveFewWords, IsWritten, HoldsOfWritten, relay_of};
 ghost use Rattle.capnp_model_versions.specs.TwoRelays.{RelayWrites};
 
-/// Calls in turn leave a value that fits its spelling, where no list in it gets too long.
+/// Calls in order leave a value that fits its spelling, if no list in it gets too long.
 pub fn edited_values_that_fit()
     ensures { (nodes : List Node) (id : ℕ) (calls : List Call) (t : Tree)
         → AreSpelled nodes calls → Fits t
@@ -24,8 +24,8 @@ pub fn edited_values_that_fit()
         → Fits (edits (schema_of nodes) id calls t) }
 {}
 
-/// Sizes suffice for what a relay writes, where its calls hold no list that is too long and at most
-/// 2^29 words are written. What is written fits its spelling, where sizes suffice.
+/// Sizes suffice for the output of a relay if its calls hold no list that is too long and at most
+/// 2^29 words are written. The output fits its spelling if sizes suffice.
 pub fn sizes_that_suffice()
     ensures sizes { (nodes : List Node) (quoted : List ℕ → List ℕ) (id : ℕ) (calls : List Call)
         (limits : Limits) (message segments : Segments)
@@ -39,8 +39,8 @@ pub fn sizes_that_suffice()
         → WritesFitting (relay_of nodes quoted id calls limits) message }
 {}
 
-/// Sizes suffice for each message that a run writes, where its calls hold no list that is too long
-/// and at most 2^29 words are written for each.
+/// Sizes suffice for each message that a run writes if its calls hold no list that is too long and
+/// at most 2^29 words are written for each.
 pub fn sizes_that_suffice_each()
     ensures { (nodes : List Node) (quoted : List ℕ → List ℕ) (id : ℕ) (calls : List Call)
         (limits : Limits) (messages : List Segments) (answers : List Answer)
@@ -50,8 +50,8 @@ pub fn sizes_that_suffice_each()
         → SufficeEach (relay_of nodes quoted id calls limits) messages answers }
 {}
 
-/// A relay's own output, relayed again in its form without calls, gives the same bytes, where sizes
-/// sufficed for what it wrote and the second run writes every message.
+/// A relay's own output, relayed again in its form without calls, gives the same bytes, if sizes
+/// sufficed for the output and the second run writes every message.
 pub fn own_output_again()
     ensures { (nodes : List Node) (quoted : List ℕ → List ℕ) (id : ℕ) (calls : List Call)
         (limits again : Limits) (read other : Reader) (write : Writer)

@@ -11,12 +11,12 @@ ghost use Rattle.capnp_model_versions.specs.OwnOutput.{WritesFitting, HaveFewWor
 ghost use Rattle.capnp_model_versions.specs.TwoRelays.{TwoRelays, first, RelayWrites, CanRelay, HasShortCalls};
 ghost use Rattle.capnp_model_versions.specs.RunsInARow.{RunsInARow, WriteOnBothRoads};
 
-/// Two relays in a row write the bytes of one with the joined calls, where the second reads the
+/// Two relays in a row write the bytes of one relay with the joined calls, if the second reads the
 /// form that the first writes, and
-/// - each message is written on both roads or on neither;
+/// - each message is written by both or by neither;
 /// - the calls of both can start from each message that the first writes;
 /// - the first relay's calls hold no list that is too long, and it writes at most 2^29 words for
-///   each; or what it writes fits its spelling.
+///   each; or its output fits its spelling.
 pub fn runs_in_a_row()
     ensures by_words { (r : TwoRelays) (bytes middle output direct : List ℕ) → HasShortCalls r
         → (x : RunsInARow r bytes middle output direct)

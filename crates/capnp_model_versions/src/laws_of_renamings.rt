@@ -14,9 +14,9 @@ ghost use Rattle.capnp_model_versions.specs.RenamedVersions.{newer_calls, AreCom
 ghost use Rattle.capnp_model_versions.specs.RenamedViews.{older_view_with};
 
 /// Editing under an older schema commutes with reading under a newer one that is compatible with
-/// renamed fields. Admitted calls leave one trimmed value under the older and, in the newer's
-/// words, under the newer. Its newer record is what the newer machine makes of the newer record on
-/// the calls in these words. The replies to calls other than `get` are equal.
+/// renamed fields. Admitted calls leave one trimmed value under the older schema and, in the newer
+/// names, under the newer. Its newer record is the newer machine's result for the newer record and
+/// the calls in these names. The replies to calls other than `get` are equal.
 pub fn calls_across_renamed_versions()
     ensures values { (rs : List Renaming) (v : TwoVersions) (calls : List Call) (t : Tree)
         → CanRunWith rs v calls t → trim (edits (older v) v.older_root calls t)
@@ -36,8 +36,8 @@ pub fn records_by_older_names()
         → record_of (older v) v.older_root t ≡ older_view_with rs v (newer_record v t) }
 {}
 
-/// Where no field is renamed the newer's words are the calls' own, the older view is that without
-/// renamings, and the same versions, calls and values are asked of.
+/// If no field is renamed, the newer names are the calls' own, the older view is that without
+/// renamings, and the conditions are on the same versions, calls and values.
 pub fn calls_without_renamings()
     ensures words { (v : TwoVersions) (calls : List Call) → newer_calls [] v calls ≡ calls }
     ensures views { (v : TwoVersions) (r : Record) → older_view_with [] v r ≡ older_view v r }

@@ -1,7 +1,7 @@
 //! Laws of writing, each the contract of a function that does nothing.
 //!
 //! A caller that changes a value deep inside another goes down from the root by the clauses `down`,
-//! to what belongs to the part. It comes back with its change by the clauses `up`.
+//! to the words of the part. The clauses `up` lead back with the change.
 ghost use Rattle.std.specs.Prelude.{◌≡◌, ℕ, suc, ◌<◌, ◌≤◌, length, Ok};
 ghost use Rattle.capnp_model.specs.Segments.{Segments, Place, after};
 ghost use Rattle.capnp_model.specs.Pointers.{Object, a_struct, Found, found_at};
@@ -10,8 +10,8 @@ ghost use Rattle.capnp_model_writes.specs.Footprints.{footprint, Owns, OwnsObjec
 ghost use Rattle.capnp_model_writes.specs.Changes.{Replaces, ReplacesObject, ZeroBeside};
 ghost use Rattle.capnp_model_writes.specs.Writes.{with_zeros};
 
-/// A value may be replaced again and again, no word of it is taken twice afterwards, and the words
-/// beside it that were zero are.
+/// A value may be replaced again and again; afterwards no word of it is taken twice, and the other
+/// words that were zero are still zero.
 pub fn changes_of_values()
     ensures none { (n : ℕ) (s : Segments) (p : Place) (t : Tree) → Owns n s p t
         → Replaces n s s p t }
@@ -25,7 +25,7 @@ pub fn changes_of_values()
         → Owns n s p t → Replaces n s (with_zeros s i k) p t }
 {}
 
-/// What holds with n levels holds with more.
+/// A property that holds with n levels holds with more levels.
 pub fn changes_with_more_levels()
     ensures owned { (n m : ℕ) (s : Segments) (p : Place) (t : Tree) → n ≤ m → Owns n s p t
         → Owns m s p t }
@@ -33,7 +33,7 @@ pub fn changes_with_more_levels()
         → Replaces n s u p v → Replaces m s u p v }
 {}
 
-/// What holds of an object's change with n levels holds with more.
+/// A property of an object's change that holds with n levels holds with more levels.
 pub fn changes_of_objects()
     ensures again { (n : ℕ) (s u v : Segments) (o : Object) (t w : Tree) → ReplacesObject n s u o t
         → ReplacesObject n u v o w → ReplacesObject n s v o w }

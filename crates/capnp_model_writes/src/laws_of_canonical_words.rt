@@ -10,9 +10,9 @@ ghost use Rattle.capnp_model.specs.Encoding.{canonical_words};
 ghost use Rattle.capnp_model_writes.specs.Footprints.{footprint, Owns};
 ghost use Rattle.capnp_model_writes.specs.Totals.{words_of_segments};
 
-/// Where a first segment begins with the canonical words of a value, its root has the value, which
-/// takes each of these words once, and no other. So a message of canonical words can be edited
-/// where it lies.
+/// If a first segment begins with the canonical words of a value, its root has the value, which
+/// takes each of these words once, and no other word. So a message of canonical words can be edited
+/// in place.
 pub fn canonical_words_in_place()
     ensures owned { (t : Tree) (n : ℕ) (s : Segments) (more : List ℕ) → Fits t → depth t ≤ n
         → length (canonical_words t) ≤ 2 ^ 29 → slice_get s 0 ≡ Some (canonical_words t ++ more)
@@ -23,8 +23,8 @@ pub fn canonical_words_in_place()
         → footprint n s root q ≡ times_held (span root (length (canonical_words t)) ∷ []) q }
 {}
 
-/// The canonical words of a value that takes no word twice are no more than the segments have
-/// words, those of the trimmed value neither. So it can be written anew into as many.
+/// The canonical words of a value that takes no word twice are at most as many as the segments'
+/// words, and so are those of the trimmed value. So it can be written again into as many words.
 pub fn lengths_of_canonical_words()
     ensures whole { (n : ℕ) (s : Segments) (p : Place) (t : Tree) → Owns n s p t
         → length (canonical_words t) ≤ words_of_segments s }

@@ -1,4 +1,4 @@
-//! Laws of clearing: what a pointer and all that lies behind it leave when they become zero.
+//! Laws of clearing: the state after a pointer and everything below it become zero.
 //!
 //! A caller writes 0 over the pointer, clears the children of its object one after the other, and
 //! then zeroes the object's own words and the pointer's pads.

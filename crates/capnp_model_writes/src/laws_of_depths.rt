@@ -1,4 +1,4 @@
-//! Laws of how deep values are, and of the levels that they are read with.
+//! Laws of the depths of values, and of the levels with which they are read.
 ghost use Rattle.std.specs.Prelude.{ℕ, suc, ◌+◌, ◌≤◌};
 ghost use Rattle.capnp_model.specs.Segments.{Segments, Place};
 ghost use Rattle.capnp_model.specs.Pointers.{Object};
@@ -7,9 +7,9 @@ ghost use Rattle.capnp_model_writes.specs.Footprints.{Owns, OwnsObject};
 ghost use Rattle.capnp_model_writes.specs.Changes.{Replaces, ReplacesObject};
 ghost use Rattle.capnp_model_writes.specs.Totals.{words_of_segments};
 
-/// A value that takes no word twice is no deeper than the segments have words, since each pointer
-/// on the way down is a word of its own. An object, to which no pointer is counted, may be one
-/// level deeper, as an empty struct is where there are no words.
+/// A value that takes no word twice is not deeper than the segments have words, because each
+/// pointer on the way down is a word of its own. An object, to which no pointer is counted, may be
+/// one level deeper, as an empty struct is if there are no words.
 pub fn depths_of_owned_values()
     ensures values { (n : ℕ) (s : Segments) (p : Place) (t : Tree) → Owns n s p t
         → depth t ≤ words_of_segments s }
@@ -17,9 +17,9 @@ pub fn depths_of_owned_values()
         → depth t ≤ 1 + words_of_segments s }
 {}
 
-/// A value is owned with any levels that are at least its depth. A change is one with any that are
-/// at least the depths of the old and the new value. An object's pointers are what is read, so one
-/// level less is enough for it.
+/// A value is owned with any levels that are at least its depth. A change is a change with any
+/// levels that are at least the depths of the old and the new value. For an object its pointers are
+/// read, so one level less is enough for it.
 pub fn changes_with_fewer_levels()
     ensures owned { (n m : ℕ) (s : Segments) (p : Place) (t : Tree) → depth t ≤ m → Owns n s p t
         → Owns m s p t }

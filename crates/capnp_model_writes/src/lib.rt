@@ -1,5 +1,5 @@
-//! What writing into a message's segments changes: the words that belong to a value, and the laws
-//! by which a change of a part is one of the whole.
+//! Changes of a message's segments by writing: the words that belong to a value, and the laws that
+//! make a change of a part a change of the whole.
 #![tactic(auto)]
 
 pub mod laws;
