@@ -1,4 +1,4 @@
-//! The answer of calls to a message, in a lent region.
+//! Answers of calls to a message, made in a lent region.
 ghost use Rattle.std.specs.Prelude.{◌≡◌, ◌≤◌, length, Err, IfOk, IfErr, IfSome};
 ghost use Rattle.capnp_units.specs.Segments.{words_in};
 ghost use Rattle.capnp_copy_arenas.specs.Memory.{AllZero};
@@ -23,22 +23,22 @@ use capnp_units::sizes::Word;
 use capnp_wire_objects::arena::ReaderArena;
 use std::alloc::Global;
 
-/// What comes of calls of which it is known what each puts. It holds no answer: that is larger, and
+/// The outcome of calls whose writes are known. It doesn't hold the answer, which is larger and
 /// would be copied for each message.
 #[derive(Clone, Copy, Debug)]
 pub(crate) enum Known {
-    /// All of it is put, and the message has so many words then.
+    /// All writes are done, and the message has n words then.
     Done(usize),
     /// The message is skipped.
     Refused(Reason),
-    /// It has no place. The message's words, so many, stand in the buffer as they were read.
+    /// A write has no place. The message's n words are in the buffer as they were read.
     Stands(usize),
-    /// Some of it may be put, and the words in the buffer are of no use.
+    /// Some of the writes may be done, and the words in the buffer must not be used.
     Spoiled,
 }
 
-/// How many words at the front of a buffer are those of a message's value, trimmed, which is a
-/// struct or null; or why the message is skipped.
+/// Returns the number of words at the front of a buffer that are those of a message's value,
+/// trimmed, which is a struct or null; or the reason for which the message is skipped.
 #[inline(always)]
 pub(crate) fn read_root<M: ReaderArena>(
     message: &M,
@@ -58,8 +58,8 @@ pub(crate) fn read_root<M: ReaderArena>(
     Ok(Ok(count))
 }
 
-/// The answer where it is known what each call puts, made in the words that the message was read
-/// to, if all can be put there.
+/// Returns the answer if the writes of all calls are known, made in the words to which the message
+/// was read, if all writes can be done there.
 #[inline(always)]
 fn answer_known<M: ReaderArena>(
     message: &M,
@@ -84,8 +84,8 @@ fn answer_known<M: ReaderArena>(
     }
 }
 
-/// The answer of calls that are each a `get`: their replies, where the message's words were read to,
-/// and these words as they are. `None` where its root is null.
+/// Returns the answer of calls that are each a `get`: their replies, at the words to which the
+/// message was read, and these words unchanged. `None` if its root is null.
 #[inline(always)]
 fn answer_gets<M: ReaderArena>(
     alloc: Global,
@@ -110,8 +110,8 @@ fn answer_gets<M: ReaderArena>(
     Ok(Some(MessageAnswer::Written { count, replies }))
 }
 
-/// The answer to a message whose canonical words stand at the front of the buffer, a struct or
-/// null, which is edited in memory of this allocator. All of it is given back.
+/// Returns the answer to a message whose canonical words are at the front of the buffer, a struct
+/// or null, which is edited in memory of this allocator. All of the memory is returned.
 fn answer_read<L: Allocator>(
     alloc: Global,
     allocator: &mut L,
@@ -144,8 +144,8 @@ fn answer_read<L: Allocator>(
     answered
 }
 
-/// The answer to a message, whose value is edited in memory of this allocator. All of it is given
-/// back.
+/// Returns the answer to a message, whose value is edited in memory of this allocator. All of the
+/// memory is returned.
 #[inline(never)]
 fn answer_over<L: Allocator, M: ReaderArena>(
     alloc: Global,
@@ -170,8 +170,9 @@ fn answer_over<L: Allocator, M: ReaderArena>(
     answer_read(alloc, allocator, bounds, calls, count, words)
 }
 
-/// The answer to a message whose canonical words stand at the front of the buffer, a struct or
-/// null, in the region. It is kept apart from the way of calls that can be put.
+/// Returns the answer to a message whose canonical words are at the front of the buffer, a struct
+/// or null, edited in the region. It is a function of its own, to keep the path of calls with known
+/// writes short.
 #[inline(never)]
 fn answer_standing(
     alloc: Global,
@@ -193,8 +194,9 @@ fn answer_standing(
     answer_read(alloc, &mut allocator, bounds, calls, count, words)
 }
 
-/// As `answer_in_place`, where it isn't known what each call puts, or the words that the message
-/// was read to are spoiled. It is kept apart from the way of the others.
+/// Answers like `answer_in_place`, if the writes of some call aren't known, or the words to which
+/// the message was read are spoiled. It is a function of its own, to keep the path of other calls
+/// short.
 #[inline(never)]
 fn answer_unknown<M: ReaderArena>(
     alloc: Global,
@@ -220,54 +222,56 @@ fn answer_unknown<M: ReaderArena>(
     answer_over(alloc, &mut allocator, message, bounds, calls, words)
 }
 
-/// Answers calls in turn at the root of a message, as the model does, lists and all. The message's
-/// value, trimmed, is copied into the region and edited there. What it becomes is written into the
+/// Answers calls in order at the root of a message, like the model, including lists. The message's
+/// value, trimmed, is copied into the region and edited there. The result is written into the
 /// buffer, as its canonical words.
 ///
-/// The value is edited in the buffer, and the region isn't touched, where each call sets
+/// The value is edited in the buffer, and the region isn't touched, if each call sets
 /// - a plain field, a text or data;
 /// - a plain or void member of a union;
 /// - an element of a list of plain values, texts or data.
 ///
-/// Its way goes through structs, groups and elements of lists of structs. No field before the last,
-/// and no such list, is a member of a union. All that is on the way is there, and an element takes
-/// the place of an old one. So does a text or data, or else the place of null where another pointer
-/// of its struct or list leads to words. No element of a list of structs gets wider or narrower.
+/// The path goes through structs, groups and elements of lists of structs. A field before the last,
+/// and a list on the path, is not a member of a union. Everything on the path exists, and an
+/// element replaces an old one. A text or data replaces an old one too, or null beside another
+/// pointer of its struct or list that leads to words. The elements of lists of structs keep their
+/// widths.
 ///
-/// Where what the first call puts has no place, the message isn't read again: its value is copied
-/// into the region from where it stands in the buffer. It is read once more where
-/// - what a later call puts has none;
+/// If the write of the first call has no place, the message isn't read again: its value is copied
+/// into the region from the buffer. The message is read once more if
+/// - the write of a later call has no place;
 /// - an element of a list of structs would get wider or narrower;
 /// - the root is null, and there are no calls, or each is a `get`.
 ///
-/// Where each call is a `get`, and the root isn't null, the value is read in the buffer, and the
+/// If each call is a `get`, and the root isn't null, the value is read in the buffer, and the
 /// region isn't touched either.
 ///
 /// A message is skipped
-/// - as `Value`, where it has no value within the bounds, or one with a capability;
-/// - as `Root`, where its root is a list;
-/// - as `Depth`, where the calls nest it too deep.
+/// - as `Value`, if it has no value within the bounds, or a value with a capability;
+/// - as `Root`, if its root is a list;
+/// - as `Depth`, if the calls nest it too deeply.
 ///
-/// The region is all zeros before, and after, whatever is answered. It need not have room for the
-/// message, whose words then come from `alloc`, as those do that the calls add past its end.
+/// The region is all zeros before, and after, whatever the answer is. It doesn't need room for the
+/// message; the message's words then come from `alloc`, and so do the words that the calls add past
+/// the region's end.
 ///
-/// The buffer grows where it is too short: to the message's own words, and to those that it has
-/// after a call. Where pointers share words, so that the canonical words are more than the
-/// message's own, it grows to a word more than the bounds allow. Where a message is read, it gets
-/// 16 words more than that. What is in it before doesn't matter.
+/// The buffer grows if it is too short: to the message's own words, and to its words after a call.
+/// If pointers share words, so that the canonical words are more than the message's own, it grows
+/// to one word more than the bounds allow. When a message is read, the buffer gets 16 words more
+/// than that. Its earlier contents don't matter.
 ///
 /// `Size`:
-/// - a call that is done puts a text or data of 2^29 bytes or more with its last zero, or a list of
-///   structs of 2^29 words or more;
-/// - the words of the edited message, those that calls abandon among them, would pass 2^29 - 1.
+/// - a call that is done makes a text or data of 2^29 bytes or more including the last zero, or a
+///   list of structs of 2^29 words or more;
+/// - the words of the edited message, including those that calls abandon, would exceed 2^29 - 1.
 ///
 /// `Memory`:
-/// - a growth was refused;
-/// - the bounds allow more than 1,024 levels, and the value, or what the calls make of it, was
-///   found to have more before any other fault was met;
-/// - a `get` would print more than 1,024 structs, groups and lists in one another.
+/// - an allocation was refused;
+/// - the bounds allow more than 1,024 levels, and the value, or the result of the calls, was found
+///   to have more before any other fault was met;
+/// - a `get` would print more than 1,024 nested structs, groups and lists.
 ///
-/// After both nothing is promised of the buffer but its words.
+/// After either, the buffer holds words with unspecified contents.
 #[inline(always)]
 pub fn answer_in_place<M: ReaderArena>(
     alloc: Global,

@@ -1,5 +1,5 @@
-//! The answer of calls to a message in the plain form: the segments that were built go out as they
-//! stand, not trimmed.
+//! Answers of calls to a message in the plain form: the segments that were built go out unchanged,
+//! not trimmed.
 ghost use Rattle.std.specs.Prelude.{◌≡◌, ◌≤◌, ◌<◌, ◌^◌, ◌*◌, ◌/◌, ℕ, true, false, map, length, take, Some, Ok, Err, IfOk, IfErr, OnOk, [], ◌∷◌, ◌++◌};
 ghost use Rattle.std.specs.Option.{is_some};
 ghost use Rattle.capnp_model.specs.Segments.{root, words_at};
@@ -48,11 +48,11 @@ use std::alloc::Global;
 /// The most segments of a message: readers refuse a table of more (`SEGMENTS_COUNT_LIMIT`).
 const MOST_SEGMENTS: usize = 511;
 
-/// A segment has fewer bytes than this.
+/// The bound of a segment's bytes: a segment has fewer.
 const SEGMENT_BYTES: usize = 8 * 0x2000_0000;
 
-/// Whether the value at the root of a message is at most n levels deep. `Memory`: more levels than
-/// `STACK_LEVELS` are allowed, and it has more than these.
+/// Returns whether the value at the root of a message is at most n levels deep. `Memory`: more
+/// levels than `STACK_LEVELS` are allowed, and the value has more than these.
 fn keeps_levels<A: ReaderArena>(arena: &A, levels: u32) -> Result<bool, Want>
     ensures keeps { result ≡ Ok true
         → ((t : Tree) × (tree_at levels (words_in (A.segments arena.now)) root ≡ Some t)) }
@@ -75,7 +75,7 @@ fn keeps_levels<A: ReaderArena>(arena: &A, levels: u32) -> Result<bool, Want>
     }
 }
 
-/// Adds a copy of the whole words of a segment behind the others. `OutOfMemory`: memory for it was
+/// Adds a copy of the whole words of a segment after the others. `OutOfMemory`: memory for it was
 /// refused.
 fn push_copy(alloc: Global, segments: &mut Vec<Vec<u8>>, bytes: &[u8]) -> Result<(), Error>
     ensures { OnOk result (each_segment_bytes segments.new
@@ -86,8 +86,8 @@ fn push_copy(alloc: Global, segments: &mut Vec<Vec<u8>>, bytes: &[u8]) -> Result
     Ok(())
 }
 
-/// Copies of the segments of a message. `Memory`: memory for them was refused. `Size`: they are
-/// more than 511.
+/// Returns copies of the segments of a message. `Memory`: memory for them was refused. `Size`:
+/// there are more than 511.
 fn copy_segments<M: ReaderArena>(alloc: Global, message: &M) -> Result<Vec<Vec<u8>>, Want>
     ensures copies { IfOk result
         (λ copies. CopiesSegments (M.segments message.now) (each_segment_bytes copies)) }
@@ -108,10 +108,11 @@ fn copy_segments<M: ReaderArena>(alloc: Global, message: &M) -> Result<Vec<Vec<u
     Ok(segments)
 }
 
-/// What is written of a message that is built, with these replies. It is its one segment, copied to
-/// the front of the buffer, which grows where it is too short; or its several segments.
+/// Returns the output for a message that is built, with these replies. It is the message's only
+/// segment, copied to the front of the buffer, which grows if it is too short; or its several
+/// segments.
 ///
-/// `Memory`: a growth was refused. `Size`: it has more than 511 segments.
+/// `Memory`: an allocation was refused. `Size`: it has more than 511 segments.
 fn written_as_built<M: ReaderArena>(
     alloc: Global,
     message: &M,
@@ -134,8 +135,8 @@ fn written_as_built<M: ReaderArena>(
     Ok(MessageAnswer::Written { count, replies })
 }
 
-/// Answers calls in turn at the root of a message, a struct or null that takes no word twice and
-/// beside which all words are zero. What it becomes is written as it is built.
+/// Answers calls in order at the root of a message, a struct or null that takes no word twice and
+/// beside which all words are zero. The result is written as it is built.
 fn answer_plain_root<A: BuilderArena>(
     alloc: Global,
     arena: &mut A,
@@ -169,9 +170,9 @@ fn answer_plain_root<A: BuilderArena>(
     written_as_built(alloc, arena, replies, words)
 }
 
-/// Answers calls in turn at the value of a message, a struct or null, whose `count` canonical words
-/// stand at the front of the buffer. They become the message that is built, and what it becomes by
-/// the calls is written as it is built.
+/// Answers calls in order at the value of a message, a struct or null, whose `count` canonical
+/// words are at the front of the buffer. They become the message that is built, and the calls'
+/// result is written as it is built.
 fn answer_plain_built<A: Allocator>(
     alloc: Global,
     builder: &mut Builder<A>,
@@ -207,8 +208,8 @@ fn answer_plain_built<A: Allocator>(
     )
 }
 
-/// The plain answer to a message, whose value is edited in memory of this allocator. All of it is
-/// given back.
+/// Returns the plain answer to a message, whose value is edited in memory of this allocator. All of
+/// the memory is returned.
 #[inline(never)]
 fn answer_plain_over<L: Allocator, M: ReaderArena>(
     alloc: Global,
@@ -245,15 +246,14 @@ fn answer_plain_over<L: Allocator, M: ReaderArena>(
     answered
 }
 
-/// As `answer_in_place`, in the plain form: the message that is built goes out in its 1 to 511
-/// segments as they stand, only their used words, not trimmed. One segment stands at the front of
-/// the buffer, several are copied apart from it. Every word of them but the root word that no
-/// object or pad reached from the root covers is zero.
+/// Answers like `answer_in_place`, in the plain form: the message that is built goes out in its 1
+/// to 511 segments, with only their used words, not trimmed. One segment is at the front of the
+/// buffer, several are copied apart from it. Except for the root word, each of their words is zero
+/// that is not covered by an object or pad reached from the root.
 ///
-/// `Size`: also where the message that is built has more than 511 segments. `Memory`: also where
-/// memory for their copies was refused. As in the canonical form, a value of more than
-/// `STACK_LEVELS` levels is refused with `Memory` where more are allowed, and so is a `get` of more
-/// than it prints.
+/// `Size`: also if the message that is built has more than 511 segments. `Memory`: also if memory
+/// for their copies was refused. As in the canonical form, a value of more than `STACK_LEVELS`
+/// levels is refused with `Memory` if more are allowed, and so is a `get` of more than it prints.
 #[inline(always)]
 pub fn answer_plain_in_place<M: ReaderArena>(
     alloc: Global,

@@ -1,4 +1,4 @@
-//! The answer of calls to a value that is built.
+//! Answers of calls to a value that is built.
 ghost use Rattle.std.specs.Prelude.{◌≡◌, ◌⊎◌, ◌↔◌, ◌≤◌, ◌<◌, ◌^◌, true, length, Err, IfOk, ◌++◌, []};
 ghost use Rattle.std.specs.Option.{is_some};
 ghost use Rattle.std.specs.List.{flat_map};
@@ -40,8 +40,9 @@ use capnp_wire_objects::arena::ReaderArena;
 use capnp_wire_objects::place::ROOT;
 use std::alloc::Global;
 
-/// What is wanted where calls in turn end early. `Size`: a call puts a list that is too long, or
-/// the message's words pass 2^29 - 1, and so many may be taken. `Memory`: memory was refused.
+/// Returns the reason for no answer if a sequence of calls ends early. `Size`: a call makes a list
+/// that is too long, or the message's words exceed 2^29 - 1, and the estimate allows that many.
+/// `Memory`: memory was refused.
 pub(crate) fn want_after(
     fault: RunFault,
     schema: StructSchema<'_>,
@@ -62,15 +63,15 @@ pub(crate) fn want_after(
     }
 }
 
-/// Answers calls in turn at the root of a message, a struct or null that takes no word twice. The
-/// canonical words of what it becomes are written into a buffer.
+/// Answers calls in order at the root of a message, a struct or null that takes no word twice. The
+/// canonical words of the result are written into a buffer.
 ///
-/// `Size`: a call puts a list that is too long, or the words of the message and its edits pass
+/// `Size`: a call makes a list that is too long, or the words of the message and its edits exceed
 /// 2^29 - 1.
 ///
-/// `Memory`: a growth was refused, or what it becomes has more than `STACK_LEVELS` levels, where
-/// more are allowed. Or a `get` would print more than 1,024 structs, groups and lists in one
-/// another. The calls themselves take stack for each level of what they clear, which is no deeper
+/// `Memory`: an allocation was refused, or the result has more than `STACK_LEVELS` levels, although
+/// more are allowed. Or a `get` would print more than 1,024 nested structs, groups and lists. The
+/// calls themselves take stack for each level of the values that they clear, which are not deeper
 /// than the value and the calls' own paths and values together.
 fn answer_root<A: BuilderArena>(
     alloc: Global,
@@ -114,9 +115,9 @@ fn answer_root<A: BuilderArena>(
     }
 }
 
-/// Answers calls in turn at the value of a message, a struct or null, whose `count` canonical words
-/// stand at the front of the buffer. They become the message that is built, and what it becomes by
-/// the calls is written into the buffer.
+/// Answers calls in order at the value of a message, a struct or null, whose `count` canonical
+/// words are at the front of the buffer. They become the message that is built, and the calls'
+/// result is written into the buffer.
 pub(crate) fn answer_built<A: Allocator>(
     alloc: Global,
     builder: &mut Builder<A>,

@@ -1,4 +1,4 @@
-//! What is known, once, of what calls at the roots of messages put.
+//! Writes of calls at the roots of messages, found once.
 ghost use Rattle.std.specs.Prelude.{◌≡◌, IfOk, IfErr};
 ghost use Rattle.capnp_units.specs.declared.kinds.ErrorKind.{ErrorKind};
 ghost use Rattle.capnp_values_queries.specs.declared.structs.StructSchema.{StructSchema as AnySchema};
@@ -13,23 +13,23 @@ use capnp_calls_splice::plain::PlainSet;
 use capnp_units::errors::Result;
 use std::alloc::Global;
 
-/// What calls put, where that is known before a message is read.
+/// The writes of calls, if they are known before a message is read.
 #[derive(Debug, Drop)]
 pub(crate) enum Found {
-    /// Each a number, into the data of the root. A root with so many data words as are wanted has a
-    /// word for each, and none makes its last one zero; no clause says so, since the numbers are
-    /// tried there alone.
+    /// Each writes a number into the data of the root. A root with at least `wanted` data words has
+    /// a word for each number, and no number makes its last word zero. No clause says so, because
+    /// the numbers are only tried there.
     Plain { sets: Vec<PlainSet>, wanted: usize },
-    /// Each a number, a member, a text or data, into a struct or a list that a path leads to.
+    /// Each writes a number, a member, a text or data into a struct or a list that a path leads to.
     Spliced,
-    /// Nothing: each is a `get`. No clause says so, since each reply tells again whether its call
-    /// writes.
+    /// There are no writes: each is a `get`. No clause says so, because each reply checks again
+    /// whether its call writes.
     Gets,
-    /// One does something else.
+    /// A call does something else.
     Unknown,
 }
 
-/// Whether each call is a `get`.
+/// Returns whether each call is a `get`.
 fn are_gets(calls: &[Resolved<'_>]) -> bool {
     for call in calls {
         if !matches!(call.action(), Action::Get) {
@@ -39,8 +39,8 @@ fn are_gets(calls: &[Resolved<'_>]) -> bool {
     true
 }
 
-/// How many data words a root must have so that each number has its word, and none can make the
-/// last one zero: one behind its own where the number is zero.
+/// Returns the number of data words that a root must have so that each number has its word, and no
+/// number can make the last word zero: one word after its own if the number is zero.
 fn wanted_words(sets: &[PlainSet]) -> usize {
     let mut wanted = 0usize;
     for set in sets {
@@ -50,7 +50,7 @@ fn wanted_words(sets: &[PlainSet]) -> usize {
     wanted
 }
 
-/// What these calls put. `OutOfMemory`: memory for it was refused.
+/// Finds the writes of these calls. `OutOfMemory`: memory for them was refused.
 pub(crate) fn find_puts(alloc: Global, calls: &[Resolved<'_>]) -> Result<Found>
     ensures found { (schema : AnySchema) → KnowSplices schema calls.now
         → IfOk result (IsFound schema calls.now) }

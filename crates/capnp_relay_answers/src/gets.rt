@@ -1,4 +1,4 @@
-//! Calls that write nothing, answered at the words of a message's value where they stand.
+//! Calls that write nothing, answered at the words of a message's value in place.
 ghost use Rattle.std.specs.Prelude.{◌≡◌, ◌≤◌, ◌<◌, ◌^◌, false, length, map, IfOk, IfSome};
 ghost use Rattle.capnp_model.specs.Trees.{Tree, is_null};
 ghost use Rattle.capnp_model.specs.Encoding.{canonical_words};
@@ -26,7 +26,8 @@ use capnp_wire_objects::arena::ReaderArena;
 use capnp_wire_objects::place::ROOT;
 use std::alloc::Global;
 
-/// The struct at the root of a message, under a schema; `None` where it can't be read as one.
+/// Returns the struct at the root of a message, under a schema; `None` if it can't be read as a
+/// struct.
 fn root_struct<'a, A: ReaderArena>(
     arena: &'a A,
     schema: StructSchema<'a>,
@@ -43,9 +44,9 @@ fn root_struct<'a, A: ReaderArena>(
     }
 }
 
-/// What each call replies at a struct that is read; `None` where one of them is to be written.
-/// `OutOfMemory`: a growth was refused, or a text would have more than 1,024 structs, groups and
-/// lists in one another.
+/// Returns the replies of calls at a struct that is read; `None` if one of them is to be written.
+/// `OutOfMemory`: an allocation was refused, or a text would have more than 1,024 nested structs,
+/// groups and lists.
 fn reply_each<A: ReaderArena>(
     alloc: Global,
     root: dynamic_struct::Reader<'_, A>,
@@ -66,7 +67,7 @@ fn reply_each<A: ReaderArena>(
     Ok(Some(replies))
 }
 
-/// Whether the first of the words at the front of a buffer is zero, as that of null is.
+/// Returns whether the first of the words at the front of a buffer is zero, as that of null is.
 #[inline]
 fn begins_with_zero(words: &[Word], count: usize) -> bool
     requires { (0 < count) × (count ≤ length words.now) }
@@ -76,11 +77,11 @@ fn begins_with_zero(words: &[Word], count: usize) -> bool
     u64::from_le_bytes(words[0]) == 0
 }
 
-/// What each call replies at the value whose `count` canonical words stand at the front of a
-/// buffer, read where it lies. `None` where the value is no struct, or a call is to be written.
-/// `OutOfMemory`: as `reply_each`.
+/// Returns the replies of calls at the value whose `count` canonical words are at the front of a
+/// buffer, read in place. `None` if the value is not a struct, or a call is to be written.
+/// `OutOfMemory`: like `reply_each`.
 ///
-/// A null counts as an empty struct, which has other words. So it is left to its caller.
+/// A null counts as an empty struct, which has other words. So it is left to the caller.
 pub(crate) fn reply_in_place(
     alloc: Global,
     words: &[Word],

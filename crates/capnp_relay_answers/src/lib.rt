@@ -1,5 +1,4 @@
-//! Messages answered where their values lie: calls run in a lent region, and what is written of
-//! them goes to a kept buffer.
+//! Messages answered in place: calls run in a lent region, and the output goes to a kept buffer.
 #![tactic(auto)]
 
 pub mod answer;

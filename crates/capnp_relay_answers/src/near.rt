@@ -1,4 +1,4 @@
-//! Messages of one segment, read by no table of segments.
+//! Messages of one segment, read without a table of segments.
 ghost use Rattle.std.specs.Prelude.{◌≡◌, [], ◌∷◌, IfSome};
 
 use capnp_wire_objects::arena::ReaderArena;
@@ -33,7 +33,7 @@ impl ReaderArena for OneSegment<'_> {
     }
 }
 
-/// The bytes of the one segment of a message; `None` where it has more than one, or none.
+/// Returns the bytes of the only segment of a message; `None` unless it has one segment.
 #[inline(always)]
 pub(crate) fn only_segment<M: ReaderArena>(message: &M) -> Option<&[u8]>
     ensures { IfSome result (λ bytes. M.segments message.now ≡ bytes.now ∷ []) }

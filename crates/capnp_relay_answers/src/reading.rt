@@ -21,20 +21,21 @@ use capnp_wire_canonical::laws::copies_as_walks;
 use capnp_wire_objects::arena::ReaderArena;
 use capnp_wire_objects::place::ROOT;
 
-/// A message has fewer words than this: a pointer's offset reaches no further.
+/// The bound of a message's words: a message has fewer, because a pointer's offset reaches no
+/// further.
 const MESSAGE_WORDS: usize = 0x2000_0000;
 
-/// The most levels of pointers that a value is followed, whatever the bounds allow, since each walk
-/// takes stack for each level. Measured as LLVM builds it, a level takes 200 bytes where structs
-/// lie in structs, and 820 where lists of structs lie behind far pointers. So these fit into 1 MiB.
-/// What a `get` prints takes 850 for each struct, list and group.
+/// The most levels of pointers that are followed in a value, whatever the bounds allow, because
+/// each walk takes stack for each level. Measured in LLVM's builds, a level takes 200 bytes in
+/// nested structs, and 820 in lists of structs with far pointers. So these levels fit into 1 MiB. A
+/// `get` takes 850 bytes for each struct, list and group that it prints.
 pub(crate) const STACK_LEVELS: u32 = 1024;
 
-/// How many words a buffer that grows gets beyond those that are asked for. So a struct that gets
-/// wider by what a call puts, or a text that gets longer, mostly needs no growth of its own.
+/// The number of words that a growing buffer gets beyond those that are requested. So a struct that
+/// gets wider by a write, or a text that gets longer, mostly needs no allocation of its own.
 const SPARE_WORDS: usize = 16;
 
-/// Makes the buffer n words long, and some more. `OutOfMemory`: it can't grow.
+/// Gives the buffer n words, and some more. `OutOfMemory`: it can't grow.
 #[inline(never)]
 fn grow(words: &mut Vec<Word>, count: usize) -> Result<()>
     ensures { OnOk result (count ≤ length words.new.items) }
@@ -43,7 +44,7 @@ fn grow(words: &mut Vec<Word>, count: usize) -> Result<()>
     Ok(())
 }
 
-/// Makes the buffer at least n words long. `OutOfMemory`: it can't grow.
+/// Gives the buffer at least n words. `OutOfMemory`: it can't grow.
 #[inline(always)]
 pub(crate) fn make_room(words: &mut Vec<Word>, count: usize) -> Result<()>
     ensures { OnOk result (count ≤ length words.new.items) }
@@ -54,13 +55,13 @@ pub(crate) fn make_room(words: &mut Vec<Word>, count: usize) -> Result<()>
     Ok(())
 }
 
-/// Writes the canonical words of a message's value into a buffer, and returns how many they are.
-/// `None` where it has no value within the bounds, or one with a capability.
+/// Writes the canonical words of a message's value into a buffer, and returns their number. `None`
+/// if the message has no value within the bounds, or a value with a capability.
 ///
 /// It is refused
-/// - with `BufferNotLargeEnough` where the buffer has no room for them;
-/// - with `NestingLimitExceeded` where the bounds allow more levels than `STACK_LEVELS`, and an
-///   object below those is met before any other fault.
+/// - with `BufferNotLargeEnough` if the buffer has no room for them;
+/// - with `NestingLimitExceeded` if the bounds allow more levels than `STACK_LEVELS`, and an object
+///   below those is met before any other fault.
 fn read_canonical<M: ReaderArena>(
     message: &M,
     bounds: Bounds,
@@ -91,16 +92,16 @@ fn read_canonical<M: ReaderArena>(
     }
 }
 
-/// Writes the canonical words of a message's value into a buffer, which grows where they don't fit,
-/// and returns how many they are. `None` where the message has no value within the bounds, or one
-/// with a capability.
+/// Writes the canonical words of a message's value into a buffer, which grows if they don't fit,
+/// and returns their number. `None` if the message has no value within the bounds, or a value with
+/// a capability.
 ///
-/// The buffer has room for as many words as the message first. Where its pointers share words, its
-/// canonical words may be more; then the buffer becomes a word longer than the bounds allow, and
-/// the walk begins again. It is refused
-/// - with `OutOfMemory` where the buffer can't grow;
-/// - with `BufferNotLargeEnough` where the canonical words are 2^29 or more;
-/// - with `NestingLimitExceeded` as `read_canonical` is.
+/// The buffer first gets room for as many words as the message. If its pointers share words, its
+/// canonical words may be more; then the buffer gets one word more than the bounds allow, and the
+/// walk begins again. It is refused
+/// - with `OutOfMemory` if the buffer can't grow;
+/// - with `BufferNotLargeEnough` if the canonical words are 2^29 or more;
+/// - with `NestingLimitExceeded` like `read_canonical`.
 #[inline(never)]
 fn write_value<M: ReaderArena>(
     message: &M,
@@ -119,9 +120,9 @@ fn write_value<M: ReaderArena>(
     read_canonical(message, bounds, words)
 }
 
-/// Whether the words of a message of one segment are the canonical words of its value, and fewer
-/// than 2^29. Then the value is within the bounds and `STACK_LEVELS` and has no capability. They
-/// are looked at up to the first that is otherwise.
+/// Returns whether the words of a message of one segment are the canonical words of its value, and
+/// fewer than 2^29. Then the value is within the bounds and `STACK_LEVELS` and has no capability.
+/// The words are looked at up to the first that differs.
 #[inline(always)]
 fn stands_canonical(message: &OneSegment<'_>, bounds: Bounds) -> bool
     ensures { OnTrue result (StandsCanonical bounds (words_in (message.now.bytes.now ∷ []))) }
@@ -141,7 +142,7 @@ fn stands_canonical(message: &OneSegment<'_>, bounds: Bounds) -> bool
     }
 }
 
-/// Puts words over the first of a buffer.
+/// Copies words to the front of a buffer.
 #[inline]
 fn lay_front(into: &mut [Word], row: &[Word])
     requires { length row.now ≤ length into.old }
@@ -150,8 +151,8 @@ fn lay_front(into: &mut [Word], row: &[Word])
     into[..row.len()].copy_from_slice(row);
 }
 
-/// Copies the words of a segment to the front of a buffer, which grows where they don't fit, and
-/// returns how many they are.
+/// Copies the words of a segment to the front of a buffer, which grows if they don't fit, and
+/// returns their number.
 #[inline(always)]
 pub(crate) fn copy_segment(bytes: &[u8], words: &mut Vec<Word>) -> Result<usize>
     ensures words { IfOk result (λ count. filled count words.new.items ≡ whole_words bytes.now) }
@@ -164,8 +165,8 @@ pub(crate) fn copy_segment(bytes: &[u8], words: &mut Vec<Word>) -> Result<usize>
     Ok(whole.len())
 }
 
-/// As `write_value`, of a message of this one segment: where its words are canonical already they
-/// are copied as they stand.
+/// Does what `write_value` does, for a message of this one segment: if its words are canonical
+/// already, they are copied unchanged.
 #[inline(always)]
 fn read_segment(bytes: &[u8], bounds: Bounds, words: &mut Vec<Word>) -> Result<Option<usize>>
     ensures { IfOk result (ReadsWithinBounds bounds (words_in (bytes.now ∷ [])) words.new.items) }
@@ -178,8 +179,8 @@ fn read_segment(bytes: &[u8], bounds: Bounds, words: &mut Vec<Word>) -> Result<O
     Ok(Some(count))
 }
 
-/// As `write_value`. A message of one segment is read by its bytes alone, and copied where its
-/// words are canonical already. Of one of several the first segments are asked for once.
+/// Does what `write_value` does. A message of one segment is read only by its bytes, and copied if
+/// its words are canonical already. For several segments the first are looked up once.
 #[inline(always)]
 pub(crate) fn read_value<M: ReaderArena>(
     message: &M,
@@ -195,7 +196,7 @@ pub(crate) fn read_value<M: ReaderArena>(
     }
 }
 
-/// Whether the value whose n words stand at the front of a buffer is a struct or null.
+/// Returns whether the value whose n words are at the front of a buffer is a struct or null.
 #[inline]
 pub(crate) fn can_be_opened(words: &[Word], count: usize) -> bool
     requires { (0 < count) × (count ≤ length words.now) }

@@ -1,4 +1,4 @@
-//! Calls at the roots of messages, of which what they put is found once.
+//! Calls at the roots of messages, whose writes are found once.
 ghost use Rattle.std.specs.Prelude.{◌≡◌, ◌≤◌, ◌<◌, List, true, map, length, IfOk, IfErr};
 ghost use Rattle.capnp_units.specs.declared.kinds.ErrorKind.{ErrorKind};
 ghost use Rattle.capnp_model.specs.Trees.{Tree};
@@ -27,7 +27,7 @@ use capnp_units::sizes::Word;
 use capnp_values_queries::structs::StructSchema;
 use std::alloc::Global;
 
-/// As `write_sets`, into the first n words of a buffer.
+/// Does what `write_sets` does, in the first n words of a buffer.
 #[inline(always)]
 fn put_sets(words: &mut [Word], count: usize, sets: &[PlainSet]) -> bool
     requires { count ≤ length words.old }
@@ -40,7 +40,7 @@ fn put_sets(words: &mut [Word], count: usize, sets: &[PlainSet]) -> bool
     write_sets(&mut words[..count], sets)
 }
 
-/// How many data words the root of canonical words has, a struct or null.
+/// Returns the number of data words of the root of canonical words, a struct or null.
 #[inline(always)]
 fn root_words(words: &[Word]) -> usize
     requires { 0 < length words.now }
@@ -48,8 +48,8 @@ fn root_words(words: &[Word]) -> usize
     ((u64::from_le_bytes(words[0]) >> 32) % 0x1_0000) as usize
 }
 
-/// As `write_splices`, which is kept apart from the way of calls that set plain fields of the root
-/// alone.
+/// Does what `write_splices` does. It is a function of its own, to keep the path of calls short
+/// that only set plain fields of the root.
 #[inline(never)]
 fn put_splices(words: &mut Vec<Word>, count: usize, calls: &[Resolved<'_>]) -> Result<Spliced>
     requires inside { count ≤ length words.old.items }
@@ -61,8 +61,8 @@ fn put_splices(words: &mut Vec<Word>, count: usize, calls: &[Resolved<'_>]) -> R
     write_splices(words, count, calls)
 }
 
-/// Calls at the roots of messages, under the schema of a root. Where each sets a plain field, a
-/// text or data, what they put and where is found once, and not for each message.
+/// Calls at the roots of messages, under the schema of a root. If each sets a plain field, a text
+/// or data, their writes and places are found once, and not for each message.
 #[derive(Drop)]
 pub struct RootCalls<'a> {
     pub(crate) schema: StructSchema<'a>,
@@ -76,8 +76,8 @@ pub struct RootCalls<'a> {
 impl<'a> RootCalls<'a> {
     ghost use Rattle.capnp_relay_answers.specs.RootCalls.{root_schema, root_calls};
 
-    /// These calls, at roots of this schema, resolved here, once. `OutOfMemory`: memory for that
-    /// was refused.
+    /// Resolves these calls once, at roots of this schema. `OutOfMemory`: memory for that was
+    /// refused.
     pub fn new(alloc: Global, schema: StructSchema<'a>, calls: &'a [Call]) -> Result<RootCalls<'a>>
         requires { IsRoot schema }
         ensures schema { IfOk result (λ c. root_schema c ≡ schema.entry) }
@@ -93,7 +93,7 @@ impl<'a> RootCalls<'a> {
         })
     }
 
-    /// The calls, resolved under the schema.
+    /// Returns the calls, resolved under the schema.
     pub fn resolved(&self) -> &[Resolved<'a>]
         ensures resolved { AreResolved (root_schema self.now) result.now }
         ensures calls { calls_of result.now ≡ root_calls self.now }
@@ -101,27 +101,27 @@ impl<'a> RootCalls<'a> {
         &self.calls
     }
 
-    /// Whether what each call puts is known.
+    /// Returns whether the write of each call is known.
     #[inline]
     pub(crate) fn are_known(&self) -> bool {
         matches!(self.found, Found::Plain { .. } | Found::Spliced)
     }
 
-    /// Whether each is a `get`.
+    /// Returns whether each is a `get`.
     #[inline]
     pub(crate) fn are_gets(&self) -> bool {
         matches!(self.found, Found::Gets)
     }
 
-    /// Puts what the calls set into a message whose n canonical words stand at the front of a
-    /// buffer. `Done` tells how many words there are then: the canonical words of what the calls
-    /// make of it, each of which is done.
+    /// Does the writes of the calls in a message whose n canonical words are at the front of a
+    /// buffer. `Done` has the number of words then: the canonical words of the calls' result, and
+    /// each call is done.
     ///
-    /// `Unplaced` where it isn't known what they put, or the first has no place: the words in use
-    /// are as they were. `Spoiled` where a later one has none, or an element of a list of structs
-    /// would get wider or narrower: some may be put, and the words are of no use. So it is too
-    /// where there are no calls and the root is null. `OutOfMemory`: the buffer is too short, and
-    /// can't grow.
+    /// `Unplaced` if their writes aren't known, or the first has no place: the used words are
+    /// unchanged. `Spoiled` if a later one has no place, or an element of a list of structs would
+    /// get wider or narrower: some writes may be done, and the words must not be used. The result
+    /// is also `Spoiled` if there are no calls and the root is null. `OutOfMemory`: the buffer is
+    /// too short, and can't grow.
     #[inline(always)]
     pub(crate) fn put(&self, words: &mut Vec<Word>, count: usize) -> Result<Spliced>
         requires { StandsWithin words.old.items count }

@@ -1,11 +1,11 @@
-//! Messages of several segments, of which the first are asked for once.
+//! Messages of several segments, whose first segments are looked up once.
 ghost use Rattle.std.specs.Prelude.{◌≡◌, pos, slice_get, option_copied};
 
 use capnp_units::sizes::SegmentId;
 use capnp_wire_objects::arena::ReaderArena;
 
-/// The segments of a message, of which the first four are asked for once: what is read of those
-/// goes by no table of segments.
+/// The segments of a message. The first four are looked up once, so reading them uses no table of
+/// segments.
 #[derive(Drop)]
 pub(crate) struct NearSegments<'a, M: ReaderArena> {
     message: &'a M,
@@ -20,7 +20,7 @@ pub(crate) struct NearSegments<'a, M: ReaderArena> {
 }
 
 impl<'a, M: ReaderArena> NearSegments<'a, M> {
-    /// The segments of this message.
+    /// Makes the segments of this message.
     #[inline(always)]
     pub(crate) fn new(message: &'a M) -> NearSegments<'a, M>
         ensures { result.message.now ≡ message.now }

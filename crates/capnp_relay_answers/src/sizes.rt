@@ -1,4 +1,4 @@
-//! How many words of memory a message and its edits may take.
+//! The number of words of memory that a message and its edits may take.
 ghost use Rattle.std.specs.Prelude.{◌≡◌, ◌↔◌, ◌≤◌, ◌<◌, ◌^◌, true, map, sum_by};
 ghost use Rattle.capnp_records.specs.NodeViews.{node_kind, node_of};
 ghost use Rattle.capnp_calls.specs.CallViews.{slot_value_view, action_view};
@@ -11,16 +11,16 @@ use capnp_calls::{Action, SlotValue};
 use capnp_records::node::{NodeBody, NodeRecord};
 use capnp_values_queries::structs::StructSchema;
 
-/// A message has fewer words in memory.
+/// The bound of a message's words in memory: a message has fewer.
 const WORDS: u64 = 1 << 29;
 
-/// The words that the value of a message is read within, when a call is made of it.
+/// The most words of the value of a message that a call sets.
 const VALUE_WORDS: u64 = 1 << 23;
 
-/// The words that are allowed for what a step of a path makes, as a power of 2.
+/// The words that are allowed for a step of a path, as a power of 2.
 const STEP_BITS: u32 = 16;
 
-/// The words of a node's structs; an enum has none.
+/// Returns the number of words of a node's structs; an enum has none.
 fn words_of_body(body: &NodeBody) -> u64
     ensures words { result ≡ words_of_kind (node_kind body.now) }
     ensures few { result < 2 ^ 17 }
@@ -33,7 +33,7 @@ fn words_of_body(body: &NodeBody) -> u64
     }
 }
 
-/// The words of the widest struct.
+/// Returns the number of words of the widest struct.
 fn widest_struct(nodes: &[NodeRecord]) -> u64
     ensures words { result ≡ widest_struct (map node_of nodes.now) }
     ensures few { result < 2 ^ 17 }
@@ -48,7 +48,7 @@ fn widest_struct(nodes: &[NodeRecord]) -> u64
     most
 }
 
-/// At most so many words, or elements, are in a value; 2^29 where they are more.
+/// Returns a bound of the words, or elements, of a value, at most 2^29.
 fn words_set(value: &SlotValue) -> u64
     ensures told { IsSumTold (most_set (slot_value_view value.now)) result }
     ensures few { result ≤ 2 ^ 29 }
@@ -61,7 +61,7 @@ fn words_set(value: &SlotValue) -> u64
     }
 }
 
-/// The words, or elements, that an action puts.
+/// Returns the number of words, or elements, that an action writes.
 fn words_put(action: &Action) -> u64
     ensures told { IsSumTold (most_put (action_view action.now)) result }
     ensures few { result < 2 ^ 32 }
@@ -73,7 +73,7 @@ fn words_put(action: &Action) -> u64
     }
 }
 
-/// The words, or elements, that a call puts at the end of its path and on it.
+/// Returns the number of words, or elements, that a call writes at the end of its path and on it.
 fn words_by(call: &Resolved<'_>) -> u64
     ensures told { IsSumTold (most_by (call_of call.now)) result }
     ensures few { result < 2 ^ 33 }
@@ -82,7 +82,7 @@ fn words_by(call: &Resolved<'_>) -> u64
     words_put(call.action()) + (steps << STEP_BITS)
 }
 
-/// Those of all calls; 2^29 where they are more.
+/// Returns the number for all calls, at most 2^29.
 fn words_by_all(calls: &[Resolved<'_>]) -> u64
     ensures told { IsSumTold (sum_by most_by (calls_of calls.now)) result }
     ensures few { result ≤ 2 ^ 29 }
@@ -94,8 +94,8 @@ fn words_by_all(calls: &[Resolved<'_>]) -> u64
     sum
 }
 
-/// Whether a message within the bounds and its edits by the calls may take so many words of memory
-/// that they pass those of a message.
+/// Returns whether a message within the bounds and its edits by the calls may take more words of
+/// memory than a message has.
 pub(crate) fn may_pass_words(
     schema: StructSchema<'_>,
     calls: &[Resolved<'_>],
