@@ -7,7 +7,7 @@ use crate::types::Binding;
 use std::alloc::{AllocError, AllocFailed, Global};
 use std::collections::HashMap;
 
-/// How many nodes may be bound.
+/// The most nodes that may be bound.
 pub const MOST_BOUND: usize = 16_384;
 
 /// A generic node whose parameters are bound.
@@ -16,20 +16,20 @@ pub struct BoundNode {
     pub id: u64,
     /// The id of the generic node.
     pub generic: u64,
-    /// Its name, with what its parameters are bound to.
+    /// Its name, with the types to which its parameters are bound.
     pub name: String,
     pub bindings: Vec<Binding>,
     key: Vec<u8>,
 }
 
-/// Why nodes can't be bound.
+/// The reason for which nodes can't be bound.
 #[derive(Clone, Copy)]
 pub enum BindFault {
-    /// More than `MOST_BOUND` nodes.
+    /// There are more than `MOST_BOUND` nodes.
     TooMany,
-    /// Two nodes, or other bindings of one, have the same id.
+    /// Two nodes, or two bindings of one node, have the same id.
     Clash,
-    /// A growth was refused.
+    /// An allocation was refused.
     Memory,
 }
 
@@ -61,7 +61,7 @@ impl BoundNodes {
     ghost use Rattle.std.specs.Prelude.{◌≡◌, IfOk};
     ghost use Rattle.capnp_relay_bindings.specs.Identity.{bound_id};
 
-    /// No nodes.
+    /// Makes an empty set of nodes.
     pub fn new(alloc: Global) -> BoundNodes {
         BoundNodes {
             nodes: Vec::new(alloc),
@@ -69,18 +69,18 @@ impl BoundNodes {
         }
     }
 
-    /// The nodes.
+    /// Returns the nodes.
     pub fn nodes(&self) -> &[BoundNode] {
         self.nodes.as_slice()
     }
 
-    /// The node of an id.
+    /// Returns the node of an id.
     pub fn get(&self, id: u64) -> Option<&BoundNode> {
         let place = *self.places.get(&id)?;
         self.nodes.get(place)
     }
 
-    /// Puts a node of an id behind the others.
+    /// Appends a node of an id.
     fn push(
         &mut self,
         alloc: Global,
@@ -106,8 +106,8 @@ impl BoundNodes {
         Ok(())
     }
 
-    /// The id of a node with these bindings: its own where nothing is bound. A node that wasn't
-    /// there is put behind the others.
+    /// Returns the id of a node with these bindings: its own if nothing is bound. A new node is
+    /// appended.
     pub fn bind(
         &mut self,
         alloc: Global,

@@ -6,7 +6,7 @@ ghost use Rattle.capnp_records.specs.NodeViews.{value_of, annotation_of, kind_of
 use capnp_records::node::{AnnotationRecord, EnumerantRecord, FieldBody, FieldRecord, Value};
 use std::alloc::{AllocError, Global};
 
-/// A copy of a value.
+/// Returns a copy of a value.
 fn value_copy(alloc: Global, value: &Value) -> Result<Value, AllocError>
     ensures { IfOk result (λ v. value_of v ≡ value_of value.now) }
 {
@@ -31,7 +31,7 @@ fn value_copy(alloc: Global, value: &Value) -> Result<Value, AllocError>
     })
 }
 
-/// A copy of a default.
+/// Returns a copy of a default.
 fn default_copy(alloc: Global, value: &Option<Value>) -> Result<Option<Value>, AllocError>
     ensures { IfOk result (λ v. option_map value_of v ≡ option_map value_of value.now) }
 {
@@ -41,7 +41,7 @@ fn default_copy(alloc: Global, value: &Option<Value>) -> Result<Option<Value>, A
     }
 }
 
-/// A copy of an annotation.
+/// Returns a copy of an annotation.
 fn annotation_copy(
     alloc: Global,
     annotation: &AnnotationRecord,
@@ -55,7 +55,7 @@ fn annotation_copy(
     })
 }
 
-/// A copy of annotations.
+/// Returns a copy of annotations.
 pub(crate) fn annotations_copy(
     alloc: Global,
     annotations: &[AnnotationRecord],
@@ -71,7 +71,7 @@ pub(crate) fn annotations_copy(
     Ok(copies)
 }
 
-/// A copy of what a field is.
+/// Returns a copy of a field's body.
 fn body_copy(alloc: Global, body: &FieldBody) -> Result<FieldBody, AllocError>
     ensures { IfOk result (λ b. kind_of_field b ≡ kind_of_field body.now) }
 {
@@ -89,7 +89,7 @@ fn body_copy(alloc: Global, body: &FieldBody) -> Result<FieldBody, AllocError>
     }
 }
 
-/// A copy of a field.
+/// Returns a copy of a field.
 pub(crate) fn field_copy(alloc: Global, field: &FieldRecord) -> Result<FieldRecord, AllocError>
     ensures { IfOk result (λ f. field_of f ≡ field_of field.now) }
 {
@@ -101,7 +101,7 @@ pub(crate) fn field_copy(alloc: Global, field: &FieldRecord) -> Result<FieldReco
     })
 }
 
-/// A copy of an enumerant.
+/// Returns a copy of an enumerant.
 fn enumerant_copy(alloc: Global, enumerant: &EnumerantRecord) -> Result<EnumerantRecord, AllocError>
     ensures { IfOk result (λ e. enumerant_of e ≡ enumerant_of enumerant.now) }
 {
@@ -111,7 +111,7 @@ fn enumerant_copy(alloc: Global, enumerant: &EnumerantRecord) -> Result<Enumeran
     })
 }
 
-/// Copies of enumerants.
+/// Returns copies of enumerants.
 pub(crate) fn enumerants_copy(
     alloc: Global,
     enumerants: &[EnumerantRecord],

@@ -8,10 +8,10 @@ use capnp_records::node::BaseType;
 use sha2::{Digest, Sha256};
 use std::alloc::{AllocError, Global};
 
-/// The bit that is set in the ids of the compiler too.
+/// The bit that is also set in the ids of the compiler.
 const TOP: u64 = 1 << 63;
 
-/// The number of a base: that of its member in the union of types.
+/// Returns the number of a base: that of its member in the union of types.
 fn base_number(base: BaseType) -> u64
     ensures { result ≡ base_number base }
 {
@@ -37,7 +37,7 @@ fn base_number(base: BaseType) -> u64
     }
 }
 
-/// The id that a base names; 0 if it names none.
+/// Returns the id that a base names; 0 if it names no id.
 fn base_id(base: BaseType) -> u64
     ensures { result ≡ base_id base }
 {
@@ -55,7 +55,7 @@ fn put_number(key: &mut Vec<u8>, number: u64) -> Result<(), AllocError>
     key.extend_from_slice(&number.to_le_bytes())
 }
 
-/// Writes a type: how many times it is a list, its base, the id that this names, and its interface.
+/// Writes a type: how many times it is a list, its base, the id of the base, and its interface.
 fn put_type(key: &mut Vec<u8>, to: BoundType) -> Result<(), AllocError>
     ensures { IfOk result (λ _. key.new.items ≡ with_type key.old.items to) }
 {
@@ -86,7 +86,8 @@ fn put_bindings(key: &mut Vec<u8>, bindings: &[Binding]) -> Result<(), AllocErro
     Ok(())
 }
 
-/// What is digested of a generic node with bindings: its id, and the bindings in their order.
+/// Returns the bytes that are digested for a generic node with bindings: its id, and the bindings
+/// in order.
 pub fn key_of(alloc: Global, generic: u64, bindings: &[Binding]) -> Result<Vec<u8>, AllocError>
     ensures { IfOk result (λ key. key.items ≡ key_of generic bindings.now) }
 {
@@ -96,7 +97,7 @@ pub fn key_of(alloc: Global, generic: u64, bindings: &[Binding]) -> Result<Vec<u
     Ok(key)
 }
 
-/// The id of a key: the first eight bytes of its digest, with the top bit set.
+/// Returns the id of a key: the first eight bytes of its digest, with the top bit set.
 pub fn id_of_key(key: &[u8]) -> u64
     ensures { result ≡ id_of_key key.now }
 {

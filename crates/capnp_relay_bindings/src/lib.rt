@@ -1,4 +1,4 @@
-//! Generic types of a request, bound to what their parameters are bound to.
+//! Generic types of a request, with the types to which their parameters are bound.
 #![tactic(auto)]
 
 pub mod bound;

@@ -6,10 +6,10 @@ use crate::types::{Binding, BoundType, bound_to};
 use capnp_records::node::BaseType;
 use std::alloc::{AllocError, Global};
 
-/// How many bytes of arguments a name shows; more are shown as `..`.
+/// The most bytes of arguments that a name shows; more are shown as `..`.
 const MOST_SHOWN: usize = 200;
 
-/// The name of a node, bound or not.
+/// Returns the name of a node, bound or not.
 fn name_of<'a>(scopes: &'a Scopes, bound: &'a BoundNodes, id: u64) -> &'a str {
     if let Some(node) = bound.get(id) {
         return node.name.as_str();
@@ -20,7 +20,7 @@ fn name_of<'a>(scopes: &'a Scopes, bound: &'a BoundNodes, id: u64) -> &'a str {
     }
 }
 
-/// The name of a base.
+/// Returns the name of a base.
 fn base_name<'a>(scopes: &'a Scopes, bound: &'a BoundNodes, to: BoundType) -> &'a str {
     match to.ty.base {
         BaseType::Void => "Void",
@@ -62,7 +62,7 @@ fn put_type(
     Ok(())
 }
 
-/// The types that the parameters of a scope are bound to, with commas between them.
+/// Returns the types to which the parameters of a scope are bound, with commas between them.
 fn arguments(
     alloc: Global,
     scopes: &Scopes,
@@ -90,12 +90,12 @@ fn arguments(
     Ok(text)
 }
 
-/// Whether a parameter of a scope is bound.
+/// Returns whether a parameter of a scope is bound.
 fn is_bound(bindings: &[Binding], scope: u64) -> bool {
     bindings.iter().any(|binding| binding.scope == scope)
 }
 
-/// The name of a node with bindings, as `Map(Text, Text).Entry`.
+/// Returns the name of a node with bindings, such as `Map(Text, Text).Entry`.
 pub(crate) fn bound_name(
     alloc: Global,
     scopes: &Scopes,

@@ -1,4 +1,4 @@
-//! Which node records are made of those that a request tells, and with which types.
+//! Plans of the node records that are made from those of a request, with their types.
 
 ghost use Rattle.std.specs.Prelude.{◌≡◌, map, option_map, option_copied, slice_get, IfOk};
 ghost use Rattle.capnp_records.specs.NodeViews.{base_of, type_record_of, kind_of_field, field_of, struct_of, node_kind, node_of};
@@ -10,7 +10,7 @@ use capnp_records::node::{
 };
 use std::alloc::{AllocError, Global};
 
-/// What a field is once the parameters are bound.
+/// The body of a field after the parameters are bound.
 #[derive(Clone, Copy)]
 pub enum Retyped {
     /// A slot of this type.
@@ -19,18 +19,18 @@ pub enum Retyped {
     Group(u64),
 }
 
-/// A node record that is to be made.
+/// The plan of a node record.
 #[derive(Drop)]
 pub struct Plan {
-    /// The place among the records that are told of the struct or group that is bound.
+    /// The place of the struct or group that is bound among the records of the request.
     pub place: usize,
     pub id: u64,
     pub name: String,
-    /// What each of its fields becomes.
+    /// The new body of each of its fields.
     pub fields: Vec<Retyped>,
 }
 
-/// Whether the values of a type lie behind pointers.
+/// Returns whether pointers lead to the values of a type.
 fn is_pointer_type(ty: TypeRecord) -> bool
     ensures { result ≡ is_pointer_type (type_record_of ty) }
 {
@@ -45,8 +45,8 @@ fn is_pointer_type(ty: TypeRecord) -> bool
         )
 }
 
-/// Whether a type may become another where parameters are bound: an untyped pointer any type behind
-/// a pointer, and a struct another struct.
+/// Returns whether a type may become another when parameters are bound: an untyped pointer any type
+/// with a pointer, and a struct another struct.
 fn may_become(was: TypeRecord, to: TypeRecord) -> bool
     ensures { result ≡ may_become (type_record_of was) (type_record_of to) }
 {
@@ -57,7 +57,7 @@ fn may_become(was: TypeRecord, to: TypeRecord) -> bool
     }
 }
 
-/// What a field is once it became what is planned.
+/// Returns the planned body of a field.
 fn body_as(body: FieldBody, to: Retyped) -> FieldBody
     ensures { kind_of_field result ≡ retyped_kind (kind_of_field body) to }
 {
@@ -79,7 +79,7 @@ fn body_as(body: FieldBody, to: Retyped) -> FieldBody
     }
 }
 
-/// A field that becomes what is planned.
+/// Returns a field with its planned body.
 fn field_as(field: FieldRecord, to: Retyped) -> FieldRecord
     ensures { field_of result ≡ retyped_field (field_of field) to }
 {
@@ -97,7 +97,7 @@ fn field_as(field: FieldRecord, to: Retyped) -> FieldRecord
     }
 }
 
-/// Copies of fields, each of which becomes what is planned.
+/// Returns copies of fields, each with its planned body.
 fn fields_by(
     alloc: Global,
     fields: &[FieldRecord],
@@ -123,7 +123,7 @@ fn fields_by(
     Ok(made)
 }
 
-/// The struct of a node, with fields as they are planned.
+/// Returns the struct of a node, with its planned fields.
 fn struct_by(
     alloc: Global,
     told: &StructRecord,
@@ -142,7 +142,7 @@ fn struct_by(
     })
 }
 
-/// What a node is, with fields as they are planned.
+/// Returns the body of a node, with its planned fields.
 fn body_by(alloc: Global, body: &NodeBody, plan: &[Retyped]) -> Result<NodeBody, AllocError>
     ensures { IfOk result (λ b. node_kind b ≡ retyped_node_kind (node_kind body.now) plan.now) }
 {
@@ -152,7 +152,7 @@ fn body_by(alloc: Global, body: &NodeBody, plan: &[Retyped]) -> Result<NodeBody,
     }
 }
 
-/// The record that a plan makes of one that is told.
+/// Returns the record that a plan makes from a record of the request.
 fn node_by(alloc: Global, told: &NodeRecord, plan: &Plan) -> Result<NodeRecord, AllocError>
     ensures { IfOk result (λ n. node_of n ≡ planned_node (node_of told.now) plan.now) }
 {
@@ -164,7 +164,7 @@ fn node_by(alloc: Global, told: &NodeRecord, plan: &Plan) -> Result<NodeRecord, 
     })
 }
 
-/// The record of a place among those that are told.
+/// Returns the record of a place among those of the request.
 #[tactic(auto, using(crate::proofs::Places::record_at))]
 fn told_at(told: &[NodeRecord], place: usize) -> Option<&NodeRecord>
     ensures { option_map node_of (option_copied result) ≡ slice_get (map node_of told.now) place }
@@ -172,7 +172,7 @@ fn told_at(told: &[NodeRecord], place: usize) -> Option<&NodeRecord>
     told.get(place)
 }
 
-/// Puts the record that a plan makes of another behind others, if there is this.
+/// Appends the record that a plan makes from another, if that record exists.
 fn push_planned(
     alloc: Global,
     nodes: &mut Vec<NodeRecord>,
@@ -188,8 +188,8 @@ fn push_planned(
     Ok(())
 }
 
-/// The records that plans make of those that are told, in the order of the plans. A plan of a
-/// record that isn't told makes none.
+/// Returns the records that plans make from those of the request, in the order of the plans. A plan
+/// for a record that doesn't exist makes none.
 pub fn nodes_by(
     alloc: Global,
     told: &[NodeRecord],

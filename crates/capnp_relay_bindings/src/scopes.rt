@@ -1,17 +1,17 @@
-//! The nodes of a request, and the scopes in which they lie.
+//! The nodes of a request, and their scopes.
 
 use std::alloc::{AllocError, Global};
 use std::collections::HashMap;
 
-/// How many scopes may lie around a node.
+/// The most scopes around a node.
 const MOST_SCOPES: u32 = 64;
 
-/// What a request says of a node's name and scope.
+/// The name and scope of a node in a request.
 #[derive(Drop)]
 pub struct Declared {
-    /// The id of the node in which it lies; 0 of a file.
+    /// The id of the node that is its scope; 0 for a file.
     pub scope: u64,
-    /// How many parameters it has.
+    /// The number of its parameters.
     pub parameters: u32,
     pub is_file: bool,
     /// Its own name, without that of its scope.
@@ -27,25 +27,25 @@ pub struct Scopes {
 }
 
 impl Scopes {
-    /// No nodes.
+    /// Makes an empty set of nodes.
     pub fn new(alloc: Global) -> Scopes {
         Scopes {
             nodes: HashMap::new(alloc),
         }
     }
 
-    /// Puts a node at its id.
+    /// Stores a node at its id.
     pub fn declare(&mut self, id: u64, node: Declared) -> Result<(), AllocError> {
         self.nodes.insert(id, node)?;
         Ok(())
     }
 
-    /// The node of an id.
+    /// Returns the node of an id.
     pub fn get(&self, id: u64) -> Option<&Declared> {
         self.nodes.get(&id)
     }
 
-    /// The node of an id and the scopes around it, the innermost first, without the file.
+    /// Returns the node of an id and the scopes around it, the innermost first, without the file.
     pub fn around(&self, alloc: Global, id: u64) -> Result<Vec<u64>, AllocError> {
         let mut scopes = Vec::new(alloc);
         let mut at = id;

@@ -5,20 +5,20 @@ ghost use Rattle.capnp_relay_bindings.specs.Types.{is_pointer_base, bound_to};
 
 use capnp_records::node::{BaseType, TypeRecord};
 
-/// How many types may be nested in an argument; a deeper one is the untyped pointer.
+/// The most nested types of an argument; a deeper type is the untyped pointer.
 pub const MOST_NESTED: u32 = 16;
 
 /// A type without parameters.
 #[derive(Clone, Copy)]
 pub struct BoundType {
     pub ty: TypeRecord,
-    /// The interface whose capability it is, by its id; 0 of any capability, and of another type.
+    /// The interface of the capability, by its id; 0 for any capability, and for another type.
     pub interface: u64,
-    /// How many types are nested in it, itself among them.
+    /// The number of nested types, including the type itself.
     pub depth: u32,
 }
 
-/// Whether the values of a base lie behind pointers.
+/// Returns whether pointers lead to the values of a base.
 fn is_pointer_base(base: BaseType) -> bool
     ensures { result ≡ is_pointer_base base }
 {
@@ -37,7 +37,7 @@ impl BoundType {
     ghost use Rattle.capnp_records.specs.declared.node.BaseType.TheVariants.{AnyPointer, Capability};
     ghost use Rattle.capnp_relay_bindings.specs.Types.{plain_type, argument_of};
 
-    /// A type that isn't nested.
+    /// Makes a type that isn't nested.
     pub fn of(base: BaseType) -> BoundType
         ensures { result ≡ plain_type base }
     {
@@ -51,14 +51,14 @@ impl BoundType {
         }
     }
 
-    /// The untyped pointer.
+    /// Makes the untyped pointer.
     pub fn untyped() -> BoundType
         ensures { result ≡ plain_type AnyPointer }
     {
         BoundType::of(BaseType::AnyPointer)
     }
 
-    /// A capability of an interface.
+    /// Makes a capability of an interface.
     pub fn capability(interface: u64) -> BoundType
         ensures { result ≡ record (plain_type Capability) { interface = interface } }
     {
@@ -68,7 +68,7 @@ impl BoundType {
         }
     }
 
-    /// A list of the type.
+    /// Returns the list of the type.
     pub fn in_list(self) -> BoundType {
         BoundType {
             ty: TypeRecord {
@@ -80,13 +80,13 @@ impl BoundType {
         }
     }
 
-    /// Whether it is the untyped pointer.
+    /// Returns whether the type is the untyped pointer.
     pub fn is_untyped(self) -> bool {
         self.ty.list_count == 0 && self.ty.base == BaseType::AnyPointer
     }
 
-    /// The type as an argument: the untyped pointer where too many types are nested in it, or where
-    /// its values don't lie behind pointers.
+    /// Returns the type as an argument: the untyped pointer if too many types are nested in it, or
+    /// if its values don't have pointers.
     pub fn as_argument(self) -> BoundType
         ensures { result ≡ argument_of self }
     {
@@ -99,7 +99,7 @@ impl BoundType {
     }
 }
 
-/// What a parameter of a scope is bound to. A parameter that isn't bound has no binding.
+/// The type to which a parameter of a scope is bound. A parameter that isn't bound has no binding.
 #[derive(Clone, Copy)]
 pub struct Binding {
     /// The id of the node that has the parameter.
@@ -109,7 +109,8 @@ pub struct Binding {
     pub to: BoundType,
 }
 
-/// The type that a parameter is bound to; one that isn't bound is the untyped pointer.
+/// Returns the type to which a parameter is bound; a parameter that isn't bound is the untyped
+/// pointer.
 pub fn bound_to(bindings: &[Binding], scope: u64, index: u32) -> BoundType
     ensures { result ≡ bound_to bindings.now scope index }
 {
@@ -123,7 +124,7 @@ pub fn bound_to(bindings: &[Binding], scope: u64, index: u32) -> BoundType
     BoundType::untyped()
 }
 
-/// How many types are nested in a type of these bindings.
+/// Returns the number of nested types in a type with these bindings.
 pub fn depth_of(bindings: &[Binding]) -> u32 {
     let mut most = 0;
     for binding in bindings {

@@ -1,4 +1,4 @@
-//! Annotations, whose types their own nodes tell.
+//! Annotations, whose types are in their own nodes.
 
 ghost use Rattle.std.specs.Prelude.{◌≡◌, ◌≢◌, ℕ, nat_eq, map, option_map, Ok, IfOk, IfErr};
 ghost use Rattle.std.specs.HashMap.{get};
@@ -25,7 +25,7 @@ use std::collections::HashMap;
 /// The member of the union of nodes that is an annotation.
 const ANNOTATION: u16 = 5;
 
-/// The type that a node declares, where it is an annotation's.
+/// Returns the type that a node declares, if the node is an annotation's.
 fn declared_type<A: ReaderArena>(node: &StructReader<'_, A>) -> Option<TypeRecord>
     ensures { option_map type_record_of result
         ≡ declared_type (seen_struct A.segments node.now) }
@@ -37,7 +37,7 @@ fn declared_type<A: ReaderArena>(node: &StructReader<'_, A>) -> Option<TypeRecor
     }
 }
 
-/// Puts the type that a node declares at its id.
+/// Stores the type that a node declares at its id.
 fn declare<A: ReaderArena>(
     types: &mut HashMap<u64, TypeRecord>,
     node: &StructReader<'_, A>,
@@ -52,7 +52,7 @@ fn declare<A: ReaderArena>(
     Ok(())
 }
 
-/// The types of annotations, by the ids of their nodes; the first node of an id counts.
+/// Returns the types of annotations, by the ids of their nodes; the first node of an id counts.
 pub(crate) fn declared_types<A: ReaderArena>(
     alloc: Global,
     nodes: &ListReader<'_, A>,
@@ -72,7 +72,7 @@ pub(crate) fn declared_types<A: ReaderArena>(
     Ok(types)
 }
 
-/// What a null pointer is of a type.
+/// Returns the value of a null pointer of a type.
 fn null_value(alloc: Global, ty: TypeRecord) -> Result<Value, AllocError>
     ensures { IfOk result (λ x. value_of x ≡ null_value (type_record_of ty)) }
 {
@@ -89,7 +89,7 @@ fn null_value(alloc: Global, ty: TypeRecord) -> Result<Value, AllocError>
     }
 }
 
-/// The value that was read, and in place of a null pointer that of the type.
+/// Returns the value that was read; for a null pointer it returns that of the type.
 fn value_or_null(alloc: Global, ty: TypeRecord, value: Option<Value>) -> Result<Value, AllocError>
     ensures { IfOk result (λ x. value_of x
         ≡ value_or_null (type_record_of ty) (option_map value_of value)) }
@@ -100,7 +100,7 @@ fn value_or_null(alloc: Global, ty: TypeRecord, value: Option<Value>) -> Result<
     }
 }
 
-/// What the request says that members and nodes refer to.
+/// The parts of the request to which members and nodes refer.
 #[derive(Drop)]
 pub(crate) struct Context {
     pub(crate) floats: Floats,
@@ -108,7 +108,7 @@ pub(crate) struct Context {
     pub(crate) types: HashMap<u64, TypeRecord>,
 }
 
-/// An annotation.
+/// Returns an annotation.
 fn annotation_of<A: ReaderArena>(
     alloc: Global,
     spot: Spot,
@@ -156,7 +156,7 @@ fn annotations_of<A: ReaderArena>(
     Ok(annotations)
 }
 
-/// The annotations behind a pointer of a node or a member.
+/// Returns the annotations that a pointer of a node or a member leads to.
 pub(crate) fn annotations_at<A: ReaderArena>(
     alloc: Global,
     spot: Spot,

@@ -33,10 +33,10 @@ const BIND: u16 = 0;
 
 const INHERIT: u16 = 1;
 
-/// How many types may be nested in a field's type; deeper ones are untyped pointers.
+/// The most nested types of a field's type; deeper types are untyped pointers.
 pub(crate) const MOST_TYPES: u32 = 64;
 
-/// What binds types: the scopes of the request, and the bound nodes that were reached.
+/// The state of binding types: the scopes of the request, and the bound nodes that were reached.
 #[derive(Drop)]
 pub(crate) struct Binder {
     pub(crate) alloc: Global,
@@ -45,13 +45,13 @@ pub(crate) struct Binder {
 }
 
 impl Binder {
-    /// The id of a generic node with bindings.
+    /// Returns the id of a generic node with bindings.
     pub(crate) fn bind(&mut self, generic: u64, bindings: Vec<Binding>) -> Result<u64, BindFault> {
         self.bound.bind(self.alloc, &self.scopes, generic, bindings)
     }
 }
 
-/// The bindings of a scope among others, put behind further ones.
+/// Appends the bindings of a scope, out of others, to further bindings.
 fn inherit(found: &mut Vec<Binding>, bindings: &[Binding], scope: u64) -> Result<(), AllocError> {
     for binding in bindings {
         if binding.scope == scope {
@@ -61,7 +61,8 @@ fn inherit(found: &mut Vec<Binding>, bindings: &[Binding], scope: u64) -> Result
     Ok(())
 }
 
-/// The bindings that a group within the scope of others has, or what else goes by all of them.
+/// Returns the bindings of a group, or of another node that inherits them, within the scope of
+/// others.
 pub(crate) fn inherited(
     alloc: Global,
     scopes: &Scopes,
@@ -79,7 +80,7 @@ pub(crate) fn inherited(
     Ok(found)
 }
 
-/// What a brand says of a scope.
+/// Returns the part of a brand for a scope.
 fn scope_in<'a, A: ReaderArena>(
     brand: &ListReader<'a, A>,
     scope: u64,
@@ -95,7 +96,7 @@ fn scope_in<'a, A: ReaderArena>(
     None
 }
 
-/// Puts what the parameters of a scope are bound to behind other bindings.
+/// Appends the bindings of the parameters of a scope to others.
 #[cycle(binding)]
 fn push_bound<A: ReaderArena>(
     binder: &mut Binder,
@@ -122,7 +123,7 @@ fn push_bound<A: ReaderArena>(
     Ok(())
 }
 
-/// The bindings that the brand of a type gives the node of an id.
+/// Returns the bindings that the brand of a type gives the node of an id.
 #[cycle(binding)]
 fn bindings_in<A: ReaderArena>(
     binder: &mut Binder,
@@ -154,7 +155,7 @@ fn bindings_in<A: ReaderArena>(
     Ok(found)
 }
 
-/// A struct or an interface with its brand: its id, and how many types are nested in it.
+/// Returns a struct or an interface with its brand: its id, and the number of types nested in it.
 #[cycle(binding)]
 fn branded<A: ReaderArena>(
     binder: &mut Binder,
@@ -176,7 +177,7 @@ fn branded<A: ReaderArena>(
     Ok(BoundType { depth, ..bound })
 }
 
-/// The type that a parameter is bound to, or the type of an untyped pointer.
+/// Returns the type to which a parameter is bound, or the type of an untyped pointer.
 fn parameter_in<A: ReaderArena>(bindings: &[Binding], ty: &StructReader<'_, A>) -> BoundType {
     if ty.get_data_field::<u16>(4) == PARAMETER {
         let scope = ty.get_data_field::<u64>(2);
@@ -189,8 +190,8 @@ fn parameter_in<A: ReaderArena>(bindings: &[Binding], ty: &StructReader<'_, A>) 
     }
 }
 
-/// A type within a scope of these bindings. What can't be read is the untyped pointer, as are types
-/// nested deeper than n levels.
+/// Returns a type within a scope of these bindings. A type that can't be read is the untyped
+/// pointer, and so are types nested deeper than n levels.
 #[cycle(binding)]
 pub(crate) fn type_in<A: ReaderArena>(
     binder: &mut Binder,

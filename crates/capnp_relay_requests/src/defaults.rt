@@ -14,7 +14,7 @@ use capnp_wire::structs::StructReader;
 use capnp_wire_objects::arena::ReaderArena;
 use std::alloc::Global;
 
-/// The member of the union of values for a base.
+/// Returns the member of the union of values for a base.
 fn member_of_base(base: BaseType) -> u16
     ensures { result ≡ member_of_base (base_of base) }
 {
@@ -40,7 +40,7 @@ fn member_of_base(base: BaseType) -> u16
     }
 }
 
-/// The member of the union of values for a type.
+/// Returns the member of the union of values for a type.
 fn member_of(ty: TypeRecord) -> u16
     ensures { result ≡ member_of_type (type_record_of ty) }
 {
@@ -51,7 +51,7 @@ fn member_of(ty: TypeRecord) -> u16
     }
 }
 
-/// Whether a type is that of any capability, whose value is told as an untyped pointer.
+/// Returns whether a type is that of any capability, whose value is given as an untyped pointer.
 fn is_untyped_capability(ty: TypeRecord) -> bool
     ensures { result ≡ is_untyped_capability (type_record_of ty) }
 {
@@ -61,14 +61,15 @@ fn is_untyped_capability(ty: TypeRecord) -> bool
     }
 }
 
-/// Whether a member of the union of values is for a type.
+/// Returns whether a member of the union of values is for a type.
 fn is_member_of(member: u16, ty: TypeRecord) -> bool
     ensures { result ≡ is_member_of member (type_record_of ty) }
 {
     (member == 18 && is_untyped_capability(ty)) || member == member_of(ty)
 }
 
-/// The value of a plain base, with the bits of a float as a whole number; none of another.
+/// Returns the value of a plain base, with the bits of a float as a whole number; `None` for
+/// another base.
 fn plain_value<A: ReaderArena>(base: BaseType, value: &StructReader<'_, A>) -> Option<Value>
     ensures { option_map value_of result
         ≡ plain_value (base_of base) (seen_struct A.segments value.now) }
@@ -97,8 +98,7 @@ fn plain_value<A: ReaderArena>(base: BaseType, value: &StructReader<'_, A>) -> O
     }
 }
 
-/// The value behind the pointer of a value, which isn't null. An untyped one and a capability can't
-/// be told.
+/// Returns the value of a pointer, which isn't null. Untyped values and capabilities are refused.
 fn pointed_value<A: ReaderArena>(
     alloc: Global,
     fault: RequestFault,
@@ -124,7 +124,7 @@ fn pointed_value<A: ReaderArena>(
     }
 }
 
-/// The value of a base; `None` where it is a null pointer.
+/// Returns the value of a base; `None` for a null pointer.
 fn base_value<A: ReaderArena>(
     alloc: Global,
     fault: RequestFault,
@@ -145,7 +145,7 @@ fn base_value<A: ReaderArena>(
     Ok(Some(pointed_value(alloc, fault, base, value)?))
 }
 
-/// The value of a list; `None` where it is a null pointer.
+/// Returns the value of a list; `None` for a null pointer.
 fn list_value<A: ReaderArena>(
     alloc: Global,
     fault: RequestFault,
@@ -164,7 +164,7 @@ fn list_value<A: ReaderArena>(
     Ok(Some(Value::List(segment_behind(alloc, value)?)))
 }
 
-/// The value of a type; `None` where it is a null pointer.
+/// Returns the value of a type; `None` for a null pointer.
 pub(crate) fn value_in<A: ReaderArena>(
     alloc: Global,
     fault: RequestFault,

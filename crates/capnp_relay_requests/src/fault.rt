@@ -1,4 +1,4 @@
-//! Why a request is refused.
+//! The reasons for which a request is refused.
 
 ghost use Rattle.std.specs.Prelude.{◌≡◌};
 ghost use Rattle.capnp_relay_requests.specs.declared.fault.RequestFault.TheVariants.{Unread};
@@ -6,19 +6,19 @@ ghost use Rattle.capnp_relay_requests.specs.declared.fault.RequestFault.TheVaria
 use capnp_relay_bindings::bound::BindFault;
 use std::alloc::{AllocError, AllocFailed};
 
-/// What of a node or of one of its members can't be read.
+/// The part of a node or of one of its members that can't be read.
 #[derive(Clone, Copy, Debug, PartialEq, Eq, thiserror::Error)]
 pub enum Part {
     /// The union of the node or the field has a member that schema.capnp doesn't name.
     #[error("its kind can't be read")]
     Kind,
-    /// The name is no text in UTF-8.
+    /// The name is not valid UTF-8 text.
     #[error("its name can't be read")]
     Name,
-    /// The members of a struct or an enum are no list of structs.
+    /// The members of a struct or an enum are not a list of structs.
     #[error("its members can't be read")]
     Members,
-    /// The type is no struct, has a member that schema.capnp doesn't name, or nests more than 64
+    /// The type is not a struct, has a member that schema.capnp doesn't name, or nests more than 64
     /// lists.
     #[error("its type can't be read")]
     FieldType,
@@ -28,7 +28,7 @@ pub enum Part {
     /// The type is a float or a list of floats, which are refused.
     #[error("it is a float")]
     Float,
-    /// The annotations are no list of structs, or the value of one can't be read.
+    /// The annotations are not a list of structs, or the value of an annotation can't be read.
     #[error("its annotations can't be read")]
     Annotations,
 }
@@ -44,14 +44,14 @@ pub enum Spot {
     Member { node: u64, index: u32 },
 }
 
-/// Why a request is refused.
+/// The reason for which a request is refused.
 #[derive(Clone, Copy, Debug, PartialEq, Eq, thiserror::Error)]
 pub enum RequestFault {
     /// The bytes aren't one frame whose value has at most 64 levels, costs at most 2^23 words and
     /// has no capability.
     #[error("not one whole message (is it a file of messages?)")]
     Message,
-    /// The root is no struct, or its nodes are no list of structs.
+    /// The root is not a struct, or its nodes are not a list of structs.
     #[error("its nodes can't be read")]
     Request,
     /// Part of a node or of a member can't be read.
@@ -64,7 +64,7 @@ pub enum RequestFault {
     Memory,
 }
 
-/// A part of a node or of a member can't be read.
+/// Returns the fault of a part of a node or of a member that can't be read.
 pub(crate) fn unread(spot: Spot, part: Part) -> RequestFault
     ensures { result ≡ Unread spot part }
 {

@@ -21,7 +21,7 @@ use capnp_wire::structs::StructReader;
 use capnp_wire_objects::arena::ReaderArena;
 use std::alloc::Global;
 
-/// A slot.
+/// Returns a slot.
 fn slot_of<A: ReaderArena>(
     alloc: Global,
     spot: Spot,
@@ -45,7 +45,7 @@ fn slot_of<A: ReaderArena>(
     })
 }
 
-/// What a field is: a slot or a group.
+/// Returns the body of a field: a slot or a group.
 fn body_of<A: ReaderArena>(
     alloc: Global,
     spot: Spot,
@@ -67,7 +67,7 @@ fn body_of<A: ReaderArena>(
     }
 }
 
-/// A field.
+/// Returns a field.
 fn field_of<A: ReaderArena>(
     alloc: Global,
     spot: Spot,
@@ -90,7 +90,7 @@ fn field_of<A: ReaderArena>(
     })
 }
 
-/// The fields of the struct of an id.
+/// Returns the fields of the struct of an id.
 pub(crate) fn fields_of<A: ReaderArena>(
     alloc: Global,
     node: u64,

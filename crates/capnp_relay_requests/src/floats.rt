@@ -16,14 +16,14 @@ use capnp_wire::structs::StructReader;
 use capnp_wire_objects::arena::ReaderArena;
 use std::alloc::{AllocError, Global};
 
-/// Whether the type is a float, or n times a list of one.
+/// Returns whether the type is a float, or n times a list of floats.
 pub(crate) fn is_float(ty: TypeRecord) -> bool
     ensures { result ≡ is_float (type_record_of ty).base }
 {
     matches!(ty.base, BaseType::Float32 | BaseType::Float64)
 }
 
-/// The whole number of a float's bits; another base stays as it is.
+/// Returns the whole number of a float's bits; another base is unchanged.
 fn base_as_bits(base: BaseType) -> BaseType
     ensures { base_of result ≡ base_as_bits (base_of base) }
 {
@@ -34,7 +34,7 @@ fn base_as_bits(base: BaseType) -> BaseType
     }
 }
 
-/// The type with whole numbers in place of floats, where they aren't refused.
+/// Returns the type with whole numbers instead of floats, if floats aren't refused.
 pub(crate) fn stored_type(floats: Floats, ty: TypeRecord) -> Option<TypeRecord>
     ensures { option_map type_record_of result ≡ stored_type floats (type_record_of ty) }
 {
@@ -48,7 +48,7 @@ pub(crate) fn stored_type(floats: Floats, ty: TypeRecord) -> Option<TypeRecord>
     }
 }
 
-/// Whether a field is a slot of a float, or of lists of floats.
+/// Returns whether a field is a slot of a float, or of lists of floats.
 fn is_float_field<A: ReaderArena>(field: &StructReader<'_, A>) -> bool
     ensures { result ≡ is_float_field (seen_struct A.segments field.now) }
 {
@@ -61,7 +61,7 @@ fn is_float_field<A: ReaderArena>(field: &StructReader<'_, A>) -> bool
     }
 }
 
-/// Puts a field behind others, where it is a float.
+/// Appends a field, if it is a float.
 fn push_if_float<A: ReaderArena>(
     found: &mut Vec<FloatField>,
     node: u64,
@@ -78,7 +78,7 @@ fn push_if_float<A: ReaderArena>(
     Ok(())
 }
 
-/// Puts the float fields of the struct of an id behind others.
+/// Appends the float fields of the struct of an id.
 #[tactic(auto, using(crate::proofs::FloatFields::next_field))]
 fn push_float_fields<A: ReaderArena>(
     found: &mut Vec<FloatField>,
@@ -97,7 +97,7 @@ fn push_float_fields<A: ReaderArena>(
     Ok(())
 }
 
-/// Puts the float fields of a node behind others, where it is a struct or a group.
+/// Appends the float fields of a node, if it is a struct or a group.
 fn push_floats_of_node<A: ReaderArena>(
     found: &mut Vec<FloatField>,
     node: &StructReader<'_, A>,
@@ -114,7 +114,7 @@ fn push_floats_of_node<A: ReaderArena>(
     }
 }
 
-/// The float fields of nodes, in the order of nodes and fields.
+/// Returns the float fields of nodes, in the order of nodes and fields.
 #[tactic(auto, using(crate::proofs::FloatFields::next_node))]
 pub(crate) fn float_fields<A: ReaderArena>(
     alloc: Global,

@@ -1,4 +1,4 @@
-//! Schemas as the compiler tells them: node records of a `CodeGeneratorRequest`.
+//! Schemas from the compiler: node records of a `CodeGeneratorRequest`.
 #![tactic(auto)]
 
 mod annotations;

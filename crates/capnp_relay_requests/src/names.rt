@@ -11,7 +11,7 @@ use capnp_wire::structs::StructReader;
 use capnp_wire_objects::arena::ReaderArena;
 use std::alloc::Global;
 
-/// What stands behind the last colon, or all where there is none.
+/// Returns the bytes after the last colon, or all if there is no colon.
 fn behind_colon(bytes: &[u8]) -> &[u8]
     ensures { result.now ≡ behind_colon bytes.now }
 {
@@ -22,7 +22,7 @@ fn behind_colon(bytes: &[u8]) -> &[u8]
     &bytes[at..]
 }
 
-/// The text of these bytes.
+/// Returns the text of these bytes.
 #[tactic(auto, using(crate::proofs::Texts::utf8_text, crate::proofs::Texts::no_text))]
 fn text_of(alloc: Global, fault: RequestFault, bytes: &[u8]) -> Result<String, RequestFault>
     ensures ok { IfOk result (λ s. checked_utf8 fault bytes.now ≡ Ok (string_bytes s)) }
@@ -34,7 +34,7 @@ fn text_of(alloc: Global, fault: RequestFault, bytes: &[u8]) -> Result<String, R
     }
 }
 
-/// The bytes of a name, the first pointer of a node, a field or an enumerant.
+/// Returns the bytes of a name, the first pointer of a node, a field or an enumerant.
 fn name_bytes<'a, A: ReaderArena>(
     fault: RequestFault,
     reader: &StructReader<'a, A>,
@@ -47,7 +47,7 @@ fn name_bytes<'a, A: ReaderArena>(
     text_behind(reader.get_pointer_field(0)).ok_or(fault)
 }
 
-/// The name of a field or an enumerant.
+/// Returns the name of a field or an enumerant.
 pub(crate) fn member_name<A: ReaderArena>(
     alloc: Global,
     fault: RequestFault,
@@ -61,7 +61,7 @@ pub(crate) fn member_name<A: ReaderArena>(
     text_of(alloc, fault, name_bytes(fault, member)?)
 }
 
-/// The name of a node, without that of its file.
+/// Returns the name of a node, without that of its file.
 pub(crate) fn node_name<A: ReaderArena>(
     alloc: Global,
     fault: RequestFault,

@@ -19,7 +19,7 @@ use capnp_wire::structs::StructReader;
 use capnp_wire_objects::arena::ReaderArena;
 use std::alloc::{AllocError, Global};
 
-/// What a node says of a struct or a group.
+/// Returns the struct or the group of a node.
 fn struct_of<A: ReaderArena>(
     alloc: Global,
     id: u64,
@@ -44,7 +44,7 @@ fn struct_of<A: ReaderArena>(
     })
 }
 
-/// An enumerant.
+/// Returns an enumerant.
 fn enumerant_of<A: ReaderArena>(
     alloc: Global,
     spot: Spot,
@@ -62,7 +62,7 @@ fn enumerant_of<A: ReaderArena>(
     Ok(EnumerantRecord { name, annotations })
 }
 
-/// The enumerants of the enum of an id.
+/// Returns the enumerants of the enum of an id.
 fn enumerants_of<A: ReaderArena>(
     alloc: Global,
     node: u64,
@@ -86,7 +86,7 @@ fn enumerants_of<A: ReaderArena>(
     Ok(enumerants)
 }
 
-/// What a node says of an enum.
+/// Returns the enum of a node.
 fn enum_of<A: ReaderArena>(
     alloc: Global,
     id: u64,
@@ -103,7 +103,7 @@ fn enum_of<A: ReaderArena>(
     enumerants_of(alloc, id, context, &list)
 }
 
-/// What a node is; none of a file, an interface, a constant and an annotation.
+/// Returns the body of a node; `None` for a file, an interface, a constant and an annotation.
 fn body_of<A: ReaderArena>(
     alloc: Global,
     id: u64,
@@ -129,7 +129,7 @@ fn body_of<A: ReaderArena>(
     Err(unread(Spot::Node { node: id }, Part::Kind))
 }
 
-/// A node that is a struct, a group or an enum.
+/// Returns a node that is a struct, a group or an enum.
 fn node_of_body<A: ReaderArena>(
     alloc: Global,
     id: u64,
@@ -153,7 +153,7 @@ fn node_of_body<A: ReaderArena>(
     })
 }
 
-/// A node; none of another than a struct, a group or an enum.
+/// Returns a node; `None` for any other than a struct, a group or an enum.
 fn node_of<A: ReaderArena>(
     alloc: Global,
     context: &Context,
@@ -171,7 +171,7 @@ fn node_of<A: ReaderArena>(
     Ok(Some(node_of_body(alloc, id, context, node, body)?))
 }
 
-/// Puts a node behind others, if there is one.
+/// Appends a node, if there is one.
 fn push_node(nodes: &mut Vec<NodeRecord>, node: Option<NodeRecord>) -> Result<(), AllocError>
     ensures { IfOk result (λ _. map node_of nodes.new.items
         ≡ with_node (map node_of nodes.old.items) (option_map node_of node)) }
@@ -182,7 +182,7 @@ fn push_node(nodes: &mut Vec<NodeRecord>, node: Option<NodeRecord>) -> Result<()
     Ok(())
 }
 
-/// The structs, groups and enums among nodes, in their order.
+/// Returns the structs, groups and enums among nodes, in their order.
 pub(crate) fn nodes_of<A: ReaderArena>(
     alloc: Global,
     context: &Context,

@@ -15,12 +15,12 @@ use std::alloc::{AllocError, Global};
 /// The member of the union of nodes that is a file.
 const FILE: u16 = 0;
 
-/// Those that are a struct or a group, and an enum.
+/// The members that are a struct or a group, and an enum.
 const STRUCT: u16 = 1;
 
 const ENUM: u16 = 2;
 
-/// The whole name of a node, with its file's; empty if it can't be read.
+/// Returns the whole name of a node, with its file's; empty if it can't be read.
 pub(crate) fn whole_name<'a, A: ReaderArena>(node: &StructReader<'a, A>) -> &'a str {
     let Some(bytes) = text_behind(node.get_pointer_field(0)) else {
         return "";
@@ -28,7 +28,7 @@ pub(crate) fn whole_name<'a, A: ReaderArena>(node: &StructReader<'a, A>) -> &'a 
     str::from_utf8(bytes).unwrap_or("")
 }
 
-/// The name of the file of a node, from its whole name; empty if it names none.
+/// Returns the name of the file of a node, from its whole name; empty if the name has no file.
 pub(crate) fn file_name<'a, A: ReaderArena>(node: &StructReader<'a, A>) -> &'a str {
     match whole_name(node).rsplit_once(':') {
         Some((file, _)) => file,
@@ -36,7 +36,7 @@ pub(crate) fn file_name<'a, A: ReaderArena>(node: &StructReader<'a, A>) -> &'a s
     }
 }
 
-/// A name without what stands in front of it: the last part of it that points end.
+/// Returns a name without its scopes: the part after the last point.
 fn own_name(path: &str) -> &str {
     match path.rsplit_once('.') {
         Some((_, name)) => name,
@@ -44,7 +44,7 @@ fn own_name(path: &str) -> &str {
     }
 }
 
-/// What a node declares.
+/// Returns the declaration of a node.
 fn declaration<A: ReaderArena>(
     alloc: Global,
     node: &StructReader<'_, A>,
@@ -67,7 +67,7 @@ fn declaration<A: ReaderArena>(
     })
 }
 
-/// The scopes of a request.
+/// Returns the scopes of a request.
 pub(crate) fn scopes_of<A: ReaderArena>(
     alloc: Global,
     nodes: &ListReader<'_, A>,
@@ -83,7 +83,8 @@ pub(crate) fn scopes_of<A: ReaderArena>(
     Ok(scopes)
 }
 
-/// The id of the first file that the compiler was asked for; `None` if it was asked for none.
+/// Returns the id of the first file that the compiler was asked for; `None` if it was asked for no
+/// file.
 pub(crate) fn requested_file<A: ReaderArena>(arena: &A) -> Option<u64> {
     let root = PointerReader::get_root_from_arena(arena).ok()?;
     let request = struct_behind(root)?;
@@ -95,7 +96,7 @@ pub(crate) fn requested_file<A: ReaderArena>(arena: &A) -> Option<u64> {
     Some(file.get_data_field::<u64>(0))
 }
 
-/// The ids of the structs that lie in a file directly.
+/// Returns the ids of the structs that are directly in a file.
 pub(crate) fn structs_in<A: ReaderArena>(
     alloc: Global,
     nodes: &ListReader<'_, A>,
@@ -114,7 +115,7 @@ pub(crate) fn structs_in<A: ReaderArena>(
     Ok(structs)
 }
 
-/// The names of the files of the structs, groups and enums, in their order.
+/// Returns the names of the files of the structs, groups and enums, in their order.
 pub(crate) fn files_of<A: ReaderArena>(
     alloc: Global,
     nodes: &ListReader<'_, A>,

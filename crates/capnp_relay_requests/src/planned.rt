@@ -1,4 +1,4 @@
-//! Which node records a request's generic types make.
+//! Plans of the node records that a request's generic types make.
 ghost use Rattle.std.specs.Prelude.{◌≢◌, IfErr};
 ghost use Rattle.capnp_units.specs.Sizes.{size_number};
 ghost use Rattle.capnp_wire.specs.Views.{seen_list};
@@ -20,7 +20,7 @@ use capnp_wire_objects::arena::ReaderArena;
 use std::alloc::{AllocError, Global};
 use std::collections::HashMap;
 
-/// How many fields the bound nodes may have, all together.
+/// The most fields of all bound nodes together.
 const MOST_FIELDS: u32 = 1 << 20;
 
 /// The members of the union of nodes that are records: a struct or a group, and an enum.
@@ -31,7 +31,7 @@ const ENUM: u16 = 2;
 /// The member of the union of fields that is a group.
 const GROUP: u16 = 1;
 
-/// What is planned, and what was found on the way.
+/// The plans, and the facts that were found on the way.
 #[derive(Drop)]
 pub(crate) struct Planned {
     pub(crate) plans: Vec<Plan>,
@@ -41,11 +41,11 @@ pub(crate) struct Planned {
     pub(crate) interfaces: Vec<InterfaceField>,
     /// Whether a node is bound.
     pub(crate) is_bound: bool,
-    /// How many fields of bound nodes were planned.
+    /// The number of fields of bound nodes that were planned.
     fields: u32,
 }
 
-/// The node to which the fields belong that are planned, and what its parameters are bound to.
+/// The node of the fields that are planned, and the types to which its parameters are bound.
 #[derive(Clone, Copy)]
 struct Within<'a> {
     node: u64,
@@ -56,7 +56,7 @@ impl Planned {
     ghost use Rattle.std.specs.Prelude.{IfErr};
     ghost use Rattle.capnp_relay_requests.specs.Faults.{IsBindingRefusal};
 
-    /// Nothing is planned.
+    /// Makes an empty list of plans.
     pub(crate) fn new(alloc: Global) -> Planned {
         Planned {
             plans: Vec::new(alloc),
@@ -67,7 +67,7 @@ impl Planned {
         }
     }
 
-    /// What a slot becomes.
+    /// Returns the planned body of a slot.
     fn slot<A: ReaderArena>(
         &mut self,
         binder: &mut Binder,
@@ -100,7 +100,7 @@ impl Planned {
         Ok(Retyped::Slot(stored))
     }
 
-    /// What the fields of a node become.
+    /// Returns the planned bodies of the fields of a node.
     fn fields<A: ReaderArena>(
         &mut self,
         binder: &mut Binder,
@@ -144,19 +144,19 @@ impl Planned {
     }
 }
 
-/// Where the node of an id stands: in the request's list, and among the records that are told.
+/// The places of the node of an id: in the request's list, and among the records of the request.
 #[derive(Clone, Copy)]
 struct Standing {
     index: u32,
     place: usize,
 }
 
-/// Whether a node is a struct, a group or an enum.
+/// Returns whether a node is a struct, a group or an enum.
 fn is_record<A: ReaderArena>(node: &StructReader<'_, A>) -> bool {
     matches!(node.get_data_field::<u16>(6), STRUCT | ENUM)
 }
 
-/// Plans the records that are told, and returns where each stands.
+/// Plans the records of the request, and returns the places of each.
 fn plan_told<A: ReaderArena>(
     binder: &mut Binder,
     floats: Floats,
@@ -196,7 +196,7 @@ fn plan_told<A: ReaderArena>(
     Ok(standing)
 }
 
-/// The bound node of a number, for which a record is made.
+/// Returns the bound node of a number, for which a record is made.
 fn next_bound(
     alloc: Global,
     binder: &Binder,
@@ -250,7 +250,8 @@ fn plan_bound<A: ReaderArena>(
     Ok(())
 }
 
-/// The records that are made of those that a request tells, and what was found on the way.
+/// Returns the records that are made from those of a request, and the facts that were found on the
+/// way.
 pub(crate) fn planned_in<A: ReaderArena>(
     alloc: Global,
     floats: Floats,

@@ -1,4 +1,4 @@
-//! What stands behind the pointers of a canonical message, where nothing is paid.
+//! Values of pointers of a canonical message, read without a budget.
 
 ghost use Rattle.std.specs.Prelude.{◌≡◌, ◌≢◌, option_map, IfSome};
 ghost use Rattle.capnp_units.specs.Sizes.{size_number};
@@ -12,7 +12,7 @@ use capnp_wire::pointer::PointerReader;
 use capnp_wire::structs::StructReader;
 use capnp_wire_objects::arena::ReaderArena;
 
-/// The text behind a pointer; null is the empty text.
+/// Returns the text that a pointer leads to; null is the empty text.
 #[tactic(auto, using(crate::proofs::Unlimited::answers_reading))]
 pub(crate) fn text_behind<'a, A: ReaderArena>(pointer: PointerReader<'a, A>) -> Option<&'a [u8]>
     ensures { option_map (λ r. r.now) result ≡ text_behind (seen_pointer A.segments pointer.entry) }
@@ -21,7 +21,7 @@ pub(crate) fn text_behind<'a, A: ReaderArena>(pointer: PointerReader<'a, A>) -> 
     pointer.get_text(&mut unlimited, None).ok()
 }
 
-/// The data behind a pointer; null is none.
+/// Returns the data that a pointer leads to; null is empty data.
 #[tactic(auto, using(crate::proofs::Unlimited::answers_reading))]
 pub(crate) fn data_behind<'a, A: ReaderArena>(pointer: PointerReader<'a, A>) -> Option<&'a [u8]>
     ensures { option_map (λ r. r.now) result ≡ data_behind (seen_pointer A.segments pointer.entry) }
@@ -30,7 +30,7 @@ pub(crate) fn data_behind<'a, A: ReaderArena>(pointer: PointerReader<'a, A>) -> 
     pointer.get_data(&mut unlimited, None).ok()
 }
 
-/// The struct behind a pointer; null is the empty struct.
+/// Returns the struct that a pointer leads to; null is the empty struct.
 #[tactic(auto, using(crate::proofs::Unlimited::answers_reading))]
 pub(crate) fn struct_behind<'a, A: ReaderArena>(
     pointer: PointerReader<'a, A>,
@@ -42,7 +42,8 @@ pub(crate) fn struct_behind<'a, A: ReaderArena>(
     pointer.get_struct(&mut unlimited, None).ok()
 }
 
-/// The list behind a pointer whose elements can be read as structs; null is the empty list.
+/// Returns the list that a pointer leads to whose elements can be read as structs; null is the
+/// empty list.
 #[tactic(auto, using(crate::proofs::Unlimited::answers_reading))]
 fn list_behind<'a, A: ReaderArena>(pointer: PointerReader<'a, A>) -> Option<ListReader<'a, A>>
     ensures list { option_map (seen_list A.segments) result
@@ -55,8 +56,8 @@ fn list_behind<'a, A: ReaderArena>(pointer: PointerReader<'a, A>) -> Option<List
         .ok()
 }
 
-/// Whether the elements of a list stand in words of their own. A list of nothing may claim millions
-/// in a few words.
+/// Returns whether the elements of a list have words of their own. A list of empty elements may
+/// claim millions in a few words.
 fn has_words<A: ReaderArena>(list: &ListReader<'_, A>) -> bool
     ensures { result ≡ has_words (seen_list A.segments list.now) }
 {
@@ -66,7 +67,7 @@ fn has_words<A: ReaderArena>(list: &ListReader<'_, A>) -> bool
             && (size.data_words > 0 || size.pointers > 0))
 }
 
-/// The list of structs behind a pointer; null is the empty list.
+/// Returns the list of structs that a pointer leads to; null is the empty list.
 pub(crate) fn structs_behind<'a, A: ReaderArena>(
     pointer: PointerReader<'a, A>,
 ) -> Option<ListReader<'a, A>>

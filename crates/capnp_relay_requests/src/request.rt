@@ -24,10 +24,10 @@ use capnp_wire::pointer::PointerReader;
 use capnp_wire_objects::arena::{ReaderArena, ReaderArenaImpl};
 use std::alloc::{AllocError, Global};
 
-/// How many levels of pointers a request may have.
+/// The most levels of pointers of a request.
 const MOST_LEVELS: i32 = 64;
 
-/// What fields of the types `Float32` and `Float64`, and lists of them, become.
+/// The treatment of fields of the types `Float32` and `Float64`, and of lists of them.
 #[derive(Clone, Copy, Debug, PartialEq, Eq)]
 pub enum Floats {
     /// They are refused.
@@ -49,36 +49,36 @@ pub struct FloatField {
 pub struct InterfaceField {
     pub node: u64,
     pub index: u32,
-    /// The id of the interface; where its parameters are bound, a digest of it and of what they are
-    /// bound to.
+    /// The id of the interface; if its parameters are bound, a digest of the id and of the types to
+    /// which they are bound.
     pub interface: u64,
 }
 
-/// A schema as the compiler tells it.
+/// A schema from the compiler.
 #[derive(Debug, Drop)]
 pub struct Requested {
-    /// The structs, groups and enums, in the request's order, and behind them a node for each way
-    /// in which a generic one is bound.
+    /// The structs, groups and enums, in the request's order, followed by a node for each binding
+    /// of a generic node.
     pub nodes: Vec<NodeRecord>,
-    /// The fields that are floats there, in the order of nodes and fields; none where floats are
+    /// The fields that are floats there, in the order of nodes and fields; empty if floats are
     /// refused.
     pub floats: Vec<FloatField>,
     /// The fields that are capabilities of an interface.
     pub interfaces: Vec<InterfaceField>,
     /// The name of the file of each node.
     pub files: Vec<String>,
-    /// The structs that lie directly in the first file that the compiler was asked for.
+    /// The structs that are directly in the first file that the compiler was asked for.
     pub top_structs: Vec<u64>,
 }
 
-/// The records and the float fields that a request tells, with parameters as untyped pointers.
+/// The records and the float fields of a request, with parameters as untyped pointers.
 #[derive(Drop)]
 struct Told {
     nodes: Vec<NodeRecord>,
     floats: Vec<FloatField>,
 }
 
-/// The nodes of a request that is the value of an arena.
+/// Returns the nodes of a request that is the value of an arena.
 fn nodes_list<A: ReaderArena>(arena: &A) -> Result<ListReader<'_, A>, RequestFault>
     ensures ok { IfOk result (λ l. nodes_list (A.segments arena.now) (A.nesting arena.now)
         ≡ Ok (seen_list A.segments l)) }
@@ -92,7 +92,7 @@ fn nodes_list<A: ReaderArena>(arena: &A) -> Result<ListReader<'_, A>, RequestFau
     structs_behind(request.get_pointer_field(0)).ok_or(RequestFault::Request)
 }
 
-/// What a request tells that is the value of an arena.
+/// Returns the records of a request that is the value of an arena.
 fn told_in<A: ReaderArena>(alloc: Global, arena: &A, floats: Floats) -> Result<Told, RequestFault>
     ensures nodes { IfOk result (λ s. records_in floats (A.segments arena.now)
         (A.nesting arena.now) ≡ Ok (map node_of s.nodes.items)) }
@@ -109,7 +109,7 @@ fn told_in<A: ReaderArena>(alloc: Global, arena: &A, floats: Floats) -> Result<T
     Ok(Told { nodes, floats })
 }
 
-/// The files of the records that plans make of those that are told.
+/// Returns the files of the records that plans make from those of the request.
 fn files_by(alloc: Global, told: &[String], plans: &[Plan]) -> Result<Vec<String>, AllocError> {
     let mut files = Vec::new(alloc);
     for plan in plans {
@@ -120,7 +120,8 @@ fn files_by(alloc: Global, told: &[String], plans: &[Plan]) -> Result<Vec<String
     Ok(files)
 }
 
-/// The ids of the structs that lie directly in the first file that the compiler was asked for.
+/// Returns the ids of the structs that are directly in the first file that the compiler was asked
+/// for.
 fn top_structs<A: ReaderArena>(
     alloc: Global,
     arena: &A,
@@ -134,7 +135,7 @@ fn top_structs<A: ReaderArena>(
     }
 }
 
-/// Float fields, and others behind them.
+/// Returns float fields, followed by others.
 #[tactic(auto, using(crate::proofs::BoundRecords::floats_joined))]
 fn with_floats(
     mut told: Vec<FloatField>,
@@ -147,7 +148,8 @@ fn with_floats(
     Ok(told)
 }
 
-/// The nodes that are told or, where generic ones are bound, what plans make of them.
+/// Returns the nodes of the request or, if generic nodes are bound, the nodes that plans make from
+/// them.
 #[tactic(auto, using(crate::proofs::BoundRecords::planned))]
 fn bound_nodes(
     alloc: Global,
@@ -164,7 +166,7 @@ fn bound_nodes(
     }
 }
 
-/// What a request tells, with its generic types bound.
+/// Returns the schema of a request, with its generic types bound.
 fn bound_in<A: ReaderArena>(
     alloc: Global,
     arena: &A,
@@ -192,7 +194,7 @@ fn bound_in<A: ReaderArena>(
     })
 }
 
-/// What the request of a message tells, and the message's value.
+/// Returns the records of the request of a message, and the message's value.
 #[tactic(auto, using(crate::proofs::Messages::segment_is))]
 fn told_of(
     alloc: Global,
@@ -216,7 +218,8 @@ fn told_of(
     Ok((told, value))
 }
 
-/// The schema of a message that the compiler sends its plugins: one frame, nothing behind it.
+/// Reads the schema of a message that the compiler sends its plugins: one frame, with nothing after
+/// it.
 #[tactic(auto, using(crate::proofs::BoundRecords::records_bound, crate::proofs::BoundRecords::floats_bound))]
 pub fn request_file(
     alloc: Global,

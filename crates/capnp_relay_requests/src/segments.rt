@@ -1,4 +1,4 @@
-//! Values behind pointers, as the bytes of their canonical words.
+//! Values of pointers, as the bytes of their canonical words.
 ghost use Rattle.std.specs.Prelude.{◌≡◌, ◌%◌, length, Some, IfSome, IfOk};
 ghost use Rattle.capnp_model.specs.Bytes.{bytes_of_words};
 ghost use Rattle.capnp_model.specs.Traversal.{tree_at};
@@ -18,7 +18,7 @@ use capnp_wire_objects::place::Place;
 use std::alloc::{AllocError, Global};
 
 /// Writes the canonical words of the value of the pointer at a place to the front of a slice, and
-/// returns how many they are.
+/// returns their number.
 fn write_words<A: ReaderArena>(
     arena: &A,
     place: Place,
@@ -35,7 +35,7 @@ fn write_words<A: ReaderArena>(
     }
 }
 
-/// n words at the front of others.
+/// Returns the first n words.
 fn front(mut words: Vec<Word>, count: usize) -> Vec<Word>
     ensures { words_view result.items ≡ filled count words.items }
 {
@@ -43,7 +43,8 @@ fn front(mut words: Vec<Word>, count: usize) -> Vec<Word>
     words
 }
 
-/// The canonical words of the value of the pointer at a place, for which there is so much room.
+/// Returns the canonical words of the value of the pointer at a place, with a bound of their
+/// number.
 fn words_at<A: ReaderArena>(
     alloc: Global,
     arena: &A,
@@ -61,7 +62,7 @@ fn words_at<A: ReaderArena>(
     }
 }
 
-/// A copy of the bytes of whole words.
+/// Returns a copy of the bytes of whole words.
 fn copied(alloc: Global, bytes: &[u8]) -> Result<Vec<u8>, AllocError>
     requires { length bytes.now % 8 ≡ 0 }
     ensures { IfOk result (λ v. v.items ≡ bytes_of_words (whole_words bytes.now)) }
@@ -69,7 +70,7 @@ fn copied(alloc: Global, bytes: &[u8]) -> Result<Vec<u8>, AllocError>
     bytes.to_vec(alloc)
 }
 
-/// The bytes of words, the lowest byte of each first.
+/// Returns the bytes of words, the lowest byte of each first.
 fn bytes_of_words(alloc: Global, words: &[Word]) -> Result<Vec<u8>, AllocError>
     ensures { IfOk result (λ v. v.items ≡ bytes_of_words (words_view words.now)) }
 {
@@ -77,7 +78,7 @@ fn bytes_of_words(alloc: Global, words: &[Word]) -> Result<Vec<u8>, AllocError>
     copied(alloc, words_as_bytes(words))
 }
 
-/// The canonical words of the value behind a struct's first pointer, if it has one.
+/// Returns the canonical words of the value of a struct's first pointer, if it has one.
 fn words_behind<A: ReaderArena>(
     alloc: Global,
     reader: &StructReader<'_, A>,
@@ -101,9 +102,9 @@ fn words_behind<A: ReaderArena>(
     words_at(alloc, &backing, reader.first_pointer(), levels, room)
 }
 
-/// The bytes of the canonical words of the value behind a struct's first pointer. It is refused
-/// only where memory is wanting: a message that has been made canonical has no other pointers than
-/// those to values without a capability.
+/// Returns the bytes of the canonical words of the value of a struct's first pointer. It is only
+/// refused for lack of memory: a message that has been made canonical has only pointers to values
+/// without a capability.
 pub(crate) fn segment_behind<A: ReaderArena>(
     alloc: Global,
     reader: &StructReader<'_, A>,

@@ -14,11 +14,11 @@ use capnp_wire_objects::arena::ReaderArena;
 /// The member of the union of types that is a list.
 const LIST: u16 = 14;
 
-/// How many lists may be nested.
+/// The most nested lists.
 const MOST_LISTS: u32 = 64;
 
-/// An untyped pointer, or a capability of any interface. A parameter of a type or of a method is an
-/// untyped pointer.
+/// Returns an untyped pointer, or a capability of any interface. A parameter of a type or of a
+/// method is an untyped pointer.
 fn untyped_base<A: ReaderArena>(ty: &StructReader<'_, A>) -> Option<BaseType>
     ensures { let v = seen_struct A.segments ty.now in
         option_map base_of result ≡ untyped_of (number 16 4 v) (number 16 5 v) }
@@ -40,7 +40,7 @@ fn untyped_base<A: ReaderArena>(ty: &StructReader<'_, A>) -> Option<BaseType>
     }
 }
 
-/// A type with an id, or an untyped one.
+/// Returns a type with an id, or an untyped one.
 fn other_base<A: ReaderArena>(member: u16, ty: &StructReader<'_, A>) -> Option<BaseType>
     ensures { option_map base_of result ≡ other_base member (seen_struct A.segments ty.now) }
 {
@@ -53,7 +53,7 @@ fn other_base<A: ReaderArena>(member: u16, ty: &StructReader<'_, A>) -> Option<B
     }
 }
 
-/// A type that is no list.
+/// Returns a type that is not a list.
 pub(crate) fn base_in<A: ReaderArena>(member: u16, ty: &StructReader<'_, A>) -> Option<BaseType>
     ensures { option_map base_of result ≡ base_in member (seen_struct A.segments ty.now) }
 {
@@ -76,7 +76,7 @@ pub(crate) fn base_in<A: ReaderArena>(member: u16, ty: &StructReader<'_, A>) -> 
     }
 }
 
-/// A type within which at most n lists are nested.
+/// Returns a type within which at most n lists are nested.
 
 fn type_within<A: ReaderArena>(lists: u32, ty: &StructReader<'_, A>) -> Option<TypeRecord>
     ensures type_is { option_map type_record_of result
@@ -102,7 +102,7 @@ fn type_within<A: ReaderArena>(lists: u32, ty: &StructReader<'_, A>) -> Option<T
     })
 }
 
-/// The type of a pointer's struct.
+/// Returns the type of a pointer's struct.
 pub(crate) fn type_at<A: ReaderArena>(
     reader: &StructReader<'_, A>,
     index: usize,
