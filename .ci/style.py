@@ -25,7 +25,7 @@ KEPT_CODE = ("None", "null", "true", "false")
 PATTERNS = tuple(
     (re.compile(expression), instead)
     for expression, instead in (
-        (r"\b(?:exactly|just) where\b|\bif and only if\b", "exactly if"),
+        (r"\b(?:exactly|just) where\b|\bif and only if\b", "exactly when"),
         (r"(?i)\b(?:none|null|true|false|nothing|errors?|faults?|fails?|refuses?|refused|except|also|even|only) where\b", "if"),
         (r"(?i)\bbehind\b", "after, below, or 'that X leads to'"),
         (r"(?i)\b(?:tells|told)\b", "reports, says, indicates, distinguishes"),

@@ -188,7 +188,7 @@ class Style(unittest.TestCase):
         "The list and the words thereof.",
     )
     CLEAN = (
-        "It is true exactly if the list is empty. Otherwise it returns `None`. Nothing else is read; who else would?",
+        "It is true exactly when the list is empty. Otherwise it returns `None`. Nothing else is read; who else would?",
         "The file is where the list is, and `stands behind` is code. There is no other, and it is no longer than 8 words.",
         "It stands for a list. Let alone two. Therefore it is read.",
     )

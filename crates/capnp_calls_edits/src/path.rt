@@ -65,10 +65,10 @@ use capnp_wire_objects::place::Place;
 /// - `FieldNotFound`: the struct lacks the name.
 /// - `IndexOutOfRange`: the list has no such index.
 /// - `TypeMismatch`: a field or an element doesn't take the value.
-/// - A struct on the way is refused like in `struct_or_default`, a list like in a reader's
-///   `get_list` and `get_struct_list` of `capnp_copy_widening`. So bits aren't accepted as voids.
-/// - The last field is refused like in `clear_field`, `begin_field`, `initn_slot` and `set_flat`.
-///   An element at the path's end is refused like in `set_flat` and `init_element` of
+/// - A struct on the way is refused as in `struct_or_default`, a list as in a reader's `get_list`
+///   and `get_struct_list` of `capnp_copy_widening`. So bits aren't accepted as voids.
+/// - The last field is refused as in `clear_field`, `begin_field`, `initn_slot` and `set_flat`. An
+///   element at the path's end is refused as in `set_flat` and `init_element` of
 ///   `capnp_schema_lists` and in `copy_content_from`.
 ///
 /// After a refusal structs and lists on the way may be widened or have their defaults. The last

@@ -78,9 +78,9 @@ fn first_broken(
 }
 
 /// Returns the first break of the newer schema's compatibility with the older from the two roots
-/// on, if fields are renamed: `None` exactly if `compatible_with` says yes. A break is at a pair of
-/// structs that is reached from the roots by pairs that are kept, or at a pair of groups of such a
-/// pair. The break has a rule that this pair breaks. It takes the time of `compatible_with`. The
+/// on, if fields are renamed: `None` exactly when `compatible_with` says yes. A break is at a pair
+/// of structs that is reached from the roots by pairs that are kept, or at a pair of groups of such
+/// a pair. The break has a rule that this pair breaks. It takes the time of `compatible_with`. The
 /// only error is `OutOfMemory`.
 pub fn first_break(
     alloc: Global,
@@ -113,10 +113,10 @@ pub fn first_break(
 
 /// Returns whether the newer schema is compatible with the older from the two roots on, if fields
 /// are renamed. Each older field is kept by its partner, the newer field of its renamed name, and
-/// no two have the same partner. On a yes, the older record of each value is the older view of its
-/// newer record, each field by its older name. A renaming of a node or field that isn't reached has
-/// no effect. It takes time linear in the pairs of structs that are reached times their fields. The
-/// only error is `OutOfMemory`.
+/// no two have the same partner. If the answer is yes, the older record of each value is the older
+/// view of its newer record, each field by its older name. A renaming of a node or field that isn't
+/// reached has no effect. It takes time linear in the pairs of structs that are reached times their
+/// fields. The only error is `OutOfMemory`.
 pub fn compatible_with(
     alloc: Global,
     older: Root<'_>,
@@ -135,9 +135,9 @@ pub fn compatible_with(
 }
 
 /// Returns whether the newer schema is compatible with the older from the two roots on: messages
-/// that are written under the older read the same under the newer, field by field. On a yes, the
-/// older record of each value is the older view of its newer record. It takes time linear in the
-/// pairs of structs that are reached times their fields. The only error is `OutOfMemory`.
+/// that are written under the older read the same under the newer, field by field. If the answer is
+/// yes, the older record of each value is the older view of its newer record. It takes time linear
+/// in the pairs of structs that are reached times their fields. The only error is `OutOfMemory`.
 pub fn compatible(alloc: Global, older: Root<'_>, newer: Root<'_>) -> Result<bool>
     ensures answer { IfOk result (λ b.
         MatchBool b (AreRootsCompatible older.entry newer.entry)

@@ -29,8 +29,8 @@ pub trait BuilderArena: ReaderArena {
     ghost refuses: { Self → ℕ → ErrorKind → Type 0 };
 
     /// Allocates zero words at the end of a segment, and returns the position of the first word. It
-    /// returns `None` exactly if the segment doesn't exist, has fewer free words, or the message's
-    /// words would exceed 2^29 - 1.
+    /// returns `None` exactly when the segment doesn't exist, has fewer free words, or the
+    /// message's words would exceed 2^29 - 1.
     fn allocate(&mut self, segment: SegmentId, words: u32) -> Option<u32>
         ensures some { IfSome result
             (AllocatesIn (Self.segments self.old) (Self.segments self.new) segment words) }
@@ -46,7 +46,7 @@ pub trait BuilderArena: ReaderArena {
         ensures books { books self.new ≡ books self.old };
 
     /// Allocates zero words in any segment, which is a new segment only if the last has no room. It
-    /// is refused with `SizeOverflow` exactly if the message's words would exceed 2^29 - 1,
+    /// is refused with `SizeOverflow` exactly when the message's words would exceed 2^29 - 1,
     /// otherwise with the allocator's error; then nothing is allocated.
     fn allocate_anywhere(&mut self, words: u32) -> Result<(SegmentId, u32)>
         ensures last { IfOk result (λ p.

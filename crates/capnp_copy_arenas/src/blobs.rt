@@ -75,8 +75,8 @@ fn set_bytes<A: BuilderArena>(arena: &mut A, slot: Place, bytes: &[u8], count: u
 /// Replaces the value of the pointer at a place, which is cleared, by data.
 ///
 /// It is refused, and everything is unchanged,
-/// - with `SizeOverflow` exactly if the bytes or the message's words, including a pad, would exceed
-///   2^29 - 1;
+/// - with `SizeOverflow` exactly when the bytes or the message's words, including a pad, would
+///   exceed 2^29 - 1;
 /// - otherwise with the allocator's error.
 pub fn set_data<A: BuilderArena>(arena: &mut A, slot: Place, bytes: &[u8]) -> Result<()>
     requires there { is_some (words_at (words_in (A.segments arena.old)) (place_view slot) 1)
@@ -96,8 +96,8 @@ pub fn set_data<A: BuilderArena>(arena: &mut A, slot: Place, bytes: &[u8]) -> Re
 /// by a zero byte.
 ///
 /// It is refused, and everything is unchanged,
-/// - with `SizeOverflow` exactly if the bytes with the zero byte, or the message's words, including
-///   a pad, would exceed 2^29 - 1;
+/// - with `SizeOverflow` exactly when the bytes with the zero byte, or the message's words,
+///   including a pad, would exceed 2^29 - 1;
 /// - otherwise with the allocator's error.
 #[inline(always)]
 pub fn set_text<A: BuilderArena>(arena: &mut A, slot: Place, text: &[u8]) -> Result<()>

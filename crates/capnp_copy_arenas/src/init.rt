@@ -44,7 +44,7 @@ pub struct ListPlace {
 /// It is inlined, like the functions of `room`: the sizes of a caller are mostly constants.
 ///
 /// It is refused, and everything is unchanged,
-/// - with `SizeOverflow` exactly if the message's words, including a pad, would exceed 2^29 - 1;
+/// - with `SizeOverflow` exactly when the message's words, including a pad, would exceed 2^29 - 1;
 /// - otherwise with the allocator's error.
 #[inline(always)]
 fn init_zeros<A: BuilderArena>(
@@ -71,7 +71,7 @@ fn init_zeros<A: BuilderArena>(
 /// Replaces the value of the pointer at a place, which is cleared, by a struct of zeros and nulls.
 ///
 /// It is refused, and everything is unchanged,
-/// - with `SizeOverflow` exactly if the message's words, including a pad, would exceed 2^29 - 1;
+/// - with `SizeOverflow` exactly when the message's words, including a pad, would exceed 2^29 - 1;
 /// - otherwise with the allocator's error.
 #[inline(always)]
 pub fn init_struct<A: BuilderArena>(
@@ -112,8 +112,8 @@ fn words_of(size: ElementSize, count: u32) -> u32
 /// The elements are plain or pointers.
 ///
 /// It is refused, and everything is unchanged,
-/// - with `SizeOverflow` exactly if the count or the message's words, including a pad, would exceed
-///   2^29 - 1;
+/// - with `SizeOverflow` exactly when the count or the message's words, including a pad, would
+///   exceed 2^29 - 1;
 /// - otherwise with the allocator's error.
 #[inline(always)]
 pub fn init_list<A: BuilderArena>(

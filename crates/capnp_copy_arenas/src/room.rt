@@ -62,7 +62,7 @@ pub fn list_word(size: ElementSize, count: u32) -> u64
 /// pointer's segment if it has room for them, otherwise after a pad of one word in any segment,
 /// which may be new. An object without words takes no words. Nothing is written.
 ///
-/// It is refused with `SizeOverflow` exactly if the message's words, including the pad, would
+/// It is refused with `SizeOverflow` exactly when the message's words, including the pad, would
 /// exceed 2^29 - 1, otherwise with the allocator's error for the words and a pad. The allocator is
 /// only asked if the pointer's segment has no room for the words and the last segment has no room
 /// for the words and a pad. After a refusal nothing is allocated.

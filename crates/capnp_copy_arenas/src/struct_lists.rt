@@ -49,8 +49,8 @@ pub fn tag_word(count: u32, size: StructSize) -> u64
 /// and nulls.
 ///
 /// It is refused, and everything is unchanged,
-/// - with `SizeOverflow` exactly if the count, the structs' words or the message's words, including
-///   the tag and a pad, would exceed 2^29 - 1;
+/// - with `SizeOverflow` exactly when the count, the structs' words or the message's words,
+///   including the tag and a pad, would exceed 2^29 - 1;
 /// - otherwise with the allocator's error.
 #[inline(always)]
 pub fn init_struct_list<A: BuilderArena>(

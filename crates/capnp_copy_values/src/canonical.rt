@@ -27,7 +27,7 @@ use capnp_wire_objects::place::{Place, ROOT};
 ///
 /// The value's canonical words are first written over lent words, and no other memory is taken. One
 /// word more than the limiter has left, up to 2^29 - 1, always suffices. The source's pointers are
-/// followed once, nulls too, and its objects paid for, like in `write_canonical`. It is refused
+/// followed once, nulls too, and its objects paid for, as in `write_canonical`. It is refused
 /// - at the first fault within n levels, with its kind;
 /// - with `CapabilityInCanonical` at a capability;
 /// - with `ReadLimitExceeded` at the first object that costs more words than are left;

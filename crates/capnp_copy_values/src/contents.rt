@@ -90,7 +90,7 @@ fn clear_rest<A: BuilderArena>(arena: &mut A, object: StructPlace, kept: u16)
 /// levels may be followed from each. Pointers for which the struct has no place aren't followed.
 ///
 /// The source's own words were paid for before. Its pointers are followed, nulls too, and refused
-/// like in `copy_from`. After a refusal the data are the source's. The first pointers have the
+/// as in `copy_from`. After a refusal the data are the source's. The first pointers have the
 /// copies, and the others their old values. Everything else is unchanged. The words of cleared
 /// values are zero, and so are new words without a use. Refused or not, it allocates at most twice
 /// the words that it grants. If the struct's segment has room for all words of the copies, it takes

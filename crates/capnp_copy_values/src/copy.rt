@@ -38,11 +38,11 @@ struct StructRows {
 /// pointer in a source. The whole tree is copied, with the indices of its capabilities unchanged.
 ///
 /// The source's pointers are followed in the order of reading, nulls too, and its objects are paid
-/// for, like in `size_at`. It is refused
+/// for, as in `size_at`. It is refused
 /// - at the first fault within n levels, with its kind;
 /// - with `ReadLimitExceeded` at the first object that costs more words than are left;
-/// - with `SizeOverflow` exactly if a count, or the message's words with the next object and a pad,
-///   would exceed 2^29 - 1;
+/// - with `SizeOverflow` exactly when a count, or the message's words with the next object and a
+///   pad, would exceed 2^29 - 1;
 /// - otherwise with the allocator's error.
 ///
 /// After a refusal all words are unchanged, and those that were allocated are zero. Refused or not,
@@ -101,13 +101,13 @@ fn put_leaf<A: BuilderArena>(arena: &mut A, slot: Place, object: Object)
 }
 
 /// Replaces the value of the pointer at a place, which is cleared, by a copy of an object of a
-/// source. The object is the struct or the list of a reader, and is copied like in `set_struct` and
+/// source. The object is the struct or the list of a reader, and is copied as in `set_struct` and
 /// `set_list`. n levels may be followed from each of its pointers. A list is copied as it is, its
-/// structs with all their words, as whatever list it was read.
+/// structs with all their words, however it was read.
 ///
 /// The object's own words were paid for before. It is refused
 /// - like `copy_from` for the values of its pointers;
-/// - with `SizeOverflow` exactly if its counts, or the message's words with the object and a pad,
+/// - with `SizeOverflow` exactly when its counts, or the message's words with the object and a pad,
 ///   would exceed 2^29 - 1;
 /// - otherwise with the allocator's error.
 ///

@@ -227,13 +227,13 @@ fn fill_list<A: BuilderArena, B: ReaderArena>(
 
 /// Replaces the value of the pointer at a place, which is cleared, by a copy of a list of a source.
 /// The bytes are its plain elements or the words of its structs. The values of its pointers are
-/// copied from their places in the source. A list of structs is copied whole, as whatever list it
-/// was read. n levels may be followed from each pointer.
+/// copied from their places in the source. A list of structs is copied whole, however it was read.
+/// n levels may be followed from each pointer.
 ///
 /// The list's own words were paid for before, and its pointers are followed, nulls too. It is
 /// refused
 /// - like `copy_from` for its pointers;
-/// - with `SizeOverflow` exactly if the count, the words of structs, or the message's words with
+/// - with `SizeOverflow` exactly when the count, the words of structs, or the message's words with
 ///   the list and a pad would exceed 2^29 - 1;
 /// - otherwise with the allocator's error.
 ///

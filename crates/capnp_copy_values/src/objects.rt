@@ -33,7 +33,7 @@ const SIZE_OF_POINTERS: u64 = 6;
 const SIZE_OF_STRUCTS: u64 = 7;
 
 /// Returns the number of words of the copy of an object. It is refused with `SizeOverflow` exactly
-/// if a count of its pointer or tag exceeds 2^29 - 1.
+/// when a count of its pointer or tag exceeds 2^29 - 1.
 fn words_of_copy(object: Object) -> Result<u32>
     ensures words { IfOk result (λ n.
         (n ≡ copied_words object) × (n ≤ 2 ^ 29) × (most_counted object < 2 ^ 29)) }
@@ -67,7 +67,7 @@ fn words_of_copy(object: Object) -> Result<u32>
 
 /// Allocates room for the copy of an object that the pointer at a place will name, like
 /// `allocate_near`. It is refused, and nothing is allocated,
-/// - with `SizeOverflow` exactly if a count or the message's words, including a pad, would exceed
+/// - with `SizeOverflow` exactly when a count or the message's words, including a pad, would exceed
 ///   2^29 - 1;
 /// - otherwise with the allocator's error; the allocator is only asked if there is no room.
 pub(crate) fn room_for<A: BuilderArena>(arena: &mut A, slot: Place, object: Object) -> Result<Room>

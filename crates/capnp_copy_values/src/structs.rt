@@ -26,8 +26,8 @@ use capnp_wire_objects::place::Place;
 /// The struct's own words were paid for before, and its pointers are followed, nulls too. It is
 /// refused
 /// - like `copy_from` for its pointers;
-/// - with `SizeOverflow` exactly if the message's words with the struct and a pad would exceed 2^29
-///   - 1;
+/// - with `SizeOverflow` exactly when the message's words with the struct and a pad would exceed
+///   2^29 - 1;
 /// - otherwise with the allocator's error.
 ///
 /// After a refusal all words are unchanged, and those that were allocated are zero. Refused or not,

@@ -23,7 +23,8 @@ use capnp_wire_objects::place::Place;
 /// returned. Nothing is written.
 ///
 /// It is only refused if neither has room, and then nothing is allocated:
-/// - with `SizeOverflow` exactly if the message's words, including all pads, would exceed 2^29 - 1;
+/// - with `SizeOverflow` exactly when the message's words, including all pads, would exceed 2^29 -
+///   1;
 /// - otherwise with the allocator's error.
 pub fn allocate_wider<A: BuilderArena>(
     arena: &mut A,

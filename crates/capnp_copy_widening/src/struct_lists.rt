@@ -79,7 +79,7 @@ fn words_of_wider(old: ListPlace, size: StructSize) -> Result<(u32, u64)>
 /// It is only refused if there is no room beside the old list, and no room elsewhere for the new
 /// list with a pad before it and two words for each old pointer. Then everything is unchanged. It
 /// is refused
-/// - with `SizeOverflow` exactly if the message's words with all these would exceed 2^29 - 1;
+/// - with `SizeOverflow` exactly when the message's words with all these would exceed 2^29 - 1;
 /// - otherwise with the allocator's error.
 fn widen_list<A: BuilderArena>(
     arena: &mut A,
@@ -134,7 +134,7 @@ fn widen_list<A: BuilderArena>(
 /// - like a reader refuses the object there (`object_at`);
 /// - with `WrongPointerKind` if a struct or a capability is there;
 /// - with `WrongElementSize` if a list of bits is there;
-/// - with `SizeOverflow`, if a new list has no room beside the old one, exactly if the message's
+/// - with `SizeOverflow`, if a new list has no room beside the old one, exactly when the message's
 ///   words would exceed 2^29 - 1. These include its words and its tag, a pad, and two words for
 ///   each old pointer;
 /// - otherwise with the allocator's error.

@@ -27,8 +27,8 @@ use capnp_wire_objects::place::Place;
 /// move, and its own words and the pads become zero.
 ///
 /// It is refused, and everything is unchanged,
-/// - with `SizeOverflow` exactly if the message's words, including a pad and two words for each old
-///   pointer, would exceed 2^29 - 1;
+/// - with `SizeOverflow` exactly when the message's words, including a pad and two words for each
+///   old pointer, would exceed 2^29 - 1;
 /// - otherwise with the allocator's error.
 fn widen_struct<A: BuilderArena>(
     arena: &mut A,
@@ -83,8 +83,8 @@ fn pointers_behind(start: Place, data_words: u16) -> Place
 /// It is refused, and everything is unchanged,
 /// - like a reader refuses the object there (`object_at`);
 /// - with `WrongPointerKind` if a list or a capability is there;
-/// - with `SizeOverflow` exactly if the message's words would exceed 2^29 - 1. These include a new
-///   struct and a pad, and for a wider struct also two words for each old pointer;
+/// - with `SizeOverflow` exactly when the message's words would exceed 2^29 - 1. These include a
+///   new struct and a pad, and for a wider struct also two words for each old pointer;
 /// - otherwise with the allocator's error.
 pub fn get_struct<A: BuilderArena>(
     arena: &mut A,

@@ -203,7 +203,7 @@ impl<'a, A: BuilderArena> PointerBuilder<'a, A> {
     /// write.
     ///
     /// It is refused, and everything is unchanged,
-    /// - with `SizeOverflow` exactly if the bytes or the message's words, including a pad, would
+    /// - with `SizeOverflow` exactly when the bytes or the message's words, including a pad, would
     ///   exceed 2^29 - 1;
     /// - otherwise with the allocator's error.
     pub fn init_data(self, size: ElementCount32) -> Result<DataBuilder<'a, A>>
@@ -229,7 +229,7 @@ impl<'a, A: BuilderArena> PointerBuilder<'a, A> {
     /// write, from its first byte on. The zero byte after the text isn't part of it.
     ///
     /// It is refused, and everything is unchanged,
-    /// - with `SizeOverflow` exactly if the bytes with the zero byte, or the message's words,
+    /// - with `SizeOverflow` exactly when the bytes with the zero byte, or the message's words,
     ///   including a pad, would exceed 2^29 - 1;
     /// - otherwise with the allocator's error.
     pub fn init_text(self, size: ElementCount32) -> Result<TextBuilder<'a, A>>

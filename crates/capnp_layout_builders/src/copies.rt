@@ -249,7 +249,7 @@ impl<'a, A: BuilderArena> PointerBuilder<'a, A> {
     }
 
     /// Replaces the value, which is cleared, by a copy of a reader's list. A list of structs is
-    /// copied whole, as whatever list it was read.
+    /// copied whole, however it was read.
     ///
     /// It is refused like `capnp_copy_values::lists::set_list`, and with `NestingLimitExceeded`
     /// under a negative nesting limit. A value in a default is read without a limit of words, and

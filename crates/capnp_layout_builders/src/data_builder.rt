@@ -55,7 +55,7 @@ impl<'a, A: BuilderArena> DataBuilder<'a, A> {
         get_bytes(&self.memory.arena, self.place)
     }
 
-    /// Returns the bytes, lent in place, and uses up the handle for writing.
+    /// Consumes the handle, and returns the bytes, lent in place.
     pub fn into_reader(self) -> &'a [u8]
         ensures { HasBytes (words_in (A.segments self.entry.memory.now.arena)) self.entry.place
             result.now }

@@ -67,7 +67,7 @@ impl<'a, A: BuilderArena> ListBuilder<'a, A> {
         read_at(&self.memory.arena, self.place)
     }
 
-    /// Returns the list to read, and uses up the handle for writing.
+    /// Consumes the handle, and returns the list to read.
     pub fn into_reader(self) -> ListReader<'a, A>
         requires { HasElements (words_in (A.segments self.memory.now.arena)) self.place }
         ensures { seen_list A.segments result

@@ -86,8 +86,8 @@ impl<'a, A: BuilderArena> PointerBuilder<'a, A> {
         PointerReader::at(&self.memory.arena, self.place)
     }
 
-    /// Returns the pointer to read, and uses up the handle for writing. `read_at` states the
-    /// contents of the memory afterwards.
+    /// Consumes the handle, and returns the pointer to read. `read_at` states the contents of the
+    /// memory afterwards.
     pub fn into_reader(self) -> PointerReader<'a, A>
         ensures { seen_pointer A.segments result
             ≡ pointer_at (A.segments self.entry.memory.now.arena)
@@ -124,7 +124,7 @@ impl<'a, A: BuilderArena> PointerBuilder<'a, A> {
     /// Replaces the value, which is cleared, by a struct of zeros and nulls.
     ///
     /// It is refused, and everything is unchanged,
-    /// - with `SizeOverflow` exactly if the message's words, including a pad, would exceed 2^29 -
+    /// - with `SizeOverflow` exactly when the message's words, including a pad, would exceed 2^29 -
     ///   1;
     /// - otherwise with the allocator's error.
     #[inline(always)]
@@ -150,7 +150,7 @@ impl<'a, A: BuilderArena> PointerBuilder<'a, A> {
     /// or pointers.
     ///
     /// It is refused, and everything is unchanged,
-    /// - with `SizeOverflow` exactly if the count or the message's words, including a pad, would
+    /// - with `SizeOverflow` exactly when the count or the message's words, including a pad, would
     ///   exceed 2^29 - 1;
     /// - otherwise with the allocator's error.
     pub fn init_list(
@@ -179,7 +179,7 @@ impl<'a, A: BuilderArena> PointerBuilder<'a, A> {
     /// Replaces the value, which is cleared, by a list of structs of zeros and nulls.
     ///
     /// It is refused, and everything is unchanged,
-    /// - with `SizeOverflow` exactly if the count, the structs' words or the message's words,
+    /// - with `SizeOverflow` exactly when the count, the structs' words or the message's words,
     ///   including the tag and a pad, would exceed 2^29 - 1;
     /// - otherwise with the allocator's error.
     #[inline(always)]
@@ -208,7 +208,7 @@ impl<'a, A: BuilderArena> PointerBuilder<'a, A> {
     /// Replaces the value, which is cleared, by data.
     ///
     /// It is refused, and everything is unchanged,
-    /// - with `SizeOverflow` exactly if the bytes or the message's words, including a pad, would
+    /// - with `SizeOverflow` exactly when the bytes or the message's words, including a pad, would
     ///   exceed 2^29 - 1;
     /// - otherwise with the allocator's error.
     pub fn set_data(&mut self, value: &[u8]) -> Result<()>
@@ -232,7 +232,7 @@ impl<'a, A: BuilderArena> PointerBuilder<'a, A> {
     /// Replaces the value, which is cleared, by a text: its bytes, followed by a zero byte.
     ///
     /// It is refused, and everything is unchanged,
-    /// - with `SizeOverflow` exactly if the bytes with the zero byte, or the message's words,
+    /// - with `SizeOverflow` exactly when the bytes with the zero byte, or the message's words,
     ///   including a pad, would exceed 2^29 - 1;
     /// - otherwise with the allocator's error.
     #[inline(always)]

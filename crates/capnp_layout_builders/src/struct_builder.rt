@@ -65,7 +65,7 @@ impl<'a, A: BuilderArena> StructBuilder<'a, A> {
         read_at(&self.memory.arena, self.place)
     }
 
-    /// Returns the struct to read, and uses up the handle for writing.
+    /// Consumes the handle, and returns the struct to read.
     pub fn into_reader(self) -> StructReader<'a, A>
         requires there { HasWords (A.segments self.memory.now.arena)
             self.place.start self.place.data_words }

@@ -111,7 +111,7 @@ impl<'a, A: BuilderArena> TextBuilder<'a, A> {
         Reader(get_bytes(&self.memory.arena, self.place))
     }
 
-    /// Returns the text to read, and uses up the handle for writing.
+    /// Consumes the handle, and returns the text to read.
     pub fn into_reader(self) -> Reader<'a>
         ensures { HasBytes (words_in (A.segments self.entry.memory.now.arena)) self.entry.place
             result.0.now }

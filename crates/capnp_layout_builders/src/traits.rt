@@ -28,7 +28,7 @@ pub trait SetterInput<T>: Sized {
     /// `canonicalize`.
     ///
     /// It is refused, and everything is unchanged,
-    /// - with `SizeOverflow` exactly if the value is too large;
+    /// - with `SizeOverflow` exactly when the value is too large;
     /// - otherwise with the allocator's error.
     fn set_pointer_builder<A: BuilderArena>(
         builder: PointerBuilder<'_, A>,

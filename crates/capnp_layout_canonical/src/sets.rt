@@ -90,8 +90,8 @@ pub fn set_struct_canonical<A: BuilderArena, B: ReaderArena, C: BuilderArena>(
 }
 
 /// Replaces the value, which is cleared, by a canonical copy of a reader's list: its trimmed tree,
-/// as in a canonical message. A list of structs is copied whole, as whatever list it was read. A
-/// list with a capability is refused.
+/// as in a canonical message. A list of structs is copied whole, however it was read. A list with a
+/// capability is refused.
 ///
 /// The copy uses a scratch and lent words like `set_struct_canonical`. It is refused like
 /// `PointerBuilder::set_list` of the scratch, and then like `set_struct_canonical`.

@@ -56,7 +56,7 @@ pub trait Placed: Sized {
     /// types without a count ignore the length.
     ///
     /// It is refused, and everything is unchanged,
-    /// - with `SizeOverflow` exactly if the value is too large;
+    /// - with `SizeOverflow` exactly when the value is too large;
     /// - otherwise with the allocator's error.
     fn init_at<A: BuilderArena>(memory: &mut Memory<A>, place: Place, length: u32) -> Result<Self>
         requires there { HasWords (A.segments memory.old.arena) place 1 }
@@ -111,7 +111,7 @@ pub trait OwnedPlaced {
 /// place.
 ///
 /// It is refused, and everything is unchanged,
-/// - with `SizeOverflow` exactly if the message's words, including a pad, would exceed 2^29 - 1;
+/// - with `SizeOverflow` exactly when the message's words, including a pad, would exceed 2^29 - 1;
 /// - otherwise with the allocator's error.
 fn init_struct_at<A: BuilderArena>(
     memory: &mut Memory<A>,
@@ -153,7 +153,7 @@ fn get_struct_at<A: BuilderArena>(
 }
 
 /// A struct is made of zeros and nulls, whatever the count. It is read with at least the sizes of
-/// its type, and refused, like in `PointerBuilder::get_struct`.
+/// its type, and refused, as in `PointerBuilder::get_struct`.
 impl<T: PlacedStruct> Placed for T {
     ghost is_made = { λ s u slot n o. StructPlaced T.STRUCT_SIZE s u slot (T.place_of o) };
 

@@ -75,7 +75,7 @@ impl<S: ReaderSegments> Reader<S> {
         T::get_from_pointer(&root, limiter, None)
     }
 
-    /// Returns the segments, and uses up the message.
+    /// Consumes the message, and returns the segments.
     pub fn into_segments(self) -> S
         ensures { result ≡ self.segments }
     {

@@ -51,7 +51,7 @@ impl<A: Allocator> Builder<A> {
     /// copied.
     ///
     /// It is refused, and there is still no segment,
-    /// - with `SizeOverflow` exactly if there are more than 2^29 - 1 words;
+    /// - with `SizeOverflow` exactly when there are more than 2^29 - 1 words;
     /// - with `OutOfMemory` if the list of segments can't grow;
     /// - otherwise with the allocator's error.
     pub fn set_words(&mut self, words: &[Word]) -> Result<()>
@@ -90,8 +90,8 @@ impl<A: Allocator> Builder<A> {
     /// - like `Reader::canonicalize`, and then nothing was allocated;
     /// - if there is no segment, like `set_words`, and there is still none;
     /// - with `OutOfBounds` if the first segment has no word, and nothing was allocated;
-    /// - with `SizeOverflow` exactly if a count, or the message's words with the next object and a
-    ///   pad, would exceed 2^29 - 1;
+    /// - with `SizeOverflow` exactly when a count, or the message's words with the next object and
+    ///   a pad, would exceed 2^29 - 1;
     /// - otherwise with the allocator's error.
     ///
     /// Then the root has its old value, and all words are unchanged. The words that were allocated

@@ -92,7 +92,7 @@ pub fn values_as_a_relation()
         → Means m s p u → t ≡ u }
 {}
 
-/// A value is read exactly if it has no fault.
+/// A value is read exactly when it has no fault.
 pub fn faults_of_values()
     ensures read { (n : ℕ) (s : Segments) (p : Place) (t : Tree) → tree_at n s p ≡ Some t
         → faults_at n s p ≡ [] }
@@ -171,7 +171,7 @@ pub fn canonical_messages()
         → canonical_words (trim u) ≡ canonical_words (trim t) }
 {}
 
-/// The test for canonical words at a place holds exactly if the words are there.
+/// The test for canonical words at a place holds exactly when the words are there.
 pub fn canonical_tests_at_places()
     ensures holds { (n : ℕ) (s : Segments) (p : Place) → is_canonical_at n s p ≡ true
         → (t : Tree) × (tree_at n s p ≡ Some t) × (has_capability t ≡ false)
@@ -185,8 +185,8 @@ pub fn canonical_tests_at_places()
         → slice_get s 0 ≡ Some (canonical_words t ++ more) → is_canonical_at n s root ≡ true }
 {}
 
-/// The test for a canonical message holds exactly if the canonical words of its value are its only
-/// segment, so it holds for each canonical copy.
+/// The test for a canonical message holds exactly when the canonical words of its value are its
+/// only segment, so it holds for each canonical copy.
 pub fn canonical_tests()
     ensures holds_of { (n : ℕ) (s : Segments) → is_canonical_message n s ≡ true → (t : Tree)
         × (tree_at n s root ≡ Some t) × (has_capability t ≡ false)
@@ -200,7 +200,7 @@ pub fn canonical_tests()
 {}
 
 /// The words of a value's objects are those that its pointer leads to, and it has a capability
-/// exactly if some are counted.
+/// exactly when some are counted.
 pub fn sizes_of_values()
     ensures words { (t : Tree) → object_words t ≡ length (body t) }
     ensures none { (t : Tree) → capability_count t ≡ 0 → has_capability t ≡ false }

@@ -31,10 +31,10 @@ fn root_of(schema: StructSchema<'_>) -> Root<'_>
 }
 
 /// Returns whether the newer schema is compatible with the older: messages that are written under
-/// the older read the same under the newer, field by field. On a yes, the older record of each
-/// value is the older view of its newer record. It takes time linear in the pairs of structs that
-/// are reached times their fields. The only error is `OutOfMemory`. (Schema language, "Evolving
-/// Your Protocol")
+/// the older read the same under the newer, field by field. If the answer is yes, the older record
+/// of each value is the older view of its newer record. It takes time linear in the pairs of
+/// structs that are reached times their fields. The only error is `OutOfMemory`. (Schema language,
+/// "Evolving Your Protocol")
 pub fn compatible(alloc: Global, older: StructSchema<'_>, newer: StructSchema<'_>) -> Result<bool>
     ensures answer { IfOk result (λ b. MatchBool b (AreVersions older.entry newer.entry)
         (AreVersions older.entry newer.entry → ⊥)) }

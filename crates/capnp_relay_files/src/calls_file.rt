@@ -59,9 +59,9 @@ fn file_of(alloc: Global, json: &Json) -> Result<CallsFile, FileFault>
 }
 
 /// Reads a calls file: its calls, in order, and the limits of messages. The limits are 8,388,608
-/// words and a nesting of 64 if the file doesn't have others. It is refused with `Form` exactly if
-/// the text is not JSON or has another form, and with `Memory` if memory is lacking. `Call::new`
-/// decides which calls are refused.
+/// words and a nesting of 64 if the file doesn't have others. It is refused with `Form` exactly
+/// when the text is not JSON or has another form, and with `Memory` if memory is lacking.
+/// `Call::new` decides which calls are refused.
 pub fn calls_file(alloc: Global, bytes: &[u8]) -> Result<CallsFile, FileFault>
     ensures ok { IfOk result (λ f. calls_in bytes.now ≡ Some (file_of f)) }
     ensures refused { IfErr result (IsFileRefusal (calls_in bytes.now)) }

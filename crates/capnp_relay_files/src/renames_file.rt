@@ -58,8 +58,8 @@ fn renamings_in(alloc: Global, json: &Json) -> Result<Vec<Renaming>, FileFault>
 }
 
 /// Reads a renames file: a JSON array of objects with the keys `node`, `from` and `to`. The
-/// renamings are in the file's order. It is refused with `Form` exactly if the text is not JSON or
-/// has another form, and with `Memory` if memory is lacking. `Renamings::new` decides whether a
+/// renamings are in the file's order. It is refused with `Form` exactly when the text is not JSON
+/// or has another form, and with `Memory` if memory is lacking. `Renamings::new` decides whether a
 /// field is renamed twice.
 pub fn renames_file(alloc: Global, bytes: &[u8]) -> Result<Vec<Renaming>, FileFault>
     ensures ok { IfOk result (λ v. renames_in bytes.now ≡ Some (map renaming_of v.items)) }

@@ -38,7 +38,7 @@ fn nodes_in(alloc: Global, json: &Json) -> Result<Vec<NodeRecord>, FileFault>
 
 /// Reads a schema file: a JSON array of structs, groups and enums. The nodes are in the file's
 /// order. Defaults of data, lists and structs are hexadecimal digits. It is refused with `Form`
-/// exactly if the text is not JSON or a node has another form, and with `Memory` if memory is
+/// exactly when the text is not JSON or a node has another form, and with `Memory` if memory is
 /// lacking.
 pub fn schema_file(alloc: Global, bytes: &[u8]) -> Result<Vec<NodeRecord>, FileFault>
     ensures ok { IfOk result (λ nodes. schema_nodes_in bytes.now ≡ Some (map node_of nodes.items)) }

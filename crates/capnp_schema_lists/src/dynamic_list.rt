@@ -168,7 +168,7 @@ impl<'a, A: BuilderArena> Builder<'a, A> {
 
     /// Returns the place of the struct at an index, which is within the list, under the schema of
     /// the elements' type. `part` lends its handle, and the law `elements_as_structs` describes how
-    /// writing through the handle changes the list. It is refused with `TypeMismatch` exactly if
+    /// writing through the handle changes the list. It is refused with `TypeMismatch` exactly when
     /// the elements are not structs.
     pub fn struct_at(&self, index: u32) -> Result<Part<'a>>
         requires ready { IsReadyList A.segments self.now }
@@ -200,7 +200,7 @@ impl<'a, A: BuilderArena> Builder<'a, A> {
         read_at(&self.memory.arena, self.place, self.set, self.element_type)
     }
 
-    /// Returns the list to read, and uses up the handle for writing.
+    /// Consumes the handle, and returns the list to read.
     pub fn into_reader(self) -> Reader<'a, A>
         requires ready { IsReadyList A.segments self }
         requires bytewise { IsBytewise self.place (ty_of self.element_type) }
@@ -254,7 +254,7 @@ impl<'a, A: BuilderArena> Builder<'a, A> {
     /// - with `ListAnyPointerNotSupported` if the elements are untyped pointers;
     /// - with `ListCapabilityNotSupported` if they are capabilities and the value is a capability;
     /// - otherwise with `TypeMismatch` if the element doesn't take the value;
-    /// - a text or data with `SizeOverflow` exactly if its bytes, a text's with its zero byte, or
+    /// - a text or data with `SizeOverflow` exactly when its bytes, a text's with its zero byte, or
     ///   the message's words, including a pad, would exceed 2^29 - 1;
     /// - a text or data otherwise with the allocator's error;
     /// - a list like `PointerBuilder::set_list` and a struct like
@@ -294,7 +294,7 @@ impl<'a, A: BuilderArena> Builder<'a, A> {
     /// It is refused, and then the list is unchanged,
     /// - with `ListAnyPointerNotSupported` if the elements are untyped pointers;
     /// - with `ExpectedAListOrBlob` if they are of another type;
-    /// - with `SizeOverflow` exactly if the elements, structs' words or the message's words,
+    /// - with `SizeOverflow` exactly when the elements, structs' words or the message's words,
     ///   including a pad, would exceed 2^29 - 1;
     /// - otherwise with the allocator's error.
     pub fn init(&mut self, index: u32, size: u32) -> Result<()>

@@ -45,8 +45,8 @@ fn refusal(ty: Type) -> ErrorKind
 /// It is refused
 /// - with `ListAnyPointerNotSupported` if the elements are untyped pointers;
 /// - with `ExpectedAListOrBlob` if they are of another type;
-/// - with `SizeOverflow` exactly if the elements, structs' words or the message's words, including
-///   a pad, would exceed 2^29 - 1;
+/// - with `SizeOverflow` exactly when the elements, structs' words or the message's words,
+///   including a pad, would exceed 2^29 - 1;
 /// - otherwise with the allocator's error.
 ///
 /// Then everything is unchanged.

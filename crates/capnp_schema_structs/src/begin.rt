@@ -32,13 +32,13 @@ fn is_untyped(ty: Type) -> bool
 }
 
 /// Begins a field, like `init` of a dynamic struct's builder. A slot of a struct type gets a struct
-/// of zeros and nulls, like in `init_slot`; a group is cleared, like in `clear`; an untyped slot
+/// of zeros and nulls, as in `init_slot`; a group is cleared, as in `clear`; an untyped slot
 /// becomes null. A union member becomes the active member. It returns the place of the struct or
 /// the group, and `None` for an untyped slot. A group and an untyped slot take no memory.
 ///
 /// It is refused, and then everything is unchanged,
 /// - with `InitIsOnlyValidForStructAndAnyPointerFields` if the field is of another type;
-/// - a struct with `SizeOverflow` exactly if the message's words, including a pad, would exceed
+/// - a struct with `SizeOverflow` exactly when the message's words, including a pad, would exceed
 ///   2^29 - 1;
 /// - a struct otherwise with the allocator's error.
 pub fn begin_field<'a, A: BuilderArena>(

@@ -163,7 +163,7 @@ impl<'a, A: BuilderArena> Builder<'a, A> {
     /// - a field of texts or of data to a value of its own type;
     /// - a struct to any struct and a list to any list, whatever their schema, which are copied
     ///   whole; an untyped field to these two, a text or data;
-    /// - a group to a struct of its own schema, like in `group_sets::set_group`.
+    /// - a group to a struct of its own schema, as in `group_sets::set_group`.
     ///
     /// A union member becomes the active member. A plain value takes no memory. A text or data
     /// takes the words of its list if the struct's segment has room for them, otherwise at most one
@@ -256,8 +256,8 @@ impl<'a, A: BuilderArena> Builder<'a, A> {
         init_slot(&mut self.memory.arena, place, field)
     }
 
-    /// Begins a field: `init`. A field of a struct type gets a struct of zeros and nulls, like in
-    /// `init_struct`; a group is cleared, like in `clear`; an untyped field becomes null. The old
+    /// Begins a field: `init`. A field of a struct type gets a struct of zeros and nulls, as in
+    /// `init_struct`; a group is cleared, as in `clear`; an untyped field becomes null. The old
     /// value is cleared. A union member becomes the active member. It returns the place of the
     /// struct or the group, which `part` lends, and `None` for an untyped field. A group and an
     /// untyped field take no memory.
@@ -351,7 +351,7 @@ impl<'a, A: BuilderArena> Builder<'a, A> {
         read_at(&self.memory.arena, self.place, self.schema)
     }
 
-    /// Returns the struct to read, and uses up the handle for writing.
+    /// Consumes the handle, and returns the struct to read.
     pub fn into_reader(self) -> dynamic_struct::Reader<'a, A>
         requires ready { IsReady A.segments self }
         ensures source { struct_seen A.segments result.source

@@ -257,7 +257,7 @@ fn copy_group<'a, A: BuilderArena, B: ReaderArena>(
 /// - with `SettingDynamicCapabilitiesIsUnsupported` at such a capability;
 /// - like `dynamic_struct::Reader::get` if a pointer can't be read as its type;
 /// - at a null pointer of the active member only for lack of room for its default or its empty
-///   value. The error is `SizeOverflow` exactly if the value is too long, or the message's words
+///   value. The error is `SizeOverflow` exactly when the value is too long, or the message's words
 ///   with its next object and a pad would exceed 2^29 - 1, otherwise the allocator's error;
 /// - otherwise like a copy.
 ///

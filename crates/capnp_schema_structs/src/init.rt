@@ -101,7 +101,7 @@ fn put_struct<A: BuilderArena>(
 /// It is refused
 /// - with `TypeMismatch` if the slot is untyped;
 /// - with `InitIsOnlyValidForStructAndAnyPointerFields` if it is of another type;
-/// - with `SizeOverflow` exactly if the message's words, including a pad, would exceed 2^29 - 1;
+/// - with `SizeOverflow` exactly when the message's words, including a pad, would exceed 2^29 - 1;
 /// - otherwise with the allocator's error.
 ///
 /// Memory is taken before the union is marked, so after a refusal everything is unchanged.

@@ -194,8 +194,8 @@ pub fn put_list<A: BuilderArena>(
 ///
 /// It is refused
 /// - with `InitnIsOnlyValidForListTextOrDataFields` if the field is a group or of another type;
-/// - with `SizeOverflow` exactly if the elements, structs' words or the message's words, including
-///   a pad, would exceed 2^29 - 1;
+/// - with `SizeOverflow` exactly when the elements, structs' words or the message's words,
+///   including a pad, would exceed 2^29 - 1;
 /// - otherwise with the allocator's error.
 ///
 /// Memory is taken before the union is marked, so after a refusal everything is unchanged.

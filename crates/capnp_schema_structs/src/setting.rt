@@ -84,7 +84,7 @@ fn blob_for<'a, B>(ty: Type, value: &Reader<'a, B>) -> Option<Blob<'a>>
 /// Replaces the value of the pointer at a place, which is cleared, by a text, with its zero byte,
 /// or data. The pointer is a struct's, or an element's of a list (`capnp_schema_lists`). It is
 /// refused, and everything is unchanged,
-/// - with `SizeOverflow` exactly if its list has 2^29 bytes or more, or the message's words,
+/// - with `SizeOverflow` exactly when its list has 2^29 bytes or more, or the message's words,
 ///   including a pad, would exceed 2^29 - 1;
 /// - otherwise with the allocator's error.
 pub fn put_blob<A: BuilderArena>(arena: &mut A, slot: Place, blob: Blob<'_>) -> Result<()>

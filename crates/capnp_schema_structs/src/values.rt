@@ -208,7 +208,7 @@ fn group_refusal<B>(value: &Reader<'_, B>) -> ErrorKind
 /// - otherwise with `CannotSetAnyPointerFieldToAPrimitiveValue` if the field is untyped;
 /// - with `NotAStruct` if the field is a group and the value not a struct;
 /// - otherwise with `TypeMismatch` if the field doesn't take the value;
-/// - a text or data with `SizeOverflow` exactly if its bytes, a text's with its zero byte, or the
+/// - a text or data with `SizeOverflow` exactly when its bytes, a text's with its zero byte, or the
 ///   message's words, including a pad, would exceed 2^29 - 1;
 /// - a text or data otherwise with the allocator's error;
 /// - a struct or a list like `PointerBuilder::set_struct` and `set_list` without a limit of words;

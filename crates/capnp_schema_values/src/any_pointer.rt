@@ -83,7 +83,7 @@ impl<'a, A: BuilderArena> Builder<'a, A> {
         Reader::new(PointerReader::at(&self.memory.arena, self.place))
     }
 
-    /// Returns the pointer to read, and uses up the handle for writing.
+    /// Consumes the handle, and returns the pointer to read.
     pub fn into_reader(self) -> Reader<'a, A>
         ensures { pointer_seen A.segments result.source
             ≡ pointer_view_of A.segments A.nesting self.entry }
@@ -148,7 +148,7 @@ impl<'a, A: BuilderArena> Builder<'a, A> {
     /// elements, and returns its handle. Types without a count ignore the size.
     ///
     /// It is refused, and all words are unchanged,
-    /// - with `SizeOverflow` exactly if the value is too large for the message;
+    /// - with `SizeOverflow` exactly when the value is too large for the message;
     /// - otherwise with the allocator's error.
     pub fn initn_as<T: Placed>(&mut self, size: u32) -> Result<T>
         requires ready { IsReadyPointer A.segments self.old }

@@ -58,8 +58,8 @@ fn data_here<A: BuilderArena>(memory: &mut Memory<A>, slot: Place) -> Result<Blo
 /// pointer gets the default, if there is one; otherwise the text is empty, at the pointer itself.
 ///
 /// It is refused
-/// - if the default finds no room, with `SizeOverflow` exactly if the message's words would exceed
-///   2^29 - 1, otherwise with the allocator's error;
+/// - if the default finds no room, with `SizeOverflow` exactly when the message's words would
+///   exceed 2^29 - 1, otherwise with the allocator's error;
 /// - with the error of the value there, like `PointerBuilder::get_text`.
 ///
 /// Then all words are unchanged.

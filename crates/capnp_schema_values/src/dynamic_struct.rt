@@ -36,7 +36,7 @@ use capnp_values_queries::fields::Field;
 /// - with the fault of the value of the field's pointer;
 /// - with `WrongPointerKind`, `WrongElementSize` or `TextWithoutZeroByte` if that value isn't of
 ///   the field's type;
-/// - a default and a wider copy with `SizeOverflow` exactly if the message's words would exceed
+/// - a default and a wider copy with `SizeOverflow` exactly when the message's words would exceed
 ///   2^29 - 1, otherwise with the allocator's error.
 ///
 /// Then all words are unchanged, and new words are zero. The only exception: a default that

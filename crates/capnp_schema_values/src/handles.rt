@@ -140,8 +140,8 @@ impl<'a, A: BuilderArena> Builder<'a, A> {
         value_at(memory, placed, true)
     }
 
-    /// Returns the value to read, and uses up the handle for writing. Its pointers are followed
-    /// under the arena's nesting limit.
+    /// Consumes the handle, and returns the value to read. Its pointers are followed under the
+    /// arena's nesting limit.
     pub fn into_reader(self) -> Reader<'a, A>
         requires ready { IsReadyValue A.segments self }
         ensures { ReadsAs A.segments A.nesting self.entry result }

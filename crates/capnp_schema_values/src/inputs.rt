@@ -46,7 +46,7 @@ pub trait PointerInput<T>: Sized {
         ensures books { A.books memory.new.arena ≡ A.books memory.old.arena };
 }
 
-/// Data: these bytes. It is refused with `SizeOverflow` exactly if they are too many for the
+/// Data: these bytes. It is refused with `SizeOverflow` exactly when they are too many for the
 /// message, otherwise with the allocator's error; then all words are unchanged.
 impl PointerInput<data::Owned> for &[u8] {
     ghost sets = { λ b. PutsByteList (length b.now) (number_of 8 b.now) };

@@ -57,7 +57,8 @@ pub fn discriminants_are_read()
     ensures { DiscriminantsAreRead }
 {}
 
-/// A pointer is null exactly if its value is null, so `has` of a pointer slot depends on the value.
+/// A pointer is null exactly when its value is null, so `has` of a pointer slot depends on the
+/// value.
 pub fn nulls_are_read()
     ensures { NullsAreRead }
 {}

@@ -16,7 +16,7 @@ pub fn wholes_are_read()
 
 /// The text of a value of an accepted set is the model's text of what the model reads of the value,
 /// in both forms. Null pointers are as the model prints them. There is a fault instead of the text
-/// exactly if the model has no text.
+/// exactly when the model has no text.
 pub fn texts_are_models()
     ensures { TextsAreModels }
 {
@@ -26,7 +26,7 @@ pub fn texts_are_models()
 /// The text of a field of a struct, as `print_field` appends it, is the model's text of that field
 /// in the struct's record, in both forms. A null pointer is its default, which is the first of the
 /// 64 that may be entered, otherwise the empty value. There is a fault instead of the text exactly
-/// if the model has no text, as for a union member that isn't active.
+/// when the model has no text, as for a union member that isn't active.
 pub fn fields_are_models()
     ensures { FieldsAreModels }
 {

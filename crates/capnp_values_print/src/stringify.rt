@@ -86,8 +86,8 @@ pub fn print<A: ReaderArena>(
 }
 
 /// Appends the text of one field of a struct, as a `get` of the field shows it. A group or a value
-/// is written like in `print`. A null pointer is written as its default, which is the first of the
-/// 64 nested defaults that may be entered, otherwise as the empty value.
+/// is written as in `print`. A null pointer is written as its default, which is the first of the 64
+/// nested defaults that may be entered, otherwise as the empty value.
 ///
 /// A union member that isn't the active one is refused with `InactiveMember`. Otherwise it is
 /// refused like `print`, also with the fault at the field's own pointer. Then nothing is appended.

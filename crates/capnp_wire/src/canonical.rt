@@ -22,12 +22,12 @@ use capnp_wire_objects::place::{Place, has_words};
 impl<'a, A: ReaderArena> PointerReader<'a, A> {
     /// Returns whether the pointer and its value are laid out as the value's canonical words. The
     /// pointer is at its place. From the head on, a later place in its segment, are the words of
-    /// its value, trimmed. On a yes the head is moved past those words; otherwise it is unchanged.
-    /// A pointer without a place isn't canonical. (Encoding, "Canonicalization")
+    /// its value, trimmed. If the answer is yes, the head is moved past those words; otherwise it
+    /// is unchanged. A pointer without a place isn't canonical. (Encoding, "Canonicalization")
     ///
-    /// In an arena pointers are followed, and objects paid for, like in `total_size`, up to the
-    /// first difference. A capability is a difference, and so is a head at another place. It is
-    /// refused only if a walk over the whole value is refused:
+    /// In an arena pointers are followed, and objects paid for, as in `total_size`, up to the first
+    /// difference. A capability is a difference, and so is a head at another place. It is refused
+    /// only if a walk over the whole value is refused:
     /// - at the first fault, with its kind;
     /// - with `ReadLimitExceeded` at the first object that costs more words than are left;
     /// - with `NestingLimitExceeded` under a negative nesting limit.
@@ -126,8 +126,8 @@ impl<'a, A: ReaderArena> StructReader<'a, A> {
     /// Returns whether the struct and the values of its pointers are laid out as canonical words.
     /// The struct's own words begin at one head; neither the last word of its data nor its last
     /// pointer is zero. The words of its pointers' values, trimmed, begin at the other head, after
-    /// the pointers in their segment, one value after the other. On a yes each head is moved past
-    /// its words; otherwise it is unchanged. (Encoding, "Canonicalization")
+    /// the pointers in their segment, one value after the other. If the answer is yes, each head is
+    /// moved past its words; otherwise it is unchanged. (Encoding, "Canonicalization")
     ///
     /// It is refused, and exact, like `PointerReader::is_canonical`. The struct's own words were
     /// paid for before; if they are at another place, no pointer is followed. It takes no memory.

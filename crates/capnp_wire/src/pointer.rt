@@ -254,8 +254,8 @@ impl<'a, A: ReaderArena> PointerReader<'a, A> {
     ///
     /// It is refused
     /// - with the kind of the fault there;
-    /// - with `ReadLimitExceeded` exactly if the pads and the struct's words exceed the words that
-    ///   are left;
+    /// - with `ReadLimitExceeded` exactly when the pads and the struct's words exceed the words
+    ///   that are left;
     /// - with `WrongPointerKind` if the pointer leads to something else;
     /// - with `NestingLimitExceeded` if no level is left.
     ///

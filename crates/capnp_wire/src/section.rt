@@ -46,7 +46,7 @@ fn are_bytes(bytes: &[u8])
     ensures { (i : ℕ) → slice_index bytes.now i < 256 }
 {}
 
-/// Returns whether bytes are equal to others, which they are exactly if their numbers are equal.
+/// Returns whether bytes are equal to others, which they are exactly when their numbers are equal.
 pub(crate) fn are_equal(bytes: &[u8], others: &[u8]) -> bool
     requires { length bytes.now ≡ length others.now }
     ensures same { OnTrue result (number_of 8 bytes.now ≡ number_of 8 others.now) }
