@@ -36,7 +36,7 @@ PATTERNS = tuple(
         (r"(?i)(?<!let )\balone\b", "only"),
         (r"(?i)\bwho(?:so)?ever\b", "the caller, the reader, anyone who"),
         (r"(?i)\bgrowths?\b", "allocation"),
-        (r"(?i)\b(?:of|by) which\b", "whose, or a sentence of its own"),
+        (r"(?i)(?<!each )(?<!some )(?<!one )(?<!both )(?<!all )\b(?:of|by) which\b", "whose, or a sentence of its own"),
         (r"(?i)\bso many\b", "'n words', the number"),
         (r"(?i)\bg(?:ives?|ave|iven) back\b|\bgive \w+ back\b", "returns"),
         (r"(?i)\bbut for\b|\ball but\b", "except"),

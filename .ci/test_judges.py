@@ -191,6 +191,7 @@ class Style(unittest.TestCase):
         "It is true exactly when the list is empty. Otherwise it returns `None`. Nothing else is read; who else would?",
         "The file is where the list is, and `stands behind` is code. There is no other, and it is no longer than 8 words.",
         "It stands for a list. Let alone two. Therefore it is read.",
+        "There are two lists, each of which is read, and there are none after them.",
     )
 
     def whats(self, text, is_source=False):
