@@ -1,4 +1,5 @@
-//! Builds an entry of an address book, writes it as a packed message, reads it back, and prints it.
+//! Builds an entry of an address book, writes it as a packed message, reads it again, and prints
+//! it.
 #![tactic(auto)]
 
 ghost use Rattle.std.specs.Prelude.{◌≡◌, ◌<◌};
@@ -11,8 +12,7 @@ use capnp_message::placed::{PlacedStruct, StructPlace, StructSize};
 use capnp_message::serialize_packed::{read_message, write_message};
 use std::alloc::Global;
 
-/// A person of the address book that is built, where it lies: pointers to a name and a mail
-/// address.
+/// A person of the address book that is built, by its place: pointers to a name and a mail address.
 #[derive(Drop)]
 struct Person(StructPlace);
 
@@ -53,7 +53,7 @@ fn build<A: Allocator>(message: &mut Builder<A>) -> Result<()>
     person.set(message, 1, "alice@example.com")
 }
 
-/// The person's mail address, read back from a packed message.
+/// Returns the person's mail address, read from a packed message.
 fn relayed<A: Allocator>(alloc: Global, message: &Builder<A>) -> Result<Option<String>> {
     let mut packed = Vec::new(alloc);
     if message.memory.arena.len() > 0 {

@@ -24,13 +24,13 @@ const MESSAGE: [u8; 40] = [
     0, 104, 105, 0, 0, 0, 0, 0, 0,
 ];
 
-/// The set of the schema's nodes; `None` where memory is wanting.
+/// Makes the set of the schema's nodes; `None` if memory is lacking.
 fn schema_set(alloc: Global) -> Option<SchemaSet> {
     let nodes = schema_file(alloc, SCHEMA.as_bytes()).ok()?;
     SchemaSet::new(nodes).ok()
 }
 
-/// A line for each field of a record: its name and what it reads as.
+/// Writes a line for each field of a record: its name and its value.
 fn fields<A: ReaderArena>(record: dynamic_struct::Reader<'_, A>, out: &mut Vec<u8>) -> Result<()> {
     for field in record.get_schema().get_fields()? {
         out.extend_from_slice(field.get_proto().name.as_bytes())?;
@@ -41,7 +41,7 @@ fn fields<A: ReaderArena>(record: dynamic_struct::Reader<'_, A>, out: &mut Vec<u
     Ok(())
 }
 
-/// The fields of the message's root under the schema, and the record as a whole.
+/// Returns the fields of the message's root under the schema, and the record as a whole.
 fn shown(alloc: Global, schema: StructSchema<'_>, mut bytes: &[u8]) -> Result<Vec<u8>> {
     let message = read_message(alloc, &mut bytes, DEFAULT_READER_OPTIONS)?;
     let mut limiter = DEFAULT_READER_OPTIONS.read_limiter();
@@ -53,7 +53,7 @@ fn shown(alloc: Global, schema: StructSchema<'_>, mut bytes: &[u8]) -> Result<Ve
     Ok(out)
 }
 
-/// The text of the message; `None` where memory is wanting.
+/// Returns the text of the message; `None` if memory is lacking.
 fn text(alloc: Global) -> Option<Vec<u8>> {
     let set = schema_set(alloc)?;
     let raw = set.struct_by_id(1)?;

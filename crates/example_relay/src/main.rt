@@ -30,20 +30,20 @@ const MESSAGE: [u8; 32] = [
     0, 0, 0, 0, 3, 0, 0, 0, 0, 0, 0, 0, 2, 0, 0, 0, 1, 0, 0, 0, 0, 0, 0, 0, 99, 0, 0, 0, 0, 0, 0, 0,
 ];
 
-/// The set of a schema's nodes; `None` where the text is no schema, or where memory is wanting.
+/// Makes the set of a schema's nodes; `None` if the text is not a schema, or if memory is lacking.
 fn schema_set(alloc: Global, text: &str) -> Option<SchemaSet> {
     let nodes = schema_file(alloc, text.as_bytes()).ok()?;
     SchemaSet::new(nodes).ok()
 }
 
-/// The call that sets `a` to 7.
+/// Makes the call that sets `a` to 7.
 fn set_a(alloc: Global) -> Option<Call> {
     let name = Step::Name(String::from_str(alloc, "a").ok()?);
     let path = vec![in alloc; name].ok()?;
     Call::new(alloc, path, Verb::Set, Some(CallValue::Number(7))).ok()
 }
 
-/// The messages that the relay makes of those of the source, and what it logs.
+/// Returns the messages that the relay makes from those of the source, and its log.
 fn relayed(alloc: Global, mut source: &[u8]) -> Option<(Vec<u8>, Vec<u8>)> {
     let set = schema_set(alloc, OLDER)?;
     let raw = set.struct_by_id(1)?;
@@ -66,7 +66,7 @@ fn relayed(alloc: Global, mut source: &[u8]) -> Option<(Vec<u8>, Vec<u8>)> {
     counts.ok().map(|_| (out, log))
 }
 
-/// The text of a message's record under the newer schema.
+/// Returns the text of a message's record under the newer schema.
 fn shown(alloc: Global, message: &[u8]) -> Option<Vec<u8>> {
     let set = schema_set(alloc, NEWER)?;
     let raw = set.struct_by_id(1)?;

@@ -1,5 +1,5 @@
-//! What tests share: the bytes of words, a source that shows one byte at a time, and a sink that
-//! has an end.
+//! Shared parts of tests: the bytes of words, a source that shows one byte at a time, and a sink
+//! that has an end.
 #![tactic(auto)]
 
 pub mod shown;
@@ -13,7 +13,7 @@ use capnp_units::errors::{Error, Result};
 use capnp_units::kinds::ErrorKind;
 use std::alloc::{AllocError, Global};
 
-/// The bytes of words, the lowest byte of each first.
+/// Returns the bytes of words, the lowest byte of each first.
 pub fn bytes_of(alloc: Global, words: &[u64]) -> std::result::Result<Vec<u8>, AllocError>
     ensures { IfOk result (λ v. v.items ≡ bytes_of_words words.now) }
 {
@@ -24,7 +24,7 @@ pub fn bytes_of(alloc: Global, words: &[u64]) -> std::result::Result<Vec<u8>, Al
     Ok(bytes)
 }
 
-/// A source that shows one byte at a time, and fails after some. It doesn't tell its bytes.
+/// A source that shows one byte at a time, and fails after some. It doesn't expose its bytes.
 #[derive(Drop)]
 pub struct Drip<'a> {
     bytes: &'a [u8],
@@ -33,7 +33,7 @@ pub struct Drip<'a> {
 }
 
 impl<'a> Drip<'a> {
-    /// The bytes, of which n are shown before the source fails.
+    /// Makes a source of the bytes, which shows n bytes before it fails.
     pub fn new(bytes: &'a [u8], left: usize) -> Drip<'a> {
         Drip {
             bytes,
@@ -42,7 +42,7 @@ impl<'a> Drip<'a> {
         }
     }
 
-    /// The bytes that weren't taken.
+    /// Returns the bytes that weren't taken.
     pub fn rest(&self) -> &[u8]
         ensures { result.now ≡ self.now.bytes.now }
     {
@@ -109,7 +109,7 @@ impl BufRead for Drip<'_> {
     ghost device_alone = { λ _ e. e };
 }
 
-/// A sink that takes some bytes, and then fails, or wants memory. It doesn't tell its bytes.
+/// A sink that takes some bytes, and then fails, or needs memory. It doesn't expose its bytes.
 #[derive(Drop)]
 pub struct Short {
     held: Vec<u8>,
@@ -119,7 +119,7 @@ pub struct Short {
 }
 
 impl Short {
-    /// A sink that takes n bytes.
+    /// Makes a sink that takes n bytes.
     pub fn new(alloc: Global, left: usize, wants_memory: bool) -> Short {
         Short {
             held: Vec::new(alloc),
@@ -129,7 +129,7 @@ impl Short {
         }
     }
 
-    /// The bytes that it took.
+    /// Returns the bytes that it took.
     pub fn held(&self) -> &[u8]
         ensures { result.now ≡ self.now.held.items }
     {

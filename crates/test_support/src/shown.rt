@@ -6,8 +6,8 @@ use capnp_stream_io::traits::{BufRead, Read};
 use capnp_units::errors::{Error, Result};
 use capnp_units::kinds::ErrorKind;
 
-/// A source that shows n bytes first, and then as many as a width at a time. It counts how often it
-/// is asked to show them, and fails where no more may be taken. It doesn't tell its bytes.
+/// A source that shows n bytes first, and then as many as a width at a time. It counts the requests
+/// to show them, and fails if no more may be taken. It doesn't expose its bytes.
 #[derive(Drop)]
 pub struct Shown<'a> {
     pub bytes: &'a [u8],
@@ -19,7 +19,8 @@ pub struct Shown<'a> {
 }
 
 impl<'a> Shown<'a> {
-    /// The bytes, of which n are shown first, and then as many as the width at a time.
+    /// Makes a source of the bytes, which shows n bytes first, and then as many as the width at a
+    /// time.
     pub fn new(bytes: &'a [u8], first: usize, width: usize) -> Shown<'a> {
         Shown {
             bytes,
@@ -31,14 +32,14 @@ impl<'a> Shown<'a> {
         }
     }
 
-    /// The bytes, all shown at once, of which n may be taken before the source fails.
+    /// Makes a source of the bytes, which shows all at once; n bytes may be taken before it fails.
     pub fn failing(bytes: &'a [u8], left: usize) -> Shown<'a> {
         let mut source = Shown::new(bytes, 0, usize::MAX);
         source.left = left;
         source
     }
 
-    /// How often it was asked to show its bytes.
+    /// Returns the number of requests to show its bytes.
     pub fn looks(&self) -> usize
         ensures { result ≡ self.now.looks }
     {
