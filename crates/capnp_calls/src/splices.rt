@@ -115,8 +115,8 @@ pub(crate) fn next_hop(end: End<'_>, step: &Step) -> Onward
     }
 }
 
-/// Adds the hop that is made, if any, if the path was straight so far. It returns the next part of
-/// the path as a whole. `OutOfMemory`: the list can't grow.
+/// Adds the hop of a step that makes one, if the path was straight so far. It returns the next part
+/// of the path as a whole. `OutOfMemory`: the list can't grow.
 pub(crate) fn note_hop(hops: &mut Vec<Hop>, was_straight: bool, onward: Onward) -> Result<Onward>
     ensures onward { IfOk result (λ whole. whole ≡ onward_if was_straight onward) }
     ensures hops { IfOk result (λ whole. hops.new.items ≡ hops.old.items ++ hops_made whole) }

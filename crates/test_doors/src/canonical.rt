@@ -1,4 +1,4 @@
-//! Canonical copies, over words that the value's size tells.
+//! Canonical copies, over words whose number follows from the value's size.
 use capnp_layout::{
     Error, ErrorKind, PointerReader, ReadLimiter, ReaderSegments, Result, copy_canonical,
     copy_canonical_from,
@@ -9,7 +9,7 @@ use capnp_message::message::{
 use std::alloc::Global;
 use std::test::Fail;
 
-/// A message whose struct has a data word of zeros behind one that isn't, and a null pointer.
+/// A message whose struct has a data word of zeros after one that isn't zero, and a null pointer.
 const UNTRIMMED: [u8; 32] = [
     0, 0, 0, 0, 2, 0, 1, 0, 17, 17, 17, 17, 17, 17, 17, 17, 0, 0, 0, 0, 0, 0, 0, 0, 0, 0, 0, 0, 0,
     0, 0, 0,
@@ -18,7 +18,7 @@ const UNTRIMMED: [u8; 32] = [
 /// Its canonical words.
 const TRIMMED: [u8; 16] = [0, 0, 0, 0, 1, 0, 0, 0, 17, 17, 17, 17, 17, 17, 17, 17];
 
-/// The used bytes of a message whose root becomes the canonical copy of another's.
+/// Returns the used bytes of a message whose root becomes the canonical copy of another's.
 fn copied(alloc: Global, message: &mut Builder<HeapAllocator>, source: &[u8]) -> Result<Vec<u8>> {
     let segments = [source];
     let source = Reader::new(SegmentArray::new(&segments), DEFAULT_READER_OPTIONS);
@@ -34,7 +34,7 @@ fn copied(alloc: Global, message: &mut Builder<HeapAllocator>, source: &[u8]) ->
     }
 }
 
-/// The same by the one call that measures and copies.
+/// Does this by the one call that measures and copies.
 fn measured(alloc: Global, message: &mut Builder<HeapAllocator>, source: &[u8]) -> Result<Vec<u8>> {
     let segments = [source];
     let source = Reader::new(SegmentArray::new(&segments), DEFAULT_READER_OPTIONS);

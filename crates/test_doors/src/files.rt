@@ -28,7 +28,7 @@ fn files_of_another_form_are_refused(rt: HostRuntime) -> Result<(), Fail> {
     Ok(())
 }
 
-/// A renaming of the field of a name in node 1.
+/// Makes a renaming of the field of a name in node 1.
 fn renaming(alloc: Global, older: &str, newer: &str) -> Result<Renaming, AllocError> {
     Ok(Renaming {
         node: 1,
@@ -48,7 +48,7 @@ fn no_name_is_renamed_twice(rt: HostRuntime) -> Result<(), Fail> {
     Ok(())
 }
 
-/// The path of one name.
+/// Makes the path of one name.
 fn path(alloc: Global, name: &str) -> Result<Vec<Step>, Fail> {
     let step = Step::Name(String::from_str(alloc, name)?);
     Ok(vec![in alloc; step]?)
@@ -71,7 +71,7 @@ fn calls_that_cannot_be_are_refused(rt: HostRuntime) -> Result<(), Fail> {
     Ok(())
 }
 
-/// Limits of n words and levels.
+/// Makes limits of n words and levels.
 fn limits(words: Option<usize>, levels: i32) -> ReaderOptions {
     ReaderOptions {
         traversal_limit_in_words: words,

@@ -1,4 +1,4 @@
-//! Schemas, where the roots of messages lie under them, and printed texts.
+//! Schemas, places of the roots of messages under them, and printed texts.
 use capnp_layout::{Error, ErrorKind, ReaderArena, Result, StructPlace};
 use capnp_message::message::{Builder, HeapAllocator, StructSize, root_of};
 use capnp_relay::schema_file;
@@ -32,7 +32,7 @@ pub(crate) const SCHEMAS: &str = r#"[
         {"name": "v", "discriminant": 1, "type": "UInt16", "offset": 0}]},
     {"id": 7, "name": "E", "enumerants": ["red", "green"]}]"#;
 
-/// The set of the nodes of a schema file.
+/// Makes the set of the nodes of a schema file.
 pub(crate) fn set_of(alloc: Global, text: &str) -> std::result::Result<SchemaSet, Fail> {
     let nodes = schema_file(alloc, text.as_bytes())
         .ok()
@@ -40,13 +40,13 @@ pub(crate) fn set_of(alloc: Global, text: &str) -> std::result::Result<SchemaSet
     Ok(SchemaSet::new(nodes)?)
 }
 
-/// The struct of an id.
+/// Returns the struct of an id.
 pub(crate) fn schema_of(set: &SchemaSet, id: u64) -> std::result::Result<StructSchema<'_>, Fail> {
     let raw = set.struct_or_group_by_id(id).ok_or("the struct")?;
     Ok(StructSchema::new(set, raw))
 }
 
-/// Begins a struct of a schema's sizes as the root, and tells where it lies.
+/// Begins a struct of a schema's sizes as the root, and returns its place.
 pub(crate) fn begin(
     message: &mut Builder<HeapAllocator>,
     schema: StructSchema<'_>,
@@ -60,7 +60,7 @@ pub(crate) fn begin(
     Ok(fields.reborrow().place)
 }
 
-/// The text of a value.
+/// Returns the text of a value.
 pub(crate) fn text_of<A: ReaderArena>(
     alloc: Global,
     value: dynamic_value::Reader<'_, A>,

@@ -1,4 +1,4 @@
-//! Handles that are lent, read for a while, and given up for readers.
+//! Handles that are lent, read for a while, and consumed by readers.
 use capnp_layout::{
     BuilderArena, DataBuilder, ElementSize, Error, ErrorKind, ListBuilder, Memory, Result,
     StructBuilder, StructPlace, TextBuilder, has_words,
@@ -10,7 +10,7 @@ use std::test::Fail;
 /// Positions that are too far for a handle.
 const FAR: usize = 1 << 60;
 
-/// A null root, as it is lent, as it is read, and as its reader is.
+/// Returns a null root, as it is lent, as it is read, and as its reader is.
 fn nulls(message: &mut Builder<HeapAllocator>) -> Result<(bool, bool, bool)> {
     let mut root = root_of(&mut message.memory)?;
     let lent = root.reborrow().is_null();
@@ -24,7 +24,7 @@ fn pointers_are_lent(rt: HostRuntime) -> std::result::Result<(), Fail> {
     Ok(())
 }
 
-/// Sets a bit exclusive or its default, and reads it and the field in each way.
+/// Sets a bit exclusive-or'ed with its default, and reads it and the field in each way.
 fn bit<A: BuilderArena>(memory: &mut Memory<A>, place: StructPlace) -> Result<(bool, bool, bool)> {
     let words = place.data_words as usize;
     let near = place.start.position < FAR;
@@ -43,7 +43,7 @@ fn bit<A: BuilderArena>(memory: &mut Memory<A>, place: StructPlace) -> Result<(b
     Ok((stored, field, fields.as_reader().get_bool_field(3)))
 }
 
-/// The same of a struct of a data word, the root.
+/// Does this for a struct of a data word, the root.
 fn root_bit(message: &mut Builder<HeapAllocator>) -> Result<(bool, bool, bool)> {
     let size = StructSize {
         data_words: 1,
@@ -61,7 +61,7 @@ fn structs_are_lent(rt: HostRuntime) -> std::result::Result<(), Fail> {
     Ok(())
 }
 
-/// How many elements a list of the root has, as it is lent and as it is.
+/// Returns the number of elements of a list of the root, lent and directly.
 fn counts(message: &mut Builder<HeapAllocator>) -> Result<(u32, u32)> {
     let mut list: ListBuilder<'_, _> = root_of(&mut message.memory)?.init_list(
         ElementSize::Bit,
@@ -77,7 +77,8 @@ fn lists_are_lent(rt: HostRuntime) -> std::result::Result<(), Fail> {
     Ok(())
 }
 
-/// Writes a text of four bytes by a handle and one that it lends, and tells whether it reads so.
+/// Writes a text of four bytes by a handle and by one that it lends, and returns whether it reads
+/// so.
 fn is_written<A: BuilderArena>(mut text: TextBuilder<'_, A>) -> bool {
     if text.len() != 4 || text.position != 0 || text.place.start.position >= FAR {
         return false;
@@ -91,7 +92,7 @@ fn is_written<A: BuilderArena>(mut text: TextBuilder<'_, A>) -> bool {
     text.reborrow_as_reader().eq_str("hi!\0") && text.into_reader().eq_str("hi!\0")
 }
 
-/// A text as the root.
+/// Makes a text as the root.
 fn text_root(message: &mut Builder<HeapAllocator>) -> Result<bool> {
     Ok(is_written(root_of(&mut message.memory)?.init_text(4)?))
 }
@@ -102,7 +103,7 @@ fn texts_are_lent(rt: HostRuntime) -> std::result::Result<(), Fail> {
     Ok(())
 }
 
-/// Writes three bytes of data, one by a handle that is lent, and tells whether they read so.
+/// Writes three bytes of data, one by a handle that is lent, and returns whether they read so.
 fn are_written<A: BuilderArena>(mut data: DataBuilder<'_, A>) -> bool {
     if data.len() != 3 || data.place.start.position >= FAR {
         return false;
@@ -116,7 +117,7 @@ fn are_written<A: BuilderArena>(mut data: DataBuilder<'_, A>) -> bool {
     data.as_bytes() == b"abc".as_slice() && data.into_reader() == b"abc".as_slice()
 }
 
-/// Data as the root.
+/// Makes data as the root.
 fn data_root(message: &mut Builder<HeapAllocator>) -> Result<bool> {
     Ok(are_written(root_of(&mut message.memory)?.init_data(3)?))
 }
@@ -127,8 +128,8 @@ fn data_are_lent(rt: HostRuntime) -> std::result::Result<(), Fail> {
     Ok(())
 }
 
-/// Whether the texts that are the roots of two messages are equal, and whether the same bytes are
-/// as data. In the second message another text stands before it.
+/// Returns whether the texts that are the roots of two messages are equal, and whether the same
+/// bytes are as data. In the second message another text precedes it.
 fn roots_equal(
     one: &mut Builder<HeapAllocator>,
     two: &mut Builder<HeapAllocator>,
@@ -146,7 +147,7 @@ fn roots_equal(
     Ok((texts, data == root_of(&mut two.memory)?.get_data(None)?))
 }
 
-/// The same, where the second message is new.
+/// Does this, if the second message is new.
 fn equal_beside(
     alloc: Global,
     one: &mut Builder<HeapAllocator>,
@@ -156,7 +157,7 @@ fn equal_beside(
     with_message(alloc, |two| roots_equal(one, two, bytes, others))
 }
 
-/// The same in two new messages.
+/// Does this in two new messages.
 fn equal_in_two(alloc: Global, bytes: &[u8], others: &[u8]) -> Result<(bool, bool)> {
     with_message(alloc, |one| equal_beside(alloc, one, bytes, others))
 }

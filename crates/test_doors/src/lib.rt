@@ -1,5 +1,5 @@
-//! Tests through the four doors alone: what no other test calls, and each door's names as a user
-//! calls them.
+//! Tests only through the four doors: items that no other test calls, and each door's names as a
+//! user calls them.
 #![tactic(auto)]
 
 #[cfg(test)]

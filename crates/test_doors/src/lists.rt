@@ -18,7 +18,7 @@ type Given<'a> = Reader<'a, NullArena>;
 /// Positions that are too far for a handle.
 const FAR: usize = 1 << 60;
 
-/// What a call answers that finds its value missing.
+/// Returns the error of a call that doesn't find its value.
 fn missing<T>() -> Result<T> {
     Err(Error::from(ErrorKind::OutOfBounds))
 }
@@ -62,7 +62,8 @@ fn begin_field<A: BuilderArena>(
     list.part(part).set_named("a", Given::UInt16(3))
 }
 
-/// Gets a list of R, and begins its first text, or sets the text of its first struct, which is got.
+/// Reads a list of R for writing, and begins its first text, or sets the text of its first struct,
+/// which is read for writing.
 fn write_field<A: BuilderArena>(
     memory: &mut Memory<A>,
     place: StructPlace,
@@ -97,7 +98,7 @@ fn write_field<A: BuilderArena>(
     }
 }
 
-/// Gets the untyped field of R, and sets it to a text, which is a word.
+/// Reads the untyped field of R for writing, and sets it to a text, which is a word.
 fn write_pointer<A: BuilderArena>(
     memory: &mut Memory<A>,
     place: StructPlace,
@@ -124,7 +125,7 @@ fn write_pointer<A: BuilderArena>(
     Ok(())
 }
 
-/// The text of a struct.
+/// Returns the text of a struct.
 fn shown<A: BuilderArena>(
     alloc: Global,
     memory: &mut Memory<A>,
@@ -141,7 +142,7 @@ fn shown<A: BuilderArena>(
     text_of(alloc, Reader::Struct(record.into_reader()))
 }
 
-/// Writes a field of a new message of R, and tells its text.
+/// Writes a field of a new message of R, and returns its text.
 fn written(
     alloc: Global,
     message: &mut Builder<HeapAllocator>,
@@ -158,7 +159,7 @@ fn written(
     shown(alloc, &mut message.memory, place, schema)
 }
 
-/// Fields of R, and the text of a struct where that one was written.
+/// Fields of R, and the text of a struct after that field was written.
 const WRITTEN: [(&str, &str); 3] = [
     (
         "words",

@@ -1,5 +1,5 @@
 //! Structs whose schema is known at run time: fields that are set, parts and lists that are begun,
-//! and what they read as.
+//! and their values.
 use crate::fixtures::{SCHEMAS, begin, schema_of, set_of, text_of};
 use capnp_layout::{
     BuilderArena, Error, ErrorKind, Memory, NullArena, Result, StructBuilder, StructPlace,
@@ -16,12 +16,12 @@ use std::test::Fail;
 /// A value of no message.
 type Given<'a> = Reader<'a, NullArena>;
 
-/// What a call answers that finds its struct missing.
+/// Returns the error of a call that doesn't find its struct.
 fn missing<T>() -> Result<T> {
     Err(Error::from(ErrorKind::OutOfBounds))
 }
 
-/// Sets fields of R by their names and by themselves, clears one, and tells its text.
+/// Sets fields of R by their names and directly, clears one, and returns its text.
 fn set_fields<A: BuilderArena>(
     alloc: Global,
     memory: &mut Memory<A>,
@@ -51,7 +51,7 @@ fn set_fields<A: BuilderArena>(
     text_of(alloc, Reader::Struct(record.into_reader()))
 }
 
-/// The same of a new message.
+/// Does this for a new message.
 fn fields_in(
     alloc: Global,
     message: &mut Builder<HeapAllocator>,
@@ -98,7 +98,7 @@ fn begin_part<A: BuilderArena>(
         .set_named(number.0, Given::UInt16(number.1))
 }
 
-/// The same by the field's name.
+/// Does this by the field's name.
 fn begin_named<A: BuilderArena>(
     memory: &mut Memory<A>,
     place: StructPlace,
@@ -121,7 +121,7 @@ fn begin_named<A: BuilderArena>(
         .set_named(number.0, Given::UInt16(number.1))
 }
 
-/// Sets the text of the child of R, which is got.
+/// Sets the text of the child of R, which is read for writing.
 fn set_text<A: BuilderArena>(
     memory: &mut Memory<A>,
     place: StructPlace,
@@ -141,7 +141,7 @@ fn set_text<A: BuilderArena>(
     }
 }
 
-/// The text of a struct.
+/// Returns the text of a struct.
 fn shown<A: BuilderArena>(
     alloc: Global,
     memory: &mut Memory<A>,
@@ -158,7 +158,7 @@ fn shown<A: BuilderArena>(
     text_of(alloc, Reader::Struct(record.reborrow_as_reader()))
 }
 
-/// The text of a new R whose child and whose group are begun, each twice.
+/// Returns the text of a new R whose child and whose group are begun, each twice.
 fn parts_in(
     alloc: Global,
     message: &mut Builder<HeapAllocator>,
@@ -184,7 +184,7 @@ fn parts_are_begun(rt: HostRuntime) -> std::result::Result<(), Fail> {
     Ok(())
 }
 
-/// The member of U that is active before and after the other is set, by index.
+/// Returns the member of U that is active before and after the other is set, by index.
 fn members<A: BuilderArena>(
     memory: &mut Memory<A>,
     place: StructPlace,
@@ -205,7 +205,7 @@ fn members<A: BuilderArena>(
     Ok((before, record.which()?.map(|field| field.get_index())))
 }
 
-/// The same of a new message.
+/// Does this for a new message.
 fn members_in(
     message: &mut Builder<HeapAllocator>,
     schema: StructSchema<'_>,

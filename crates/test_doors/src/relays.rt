@@ -24,7 +24,7 @@ const LIMITS: ReaderOptions = ReaderOptions {
 const OLDER: &str = r#"[{"id": 1, "name": "P", "data": 1, "pointers": 0, "fields": [
     {"name": "a", "type": "UInt16", "offset": 0}]}]"#;
 
-/// The same with one number more.
+/// A struct with one number more.
 const NEWER: &str = r#"[{"id": 1, "name": "P", "data": 2, "pointers": 0, "fields": [
     {"name": "a", "type": "UInt16", "offset": 0},
     {"name": "b", "type": "UInt64", "offset": 1}]}]"#;
@@ -38,12 +38,12 @@ const MESSAGE: [u8; 32] = [
     0, 0, 0, 0, 3, 0, 0, 0, 0, 0, 0, 0, 2, 0, 0, 0, 1, 0, 0, 0, 0, 0, 0, 0, 99, 0, 0, 0, 0, 0, 0, 0,
 ];
 
-/// The same where `a` is 7.
+/// A framed message of the newer schema whose `a` is 7.
 const SEVEN: [u8; 32] = [
     0, 0, 0, 0, 3, 0, 0, 0, 0, 0, 0, 0, 2, 0, 0, 0, 7, 0, 0, 0, 0, 0, 0, 0, 99, 0, 0, 0, 0, 0, 0, 0,
 ];
 
-/// A call at the field of a name.
+/// Makes a call at the field of a name.
 fn call(
     alloc: Global,
     name: &str,
@@ -54,7 +54,7 @@ fn call(
     Ok(Call::new(alloc, vec![in alloc; step]?, verb, value)?)
 }
 
-/// The call that sets a field to 7.
+/// Makes the call that sets a field to 7.
 fn seven(alloc: Global, name: &str) -> std::result::Result<Call, Fail> {
     call(alloc, name, Verb::Set, Some(CallValue::Number(7)))
 }
@@ -83,7 +83,7 @@ fn calls_are_admitted(rt: HostRuntime) -> std::result::Result<(), Fail> {
     Ok(())
 }
 
-/// What calls reply at a new struct, under a schema that is no group's.
+/// Returns the replies of calls at a new struct, under a schema that is not a group's.
 fn replies(
     alloc: Global,
     message: &mut Builder<HeapAllocator>,
@@ -123,7 +123,7 @@ fn calls_are_answered(rt: HostRuntime) -> std::result::Result<(), Fail> {
     Ok(())
 }
 
-/// How a relay of a source ends, what it writes, and what it logs.
+/// The end of a relay of a source, with its output and its log.
 #[derive(Drop)]
 struct Ending {
     end: std::result::Result<Counts, BetweenFault>,
@@ -131,7 +131,7 @@ struct Ending {
     log: Vec<u8>,
 }
 
-/// A relay between the versions that sets a field to 7.
+/// Runs a relay between the versions that sets a field to 7.
 fn relayed_between(
     alloc: Global,
     older: &SchemaSet,

@@ -13,7 +13,7 @@ use capnp_schema::any_pointer;
 use std::alloc::Global;
 use std::test::Fail;
 
-/// The used bytes of the first segment.
+/// Returns the used bytes of the first segment.
 fn bytes_of<S: ReaderSegments>(alloc: Global, message: &S) -> Result<Vec<u8>> {
     match message.get_segment(0) {
         Some(bytes) => Ok(Vec::from_slice(alloc, bytes)?),
@@ -21,8 +21,8 @@ fn bytes_of<S: ReaderSegments>(alloc: Global, message: &S) -> Result<Vec<u8>> {
     }
 }
 
-/// Three numbers of two bytes as the root, where the kind of list and their count stand in its
-/// pointer.
+/// Makes three numbers of two bytes as the root, whose pointer has the kind of list and their
+/// count.
 fn numbers(alloc: Global, message: &mut Builder<HeapAllocator>) -> Result<Vec<u8>> {
     let list = root_of(&mut message.memory)?.init_list(ElementSize::TwoBytes, 3)?;
     if list.len() != 3 {
@@ -40,7 +40,7 @@ fn a_list_is_the_root(rt: HostRuntime) -> std::result::Result<(), Fail> {
     Ok(())
 }
 
-/// A root that is made null, and is read where nothing was written to it.
+/// Makes a null root, and reads it before anything is written to it.
 fn null_root(message: &mut Builder<HeapAllocator>) -> Result<(usize, usize)> {
     message.allocate_root()?;
     let mut limiter = DEFAULT_READER_OPTIONS.read_limiter();
@@ -56,9 +56,9 @@ fn a_root_without_a_value_is_null(rt: HostRuntime) -> std::result::Result<(), Fa
     Ok(())
 }
 
-/// The root of a message to which nothing was written: how many bytes it has as data, and whether
-/// it is the empty text and a null pointer. Then the words granted and the pointers followed by
-/// then.
+/// Returns facts about the root of a message to which nothing was written: its number of bytes as
+/// data, and whether it is the empty text and a null pointer. It also returns the words granted and
+/// the pointers followed so far.
 fn unwritten(message: &mut Builder<HeapAllocator>) -> Result<(usize, bool, bool, u64, u64)> {
     let mut limiter = ReadLimiter::new(Some(0));
     let bytes: &[u8] = message.get_root_as_reader(&mut limiter)?;
@@ -80,8 +80,8 @@ fn a_root_that_was_not_made_is_null(rt: HostRuntime) -> std::result::Result<(), 
     Ok(())
 }
 
-/// The bytes of the text that is the root, where a segment was allocated by hand or none was. It
-/// has none in the one, and isn't there in the other.
+/// Returns the bytes of the text that is the root, if a segment was allocated by hand or no segment
+/// was. In the first case the text has no bytes, in the second it doesn't exist.
 fn by_hand(alloc: Global, allocate: bool) -> (Result<()>, Result<usize>) {
     let mut built: TypedBuilder<text::Owned, HeapAllocator> = TypedBuilder::new_default(alloc);
     let allocated = if allocate {
@@ -107,7 +107,7 @@ fn a_segment_without_words_has_no_root(rt: HostRuntime) -> std::result::Result<(
     Ok(())
 }
 
-/// How many bytes a text and data have that are made as roots of a typed message.
+/// Returns the numbers of bytes of a text and data that are made as roots of a typed message.
 fn blobs(alloc: Global) -> (Result<TextPlace>, Result<DataPlace>) {
     let mut built: TypedBuilder<text::Owned, HeapAllocator> = TypedBuilder::new_default(alloc);
     let text = built.initn_root(2);
@@ -124,7 +124,7 @@ fn texts_and_data_are_roots(rt: HostRuntime) -> std::result::Result<(), Fail> {
     Ok(())
 }
 
-/// How many words a message has whose untyped root is begun by its type, then got.
+/// Returns the number of words of a message whose untyped root is begun by its type, then read.
 fn untyped(alloc: Global) -> Result<usize> {
     let mut built: TypedBuilder<any_pointer::Owned, HeapAllocator> = TypedBuilder::new_default(
         alloc,
@@ -144,7 +144,7 @@ fn an_untyped_root_is_a_word(rt: HostRuntime) -> std::result::Result<(), Fail> {
     Ok(())
 }
 
-/// Sets an untyped root to a text, and tells how many words the message has.
+/// Sets an untyped root to a text, and returns the number of words of the message.
 fn set_hello(message: &mut Builder<HeapAllocator>) -> Result<usize> {
     let mut root = any_pointer::Builder::new(root_of(&mut message.memory)?);
     root.set_as::<text::Owned, &str>("Hello, World!")?;

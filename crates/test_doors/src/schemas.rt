@@ -49,7 +49,7 @@ fn members_are_found(rt: HostRuntime) -> Result<(), Fail> {
     Ok(())
 }
 
-/// An enum node of one name, with a note.
+/// Makes an enum node of one name, with a note.
 fn colours(alloc: Global) -> Result<Vec<NodeRecord>, AllocError> {
     let ty = TypeRecord {
         list_count: 0,

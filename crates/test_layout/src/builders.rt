@@ -1,4 +1,4 @@
-//! Tests of `capnp_layout_builders`, and of copies below it.
+//! Tests of `capnp_layout_builders`, and of the copies that it uses.
 
 mod arena_tests;
 mod deep_tests;

@@ -1,5 +1,5 @@
-//! Tests of layout: of `capnp_units`, `capnp_text`, `capnp_wire` and `capnp_layout_builders`, by
-//! their public calls alone, where no case can say them.
+//! Tests of layout, only by public calls: of `capnp_units`, `capnp_text`, `capnp_wire` and
+//! `capnp_layout_builders`, for properties that data can't express.
 #![tactic(auto)]
 
 #[cfg(test)]

@@ -61,7 +61,7 @@ pub struct Device {
 }
 
 impl Device {
-    /// A sink that takes n bytes.
+    /// Makes a sink that takes n bytes.
     pub fn new(alloc: Global, left: usize, flushes: bool) -> Device {
         Device {
             held: Vec::new(alloc),

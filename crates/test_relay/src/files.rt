@@ -1,5 +1,5 @@
-//! Long and many parts of files, with ample memory: they are read whole, and where the last of them
-//! has another form the answer says so.
+//! Long and many parts of files, with ample memory: they are read whole, and if the last of them
+//! has another form the result says so.
 
 use capnp_calls::CallValue;
 use capnp_records::node::{FieldBody, NodeBody, NodeRecord, Value};
@@ -9,7 +9,7 @@ use capnp_relay_files::schema_file::schema_file;
 use std::alloc::{AllocError, Global};
 use std::test::Fail;
 
-/// A file: its front, a part that comes again and again, and its end.
+/// A file: its front, a part that is repeated, and its end.
 struct Long {
     front: &'static str,
     part: &'static str,
@@ -17,7 +17,7 @@ struct Long {
     end: &'static str,
     /// An end of another form.
     other: &'static str,
-    /// How long the parts of what is read are.
+    /// The lengths of the parts that are read.
     sizes: [usize; 4],
 }
 
@@ -123,7 +123,7 @@ const CALLS: [Long; 5] = [
     },
 ];
 
-/// How many bytes the default of a field has.
+/// Returns the number of bytes of the default of a field.
 fn default_len(body: &FieldBody) -> usize {
     match body {
         FieldBody::Slot {
@@ -134,8 +134,8 @@ fn default_len(body: &FieldBody) -> usize {
     }
 }
 
-/// How many nodes there are, how long the first one's name is, how many members the last has, and
-/// how long its first default is.
+/// Returns the number of nodes, the length of the first one's name, the number of the last one's
+/// members, and the length of the first one's first default.
 fn node_sizes(nodes: &[NodeRecord]) -> [usize; 4] {
     let name = nodes.first().map_or(0, |node| node.display_name.len());
     let (members, default) = match nodes.last().map(|node| &node.body) {
@@ -152,7 +152,7 @@ fn node_sizes(nodes: &[NodeRecord]) -> [usize; 4] {
     [nodes.len(), name, members, default]
 }
 
-/// How many bytes a value has.
+/// Returns the number of bytes of a value.
 fn value_len(value: &CallValue) -> usize {
     match value {
         CallValue::Text(text) => text.len(),

@@ -5,7 +5,7 @@ use capnp_relay_loop::ends::{Counts, RelayFault};
 use std::alloc::{AllocError, Global};
 use std::test::Fail;
 
-/// What a run left.
+/// The output of a run.
 #[derive(Drop)]
 struct Relayed {
     out: Vec<u8>,
@@ -13,7 +13,7 @@ struct Relayed {
     end: Result<Counts, RelayFault>,
 }
 
-/// What a run in this form leaves.
+/// Returns the output of a run in this form.
 fn left_by(alloc: Global, form: &str, calls: &str, input: &[u8]) -> Result<Relayed, Fail> {
     let mut source = input;
     let mut out = Vec::new(alloc);
@@ -36,22 +36,23 @@ fn written(written: u64) -> Result<Counts, RelayFault> {
     })
 }
 
-/// A frame of one segment of n words.
+/// Returns a frame's header of one segment of n words.
 fn header(words: u64) -> u64 {
     words << 32
 }
 
-/// A pointer to a list of this size and count.
+/// Returns a pointer to a list of this size and count.
 fn list(offset: u64, size: u64, count: u64) -> u64 {
     1 | offset << 2 | size << 32 | count << 35
 }
 
-/// A pointer to a struct of n words and pointers.
+/// Returns a pointer to a struct of n words and pointers.
 fn structure(offset: u64, words: u64, pointers: u64) -> u64 {
     offset << 2 | words << 32 | pointers << 48
 }
 
-/// 1 MiB of bytes 255 in a pointer that the schema doesn't name, beside a number: as it is.
+/// Returns a frame with 1 MiB of bytes 255 in a pointer that the schema doesn't name, beside a
+/// number.
 fn long_frame(alloc: Global) -> Result<Vec<u8>, AllocError> {
     let mut bytes = Vec::new(alloc);
     let head = [
@@ -68,7 +69,7 @@ fn long_frame(alloc: Global) -> Result<Vec<u8>, AllocError> {
     Ok(bytes)
 }
 
-/// The same packed: the words of 255 go in runs of 256.
+/// Returns this message packed: the words of 255 are in runs of 256.
 fn long_packed(alloc: Global) -> Result<Vec<u8>, AllocError> {
     let mut bytes = Vec::new(alloc);
     bytes.extend_from_slice(&[0x50, 4, 2, 0x50, 1, 2, 1, 7, 0, 0, 0x51, 1, 2, 0x80])?;
@@ -121,7 +122,7 @@ fn many_messages_are_answered(rt: HostRuntime) -> Result<(), Fail> {
     Ok(())
 }
 
-/// A calls file: a text set and got, and then 1000 bytes of zero.
+/// Returns a calls file: a text is set and read, and then 1000 bytes of zero are made.
 fn long_text_calls(alloc: Global, text: &str) -> Result<String, Fail> {
     let mut calls = String::from_str(
         alloc,

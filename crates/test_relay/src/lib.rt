@@ -1,5 +1,5 @@
-//! Tests of the relay and its program that no data can say: devices that fail, sources that wait,
-//! and long streams.
+//! Tests of the relay and its program that data can't express: devices that fail, sources that
+//! wait, and long streams.
 #![tactic(auto)]
 
 #[cfg(test)]

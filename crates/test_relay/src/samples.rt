@@ -26,15 +26,15 @@ pub(crate) const NO_CALLS: &str = "{\"calls\":[],\"words\":1000}";
 /// A frame of a null root.
 pub(crate) const NULL: [u8; 16] = [0, 0, 0, 0, 1, 0, 0, 0, 0, 0, 0, 0, 0, 0, 0, 0];
 
-/// What is written of it without calls.
+/// The output for this frame without calls.
 pub(crate) const EMPTY: [u8; 16] = [0, 0, 0, 0, 1, 0, 0, 0, 0xfc, 0xff, 0xff, 0xff, 0, 0, 0, 0];
 
-/// What is written of it where `a` is set to 7.
+/// The output for this frame if `a` is set to 7.
 pub(crate) const SEVEN: [u8; 24] = [
     0, 0, 0, 0, 2, 0, 0, 0, 0, 0, 0, 0, 1, 0, 0, 0, 7, 0, 0, 0, 0, 0, 0, 0,
 ];
 
-/// The words of a run in a form.
+/// Returns the arguments of a run in a form.
 fn words_in(alloc: Global, form: &str) -> Result<Vec<String>, AllocError> {
     let mut words = Vec::new(alloc);
     for word in ["p.json", "c.json", "1", form] {
@@ -43,7 +43,7 @@ fn words_in(alloc: Global, form: &str) -> Result<Vec<String>, AllocError> {
     Ok(words)
 }
 
-/// The status of a run of the program in this form with this calls file.
+/// Returns the status of a run of the program in this form with this calls file.
 pub(crate) fn run<R: Windowed, W: Flush, L: Flush>(
     alloc: Global,
     form: &str,
@@ -58,7 +58,7 @@ pub(crate) fn run<R: Windowed, W: Flush, L: Flush>(
     Ok(program(alloc, &words, schema, calls, None, None, source, out, log))
 }
 
-/// The status of a framed run with the call `set a = 7`.
+/// Returns the status of a framed run with the call `set a = 7`.
 pub(crate) fn set_a<R: Windowed, W: Flush, L: Flush>(
     alloc: Global,
     source: &mut R,
@@ -68,8 +68,8 @@ pub(crate) fn set_a<R: Windowed, W: Flush, L: Flush>(
     run(alloc, "framed", SET_A, source, out, log)
 }
 
-/// How `relay` ends in this form with this calls file. The region isn't zero before, and has to be
-/// after.
+/// Returns the end of `relay` in this form with this calls file. The region isn't zero before, and
+/// has to be zero after.
 pub(crate) fn relayed<R: BufRead, W: Write, L: Write>(
     alloc: Global,
     form: &str,

@@ -1,4 +1,4 @@
-//! Runs of `relay` over streams that fail, want memory or are too short.
+//! Runs of `relay` over streams that fail, need memory or are too short.
 
 use crate::samples::{EMPTY, NO_CALLS, NULL, SET_A, SEVEN, relayed};
 use capnp_relay_loop::ends::{Counts, Fault, RelayFault};
@@ -9,7 +9,7 @@ use test_support::{Drip, Short};
 /// A message of a capability.
 const CAPABILITY: [u8; 16] = [0, 0, 0, 0, 1, 0, 0, 0, 3, 0, 0, 0, 0, 0, 0, 0];
 
-/// What is logged of it, where it is the first, and of a null root behind it.
+/// The log for this message, if it is the first, and for a null root after it.
 const FIRST: &[u8] = b"message 1 refused: value\n";
 
 const BOTH: &[u8] = b"message 1 refused: value\nmessage 2 written\n";
@@ -21,7 +21,7 @@ fn fault(fault: Fault, written: u64, refused: u64) -> Result<Counts, RelayFault>
     })
 }
 
-/// A capability and a null root, n times.
+/// Returns a capability and a null root, n times.
 fn two(alloc: Global, times: usize) -> Result<Vec<u8>, AllocError> {
     let mut bytes = Vec::new(alloc);
     for _ in 0..times {

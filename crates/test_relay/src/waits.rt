@@ -66,7 +66,7 @@ const TWO: [u8; 32] = [
     0, 0, 0, 0, 1, 0, 0, 0, 0, 0, 0, 0, 0, 0, 0, 0, 0, 0, 0, 0, 1, 0, 0, 0, 0, 0, 0, 0, 0, 0, 0, 0,
 ];
 
-/// How many bytes are written of each.
+/// The number of bytes that are written for each.
 const WRITTEN: usize = 24;
 
 #[test]

@@ -9,8 +9,8 @@ use capnp_units::kinds::ErrorKind;
 use capnp_wire_objects::arena::ReaderArena;
 use std::test::Fail;
 
-/// Where words were allocated in a segment of 300 words that is all the allocator has: in it,
-/// anywhere, behind its end, and in a segment that isn't there.
+/// Allocates words in a segment of 300 words, the only one of the allocator: in the segment,
+/// anywhere, after its end, and in a segment that doesn't exist.
 #[test]
 fn room_in_a_segment_is_used(rt: HostRuntime) -> Result<(), Fail> {
     let mut arena = BuilderArenaImpl::new(rt.alloc(), exact_segments(rt.alloc(), 1));
@@ -32,7 +32,7 @@ fn room_in_a_segment_is_used(rt: HostRuntime) -> Result<(), Fail> {
     Ok(())
 }
 
-/// Segments of one word and of three are taken one after the other, and given out.
+/// Takes segments of one word and of three one after the other, and returns them.
 #[test]
 fn segments_are_taken_on_demand(rt: HostRuntime) -> Result<(), Fail> {
     let mut arena = BuilderArenaImpl::new(rt.alloc(), exact_segments(rt.alloc(), 3));
@@ -54,9 +54,9 @@ fn segments_are_taken_on_demand(rt: HostRuntime) -> Result<(), Fail> {
     Ok(())
 }
 
-/// What is asked of an allocator that has nothing: the greatest first segment, and that of the most
-/// words of a message; for more it isn't asked. An allocator on the heap cuts the greatest first
-/// segment to the most that is set.
+/// Checks the requests to an allocator that has nothing: the greatest first segment, and the
+/// segment of the most words of a message; for more words it isn't asked. An allocator on the heap
+/// cuts the greatest first segment to the most that is set.
 #[test]
 fn the_greatest_segments_are_asked_for(rt: HostRuntime) -> Result<(), Fail> {
     let none = Some(Error::from(ErrorKind::OutOfMemory));

@@ -1,5 +1,4 @@
-//! A number two pointers below the root, of whose edit a caller tells what the root's value
-//! becomes.
+//! A number two pointers below the root, whose edit gives a caller the root's new value.
 ghost use Rattle.std.specs.Prelude.{◌≡◌, ℕ, suc, ◌<◌, true, OnOk};
 ghost use Rattle.std.specs.Option.{is_some};
 ghost use Rattle.capnp_model.specs.Segments.{Segments, Place, after, root, words_at};
@@ -32,8 +31,8 @@ use capnp_wire::pointer::PointerReader;
 use capnp_wire_objects::arena::ReaderArena;
 use std::test::Fail;
 
-/// From a pointer to what lies behind a pointer of its struct, and back; and back from a number of
-/// its struct.
+/// From a pointer to the value of a pointer of its struct, and back; and back from a number of its
+/// struct.
 fn values_behind_structs()
     ensures down { (n : ℕ) (s : Segments) (p q : Place) (d k i : ℕ) (t : Tree)
         → LeadsTo s p (a_struct q d k) → i < k → Owns (suc n) s p t
@@ -50,8 +49,8 @@ fn values_behind_structs()
     shapes_of_objects();
 }
 
-/// Sets the number of the struct that the first pointer of the root's struct leads to. Both are
-/// made in place of null, and widened where they lack the pointer or the number.
+/// Sets the number of the struct that the first pointer of the root's struct leads to. Both structs
+/// are made if they are null, and widened if they lack the pointer or the number.
 fn set_inner_number<A: BuilderArena>(memory: &mut Memory<A>, value: u64) -> Result<()>
     requires there { is_some (words_at (words_in (A.segments memory.old.arena)) root 1) ≡ true }
     ensures edited { OnOk result (EditsRoot (words_in (A.segments memory.old.arena))
@@ -77,7 +76,7 @@ fn set_inner_number<A: BuilderArena>(memory: &mut Memory<A>, value: u64) -> Resu
     Ok(())
 }
 
-/// The number that is set.
+/// Returns the number that is set.
 fn inner_number<A: ReaderArena>(arena: &A) -> Result<u64> {
     let mut limiter = ReadLimiter::new(None);
     let outer = PointerReader::get_root_from_arena(arena)?.get_struct(&mut limiter, None)?;
@@ -85,7 +84,8 @@ fn inner_number<A: ReaderArena>(arena: &A) -> Result<u64> {
     Ok(inner.get_data_field::<u64>(0))
 }
 
-/// Sets the number where nothing is, and again where the root's struct is wider; what is read then.
+/// Sets the number in an empty message, and again when the root's struct is wider; returns the
+/// numbers that are read then.
 fn set_twice<A: BuilderArena>(memory: &mut Memory<A>) -> Result<(u64, u64)>
     ensures { A.books memory.new.arena ≡ A.books memory.old.arena }
 {

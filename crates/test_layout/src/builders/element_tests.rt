@@ -1,4 +1,4 @@
-//! Elements of lists that are set and got, and read back.
+//! Elements of lists that are set and read.
 ghost use Rattle.std.specs.Prelude.{◌≡◌, ◌≤◌, [], length};
 
 use crate::builders::support::{ROOT, clear_root, exact_segments, nonzero};
@@ -17,7 +17,7 @@ use capnp_wire_objects::place::has_words;
 use std::alloc::Global;
 use std::test::Fail;
 
-/// Writes three values into a list of ten at the root, at 0, 6 and 9, and returns what is got at 5,
+/// Writes three values into a list of ten at the root, at 0, 6 and 9, and returns the values at 5,
 /// 6 and 9.
 #[tactic(auto, using(capnp_layout_builders::proofs::lemmas::Fronts::plain_front))]
 fn three<A: BuilderArena, T: BuilderElement>(
@@ -39,7 +39,7 @@ fn three<A: BuilderArena, T: BuilderElement>(
     Ok((list.get::<T>(5), list.get::<T>(6), list.get::<T>(9)))
 }
 
-/// What a reader gets of that list at 5, 6 and 9.
+/// Returns the values of that list at 5, 6 and 9 by a reader.
 fn three_read<A: ReaderArena, T: PrimitiveElement>(arena: &A) -> Result<(T, T, T)> {
     let mut limiter = ReadLimiter::new(None);
     let root = PointerReader::get_root_from_arena(arena)?;
@@ -50,8 +50,8 @@ fn three_read<A: ReaderArena, T: PrimitiveElement>(arena: &A) -> Result<(T, T, T
     Ok((T::get(&list, 5), T::get(&list, 6), T::get(&list, 9)))
 }
 
-/// What was got of a list of ten with three values set, by the handle and by a reader, and how many
-/// words were left when it was cleared. The root has a segment of its own.
+/// Returns the values of a list of ten with three values set, by the handle and by a reader, and
+/// the number of words that were left when it was cleared. The root has a segment of its own.
 fn seen<T: BuilderElement>(
     alloc: Global,
     first: T,

@@ -1,4 +1,4 @@
-//! Pointers that are set to what texts and data are taken from.
+//! Pointers that are set to inputs of texts and data.
 ghost use Rattle.std.specs.Prelude.{◌≡◌};
 
 use crate::builders::support::{ROOT, exact_segments, holds};
@@ -24,7 +24,7 @@ fn put<A: BuilderArena, T, I: SetterInput<T> + Drop>(memory: &mut Memory<A>, inp
     I::set_pointer_builder(root, input, false)
 }
 
-/// Whether each input is read as it was set: data, a text, a `str` and a `String`.
+/// Returns whether each input is read as it was set: data, a text, a `str` and a `String`.
 fn set_in_turn<A: BuilderArena>(
     memory: &mut Memory<A>,
     string: &String,
@@ -44,7 +44,7 @@ fn set_in_turn<A: BuilderArena>(
     Ok((first, second, third, fourth))
 }
 
-/// The same in a message of n segments at most.
+/// Does this in a message of at most n segments.
 fn seen(alloc: Global, segments: u32, string: &String) -> Result<(bool, bool, bool, bool)> {
     let mut memory = Memory {
         arena: BuilderArenaImpl::new(alloc, exact_segments(alloc, segments)),

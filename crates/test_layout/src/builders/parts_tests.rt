@@ -1,5 +1,5 @@
-//! Copies of objects by their parts: sections that end within a word, and lists that no reader
-//! gives.
+//! Copies of objects by their parts: sections that end within a word, and lists that readers never
+//! return.
 ghost use Rattle.std.specs.Prelude.{◌≡◌, true};
 ghost use Rattle.std.specs.Option.{is_some};
 ghost use Rattle.capnp_model.specs.Segments.{words_at};
@@ -27,7 +27,7 @@ use std::alloc::Global;
 use std::test::Fail;
 use test_support::bytes_of;
 
-/// What is copied of a message:
+/// The part of a message that is copied:
 /// - the object that its root names, which is paid for already;
 /// - the nine bytes from the second word on, with the pointer in the fourth word;
 /// - these as the content of a struct of two words and two pointers;
@@ -49,10 +49,10 @@ const NINE: [u64; 5] = [
     0x6968,
 ];
 
-/// A struct of one data word 7 and one pointer to the text `hi`, whose list comes behind it.
+/// A struct of one data word 7 and one pointer to the text `hi`, whose list follows it.
 const WITH_TEXT: [u64; 4] = [0x1_0001_0000_0000, 7, 0x1a_0000_0001, 0x6968];
 
-/// Where the pointer of the nine bytes lies.
+/// The place of the pointer of the nine bytes.
 const FIRST: Place = Place {
     segment: 0,
     position: 3,
@@ -126,8 +126,8 @@ fn copied_over<A: BuilderArena, B: ReaderArena>(
     }
 }
 
-/// What came of a copy: what it returned, the words granted and the pointers followed, and the
-/// bytes of the first segment, which has 100 words.
+/// The outcome of a copy: its result, the words granted and the pointers followed, and the bytes of
+/// the first segment, which has 100 words.
 #[derive(Drop)]
 struct Outcome {
     answer: Answer<()>,
@@ -161,8 +161,8 @@ fn copied(
     })
 }
 
-/// Only what is behind an object is followed and paid for: the old value stands where it costs more
-/// than is left.
+/// Only the objects below an object are followed and paid for: the old value remains if the copy
+/// costs more words than are left.
 #[test]
 fn objects_that_are_paid_for(rt: HostRuntime) -> Result<(), Fail> {
     let alloc = rt.alloc();
@@ -190,7 +190,7 @@ fn sections_of_nine_bytes(rt: HostRuntime) -> Result<(), Fail> {
     Ok(())
 }
 
-/// As many voids as a list can count, and one more.
+/// Copies as many voids as a list can count, and one more.
 #[test]
 fn more_elements_than_a_list_has(rt: HostRuntime) -> Result<(), Fail> {
     let alloc = rt.alloc();

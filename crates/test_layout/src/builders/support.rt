@@ -1,5 +1,4 @@
-//! What the tests share: segments of exactly the words that are asked for, and what is seen of a
-//! message.
+//! Shared parts of the tests: segments of exactly the requested words, and views of a message.
 ghost use Rattle.std.specs.Prelude.{◌≡◌, ◌<◌, ◌^◌, [], true};
 ghost use Rattle.std.specs.Option.{is_some};
 ghost use Rattle.capnp_model.specs.Segments.{words_at};
@@ -26,8 +25,7 @@ pub(crate) const ROOT: Place = Place {
 /// Positions that are too far for a handle.
 pub(crate) const FAR: usize = 1 << 60;
 
-/// Hands out n segments, each of exactly the words that are asked for, and keeps how many were
-/// asked for last.
+/// Hands out n segments, each of exactly the requested words, and keeps the last requested number.
 #[derive(Drop)]
 pub(crate) struct Exact {
     pub(crate) alloc: Global,
@@ -35,7 +33,7 @@ pub(crate) struct Exact {
     pub(crate) asked: u32,
 }
 
-/// n segments.
+/// Makes an allocator of n segments.
 pub(crate) fn exact_segments(alloc: Global, left: u32) -> Exact {
     Exact {
         alloc,
@@ -69,7 +67,7 @@ impl Allocator for Exact {
     }
 }
 
-/// Whether there is a pointer's word at a place.
+/// Returns whether there is a pointer's word at a place.
 pub(crate) fn is_there<A: ReaderArena>(arena: &A, place: Place) -> bool
     ensures { result ≡ true → (is_some (words_at (words_in (A.segments arena.now))
         (place_view place) 1) ≡ true) × (place.position < 2 ^ 61) }
@@ -85,7 +83,7 @@ pub(crate) fn clear_root<A: BuilderArena>(memory: &mut Memory<A>)
     root.clear();
 }
 
-/// How many words aren't zero.
+/// Returns the number of words that aren't zero.
 pub(crate) fn nonzero<A: ReaderArena>(arena: &A, segments: u32) -> usize {
     let mut count: usize = 0;
     for segment in 0..segments {
@@ -99,7 +97,7 @@ pub(crate) fn nonzero<A: ReaderArena>(arena: &A, segments: u32) -> usize {
     count
 }
 
-/// Whether the root holds these bytes, read as a text or as data.
+/// Returns whether the root holds these bytes, read as a text or as data.
 pub(crate) fn holds<A: ReaderArena>(arena: &A, bytes: &[u8], text: bool) -> Result<bool> {
     let mut limiter = ReadLimiter::new(None);
     let root = PointerReader::get_root_from_arena(arena)?;

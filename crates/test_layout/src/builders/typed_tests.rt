@@ -137,7 +137,7 @@ impl<'a, A: BuilderArena + 'a> OwnedStruct<'a, A> for Person {
 }
 
 impl<'a, A: BuilderArena> PersonBuilder<'a, A> {
-    /// The fields.
+    /// Returns the fields.
     fn into_struct(self) -> StructBuilder<'a, A>
         ensures same { result.memory.ghost_name ≡ self.entry.memory.ghost_name }
         ensures now { result.memory.now ≡ self.entry.memory.now }
@@ -148,7 +148,7 @@ impl<'a, A: BuilderArena> PersonBuilder<'a, A> {
     }
 }
 
-/// A person at the root, with an id and a name that is made of a type of its own.
+/// Writes a person at the root, with an id and a name that is made of a type of its own.
 fn written<A: BuilderArena>(memory: &mut Memory<A>, id: u32, name: &str) -> Result<()>
     ensures { A.books memory.new.arena ≡ A.books memory.old.arena }
 {
@@ -182,7 +182,7 @@ fn written<A: BuilderArena>(memory: &mut Memory<A>, id: u32, name: &str) -> Resu
     Ok(())
 }
 
-/// The id and whether the name is this one, read as the type's reader.
+/// Returns the id and whether the name is this one, read as the type's reader.
 fn read<A: BuilderArena>(arena: &A, name: &str) -> Result<(u32, bool)> {
     let mut limiter = ReadLimiter::new(None);
     let root = PointerReader::get_root_from_arena(arena)?;
@@ -191,7 +191,7 @@ fn read<A: BuilderArena>(arena: &A, name: &str) -> Result<(u32, bool)> {
     Ok((person.get_data_field::<u32>(0), text == name.as_bytes()))
 }
 
-/// A person that is got, near or far, keeps its id and name.
+/// Reads a person for writing, near or far, which keeps its id and name.
 fn got_again<A: BuilderArena>(memory: &mut Memory<A>) -> Result<(u16, u16)>
     ensures { A.books memory.new.arena ≡ A.books memory.old.arena }
 {
@@ -224,7 +224,8 @@ fn all_seen(alloc: Global, segments: u32) -> Result<bool> {
     seen
 }
 
-/// Root, person and name, each in a segment of its own; there is none for the name in the end.
+/// Makes root, person and name, each in a segment of its own; in the end there is no segment for
+/// the name.
 #[test]
 fn persons_are_built(rt: HostRuntime) -> std::result::Result<(), Fail> {
     assert!(rt; all_seen(rt.alloc(), 3)?);

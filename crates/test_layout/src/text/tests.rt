@@ -93,7 +93,8 @@ fn clearing_zeroes_all(rt: HostRuntime) -> Result<(), Fail> {
     Ok(())
 }
 
-/// What a type of pointers' values reads at the root of a segment, under a limit of two words.
+/// Returns the value of a type of pointers' values at the root of a segment, under a limit of two
+/// words.
 fn read<'a, T: Owned<'a, A>, A: ReaderArena>(
     arena: &'a A,
     default: Option<&'a [Word]>,

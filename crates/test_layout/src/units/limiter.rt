@@ -1,4 +1,4 @@
-//! What a limit grants.
+//! The words that a limit grants.
 
 use capnp_units::kinds::ErrorKind;
 use capnp_units::limiter::ReadLimiter;

@@ -1,11 +1,11 @@
-//! Numbers in bytes, stored exclusive or a default.
+//! Numbers in bytes, stored exclusive-or'ed with a default.
 
 ghost use Rattle.std.specs.Prelude.{◌≤◌, length};
 
 use capnp_units::primitive::{Mask, Primitive, Zero};
 use std::test::Fail;
 
-/// Writes a number that is stored exclusive or a default, and reads it back; zero comes back from
+/// Writes a number that is stored exclusive-or'ed with a default, and reads it again; zero reads as
 /// its default.
 fn comes_back<N: Primitive + Zero + Mask + PartialEq>(
     bytes: &mut [u8],

@@ -42,7 +42,8 @@ fn an_arena_without_segments(rt: HostRuntime) -> Result<(), Fail> {
     Ok(())
 }
 
-/// Whether the text `hi` is read in place of a null root as data, and nothing without a default.
+/// Returns whether the text `hi` is read instead of a null root as data, and nothing without a
+/// default.
 fn reads_default<A: ReaderArena>(
     arena: &A,
     limiter: &mut ReadLimiter,
@@ -124,7 +125,7 @@ impl<'a, A: ReaderArena> Owned<'a, A> for Data {
     type Reader = &'a [u8];
 }
 
-/// The value of a type.
+/// Returns the value of a type.
 fn read_as<'a, A: ReaderArena, T: Owned<'a, A>>(
     root: &PointerReader<'a, A>,
     limiter: &mut ReadLimiter,
@@ -132,7 +133,7 @@ fn read_as<'a, A: ReaderArena, T: Owned<'a, A>>(
     <T::Reader as FromPointerReader<'a, A>>::get_from_pointer(root, limiter, None)
 }
 
-/// A struct, read as a type's and given back.
+/// Returns a struct, after it was read as a type's.
 fn struct_as<'a, A: ReaderArena, T: OwnedStruct<'a, A>>(
     reader: StructReader<'a, A>,
 ) -> StructReader<'a, A>
@@ -141,8 +142,8 @@ fn struct_as<'a, A: ReaderArena, T: OwnedStruct<'a, A>>(
     <T::Reader as From<StructReader<'a, A>>>::from(reader).into_internal_struct_reader()
 }
 
-/// Whether the root is a `Number` with the value 7, and a null pointer in it reads as no number and
-/// no data.
+/// Returns whether the root is a `Number` with the value 7, and a null pointer in it reads as an
+/// absent number and empty data.
 fn reads_types<A: ReaderArena>(arena: &A, limiter: &mut ReadLimiter) -> Result<bool, Error> {
     let root = PointerReader::get_root_from_arena(arena)?;
     let inner = struct_as::<A, Number>(root.get_struct(limiter, None)?);
@@ -175,7 +176,7 @@ fn owned(alloc: Global, segments: &[&[u8]]) -> std::result::Result<Vec<Vec<u8>>,
     Ok(all)
 }
 
-/// The first number of the root, and what following it costs.
+/// Returns the first number of the root, and the cost of following it.
 fn number_at_root<A: ReaderArena>(arena: &A) -> Result<(u64, u64), Error> {
     let mut limiter = ReadLimiter::new(None);
     let root = PointerReader::get_root_from_arena(arena)?;
