@@ -13,7 +13,7 @@ const OWNERS: Owners = Owners {
     gid: 2,
 };
 
-/// The draft of `d/x` by process 7.
+/// Makes the draft of `d/x` by process 7.
 fn goal(alloc: Global, owners: Option<Owners>, sync: bool) -> io::Result<Goal> {
     Ok(Goal {
         path: String::from_str(alloc, "d/x")?,
@@ -23,7 +23,7 @@ fn goal(alloc: Global, owners: Option<Owners>, sync: bool) -> io::Result<Goal> {
     })
 }
 
-/// A draft that is written and committed.
+/// Writes and commits a draft.
 fn commit(files: &mut Fake, alloc: Global, sync: bool) -> io::Result<Result<(), CommitError>> {
     let draft = Draft::create(files, alloc, goal(alloc, None, sync)?)?;
     draft.write(files, &[1, 2])?;

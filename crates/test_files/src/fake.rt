@@ -1,4 +1,4 @@
-//! A system of files that says what it was asked, and fails where it is to.
+//! A system of files that records its calls, and fails at a chosen one.
 ghost use Rattle.std.specs.Prelude.{string_bytes};
 
 use hagzimot_files::files::{Files, Owners};
@@ -27,14 +27,14 @@ pub struct FakeFile {
 pub struct Fake {
     alloc: Global,
     failing: Failing,
-    /// How many names are taken.
+    /// The number of names that are taken.
     taken: u32,
     said: String,
     record: Record,
 }
 
 impl Fake {
-    /// A system in which so many names are taken, and one call fails.
+    /// Makes a system in which n names are taken, and one call fails.
     pub fn new(alloc: Global, failing: Failing, taken: u32) -> Fake {
         Fake {
             alloc,
@@ -45,13 +45,13 @@ impl Fake {
         }
     }
 
-    /// The words of each call, a line each.
+    /// Returns the text of each call, a line each.
     pub fn said(&self) -> &str {
         self.said.as_str()
     }
 }
 
-/// Says what was asked, and fails if it is to.
+/// Records a call, and fails if it is the chosen one.
 fn say(said: &mut String, fails: bool, call: &str, path: &str) -> io::Result<()> {
     said.push_str(call)?;
     said.push_str(" ")?;

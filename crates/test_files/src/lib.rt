@@ -1,4 +1,4 @@
-//! Tests of `hagzimot_files` on a system of files that fails where it is asked to.
+//! Tests of `hagzimot_files` on a system of files that fails at a chosen call.
 #![tactic(auto)]
 
 #[cfg(test)]

@@ -1,4 +1,4 @@
-//! Tests of `capnp_message_allocators`, `capnp_message`, by their public calls alone.
+//! Tests of `capnp_message_allocators` and `capnp_message`, only by public calls.
 #![tactic(auto)]
 
 #[cfg(test)]

@@ -1,4 +1,4 @@
-//! Calls in turn at the structs of dynamic builders: what they reply, and the words that they
+//! Sequences of calls at the structs of dynamic builders: their replies, and the words that they
 //! leave.
 ghost use Rattle.std.specs.Prelude.{◌≡◌, true};
 ghost use Rattle.capnp_units.specs.Segments.{words_in};
@@ -44,19 +44,19 @@ const SCHEMAS: &str = r#"[
     {"id":7,"name":"L","data":0,"pointers":1,"fields":[
         {"name":"gs","type":{"list":{"struct":5}},"offset":0}]}]"#;
 
-/// A call at the field of a name.
+/// Makes a call at the field of a name.
 fn at(alloc: Global, name: &str, verb: Verb, value: Option<CallValue>) -> Result<Call, Fail> {
     let mut path = Vec::new(alloc);
     path.push(Step::Name(String::from_str(alloc, name)?))?;
     Ok(Call::new(alloc, path, verb, value)?)
 }
 
-/// The same that sets a number.
+/// Makes a call that sets a number.
 fn set(alloc: Global, name: &str, value: i128) -> Result<Call, Fail> {
     at(alloc, name, Verb::Set, Some(CallValue::Number(value)))
 }
 
-/// A struct to write under its schema.
+/// Returns a struct to write under its schema.
 fn builder_of<'a, A: BuilderArena>(
     memory: &'a mut Memory<A>,
     place: StructPlace,
@@ -87,7 +87,8 @@ fn answered<A: BuilderArena>(
     run(alloc, &mut root, calls)
 }
 
-/// What calls reply at a new struct of the schema of an id, and the bytes of its message then.
+/// Returns the replies of calls at a new struct of the schema of an id, and the bytes of its
+/// message then.
 fn ran(alloc: Global, id: u64, calls: &[Call]) -> Result<(Vec<Reply>, Vec<u8>), Fail> {
     struct_is_node();
     arenas_are_deep::<HeapAllocator>();
@@ -136,7 +137,7 @@ fn refused_calls_leave_the_union(rt: HostRuntime) -> Result<(), Fail> {
     Ok(())
 }
 
-/// A number is written exclusive or its default.
+/// A number is written exclusive-or'ed with its default.
 #[test]
 fn numbers_are_set_beside_their_defaults(rt: HostRuntime) -> Result<(), Fail> {
     let alloc = rt.alloc();
@@ -194,7 +195,7 @@ fn set_from<A: BuilderArena>(
     Err("no element".into())
 }
 
-/// The same of two elements, one after the other, at a new struct at the root.
+/// Does this with two elements, one after the other, at a new struct at the root.
 fn set_twice<A: BuilderArena>(
     memory: &mut Memory<A>,
     set: &SchemaSet,
@@ -207,7 +208,7 @@ fn set_twice<A: BuilderArena>(
     set_from(&mut builder, set, words[1])
 }
 
-/// A number that doesn't lie wholly in the element is set to zero.
+/// A number that isn't wholly in the element is set to zero.
 #[test]
 fn groups_of_elements_of_numbers(rt: HostRuntime) -> Result<(), Fail> {
     let set = set_of(rt.alloc(), SCHEMAS)?;

@@ -28,7 +28,7 @@ pub(crate) const SCHEMAS: &str = r#"[
         {"name":"p","type":"AnyPointer","offset":0}]},
     {"id":7,"name":"E","enumerants":["red","green"]}]"#;
 
-/// A schema file of S (1), whose n fields f0, f1 and so on are a byte each.
+/// Returns a schema file of S (1), whose n fields f0, f1 and so on are a byte each.
 pub(crate) fn many_fields_text(alloc: Global, count: u32) -> Result<String, Fail> {
     let mut text = String::from_str(
         alloc,
@@ -45,7 +45,7 @@ pub(crate) fn many_fields_text(alloc: Global, count: u32) -> Result<String, Fail
     Ok(text)
 }
 
-/// The nodes of a schema file.
+/// Returns the nodes of a schema file.
 pub(crate) fn nodes_of(alloc: Global, text: &str) -> Result<Vec<NodeRecord>, Fail> {
     Ok(
         schema_file(alloc, text.as_bytes())
@@ -54,18 +54,18 @@ pub(crate) fn nodes_of(alloc: Global, text: &str) -> Result<Vec<NodeRecord>, Fai
     )
 }
 
-/// The set of the nodes of a schema file.
+/// Makes the set of the nodes of a schema file.
 pub(crate) fn set_of(alloc: Global, text: &str) -> Result<SchemaSet, Fail> {
     Ok(SchemaSet::new(nodes_of(alloc, text)?)?)
 }
 
-/// The struct or the group of an id.
+/// Returns the struct or the group of an id.
 pub(crate) fn schema_of(set: &SchemaSet, id: u64) -> Result<StructSchema<'_>, Fail> {
     let raw = set.struct_or_group_by_id(id).ok_or("known")?;
     Ok(StructSchema::new(set, raw))
 }
 
-/// The struct at the root of a message.
+/// Returns the struct at the root of a message.
 pub(crate) fn root<'a>(
     arena: &'a Segments<'a>,
     set: &'a SchemaSet,

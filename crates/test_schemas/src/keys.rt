@@ -96,7 +96,7 @@ fn types_of_callers(rt: HostRuntime) -> Result<(), Fail> {
     Ok(())
 }
 
-/// Whether structs are found, and types of another set are told.
+/// Checks that structs are found, and that types of another set are recognised.
 #[test]
 fn other_sets(rt: HostRuntime) -> Result<(), Fail> {
     let set = set_of(rt.alloc(), SCHEMAS)?;

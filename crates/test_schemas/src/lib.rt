@@ -1,5 +1,5 @@
-//! Tests of schemas, dynamic values and runs of calls, of what no line of a data file says: types,
-//! traits, keys, records that no file gives, and callers' types.
+//! Tests of schemas, dynamic values and runs of calls, for properties that no data file has: types,
+//! traits, keys, records that files can't give, and callers' types.
 #![tactic(auto)]
 
 #[cfg(test)]

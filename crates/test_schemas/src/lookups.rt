@@ -1,4 +1,4 @@
-//! How many names are compared where a field is found by its name.
+//! The number of names that are compared when a field is found by its name.
 use crate::fixtures::{many_fields_text, schema_of, set_of};
 use capnp_values_queries::structs::StructSchema;
 use std::test::Fail;
@@ -13,8 +13,8 @@ const FIVE: &str = r#"[
         {"name":"doors","type":"UInt8","offset":4}]},
     {"id":2,"name":"N","data":0,"pointers":0,"fields":[]}]"#;
 
-/// The most names that were compared where the fields of some indices are looked up by their own
-/// names.
+/// Returns the most names that were compared when the fields of some indices are looked up by their
+/// own names.
 fn most_compared(schema: StructSchema<'_>, indices: &[u16]) -> Result<u32, Fail> {
     let fields = schema.get_fields()?;
     let mut most = 0;
@@ -32,7 +32,7 @@ fn most_compared(schema: StructSchema<'_>, indices: &[u16]) -> Result<u32, Fail>
     Ok(most)
 }
 
-/// The same where names are looked up that the struct lacks.
+/// Returns this number for names that the struct lacks.
 fn most_lacking(schema: StructSchema<'_>, names: &[&str]) -> Result<u32, Fail> {
     let mut most = 0;
     for name in names {

@@ -123,7 +123,7 @@ fn structs_as_callers_types(rt: HostRuntime) -> std::result::Result<(), Fail> {
     Ok(())
 }
 
-/// Whether a struct has at least its schema's sizes.
+/// Returns whether a struct has at least its schema's sizes.
 pub(crate) fn is_wide<A: BuilderArena>(
     memory: &mut Memory<A>,
     place: StructPlace,
@@ -136,7 +136,7 @@ pub(crate) fn is_wide<A: BuilderArena>(
     has_sizes(&object, schema)
 }
 
-/// The root of a new message, as a struct of a schema's sizes.
+/// Makes the root of a new message, as a struct of a schema's sizes.
 pub(crate) fn begun<A: BuilderArena>(
     memory: &mut Memory<A>,
     schema: StructSchema<'_>,
@@ -178,7 +178,7 @@ fn written<A: BuilderArena>(memory: &mut Memory<A>, schema: StructSchema<'_>) ->
     Ok(true)
 }
 
-/// The used bytes of the first segment.
+/// Returns the used bytes of the first segment.
 fn first_of<A: Allocator>(alloc: Global, arena: &BuilderArenaImpl<A>) -> Result<Vec<u8>> {
     let all = arena.get_segments_for_output(alloc)?;
     if all.is_empty() {
@@ -187,7 +187,7 @@ fn first_of<A: Allocator>(alloc: Global, arena: &BuilderArenaImpl<A>) -> Result<
     Ok(Vec::from_slice(alloc, all[0])?)
 }
 
-/// The same of an arena on the heap, which ends.
+/// Returns these bytes of an arena on the heap, and ends the arena.
 pub(crate) fn finish(alloc: Global, arena: BuilderArenaImpl<HeapAllocator>) -> Result<Vec<u8>> {
     let bytes = first_of(alloc, &arena);
     drop(arena.into_allocator());

@@ -1,4 +1,4 @@
-//! Rules that no schema file can break: defaults of other sorts, annotations, and too many fields.
+//! Rules that schema files can't break: defaults of other sorts, annotations, and too many fields.
 use crate::fixtures::{many_fields_text, nodes_of};
 use capnp_records::fault::SchemaFault;
 use capnp_records::node::{
@@ -25,7 +25,7 @@ fn rule(rule: u32, node: usize) -> Option<SchemaFault> {
     Some(SchemaFault::Rule { rule, node })
 }
 
-/// A value of each sort, by number; the bytes of lists and structs are a null root.
+/// Returns a value of each sort, by number; the bytes of lists and structs are a null root.
 fn value(alloc: Global, sort: usize) -> Result<Option<Value>, AllocError> {
     let null: [u8; 8] = [0; 8];
     Ok(Some(match sort {
@@ -71,7 +71,7 @@ const TYPES: [(u32, BaseType); 17] = [
     (0, BaseType::Capability),
 ];
 
-/// What is answered where the field f has a type and a default.
+/// Returns the fault if the field f has a type and a default.
 fn fault_of_slot(
     alloc: Global,
     ty: TypeRecord,
@@ -141,7 +141,7 @@ fn annotate(nodes: &mut [NodeRecord], place: usize, note: AnnotationRecord) -> R
     Ok(())
 }
 
-/// What is answered to an annotation at a place.
+/// Returns the fault for an annotation at a place.
 fn fault_at(
     alloc: Global,
     place: usize,
@@ -190,7 +190,7 @@ fn types_of_annotations(rt: HostRuntime) -> Result<(), Fail> {
     Ok(())
 }
 
-/// The words of n structs in one another, behind which stands a last word.
+/// Returns the words of n nested structs, followed by a last word.
 fn deep(alloc: Global, depth: u32, last: u64) -> Result<Vec<u8>, AllocError> {
     let holder: u64 = 0x0001_0000_0000_0000;
     let mut bytes = Vec::new(alloc);
@@ -234,7 +234,7 @@ fn annotations_are_canonical(rt: HostRuntime) -> Result<(), Fail> {
     Ok(())
 }
 
-/// What is answered to a struct of n bytes, each a field.
+/// Returns the fault for a struct of n bytes, each a field.
 fn fault_of_many(alloc: Global, count: u32) -> Result<Option<SchemaFault>, Fail> {
     let text = many_fields_text(alloc, count)?;
     Ok(SchemaSet::new(nodes_of(alloc, text.as_str())?).err())

@@ -12,7 +12,7 @@ use capnp_values_queries::introspect::{Type, TypeVariant};
 use capnp_wire_objects::arena::ReaderArenaImpl;
 use std::test::Fail;
 
-/// Of which types a value is, as bits in the order of `values_of_known_types`.
+/// Returns the types of a value, as bits in the order of `values_of_known_types`.
 fn sorts(value: &Reader<'_, Segments<'_>>) -> u32 {
     let told = [
         <()>::fits(value),
@@ -43,7 +43,7 @@ fn sorts(value: &Reader<'_, Segments<'_>>) -> u32 {
     bits
 }
 
-/// A number of each type, by a downcast.
+/// Returns a number of each type, by a downcast.
 fn number(value: Reader<'_, Segments<'_>>) -> i128 {
     if bool::fits(&value) {
         let is_set: bool = value.downcast();
@@ -197,7 +197,7 @@ fn values_of_annotations(rt: HostRuntime) -> Result<(), Fail> {
     Ok(())
 }
 
-/// Text is printed behind what was there, and what is refused leaves it.
+/// Text is printed after the earlier bytes, and a refused text leaves them.
 #[test]
 fn refused_texts(rt: HostRuntime) -> Result<(), Fail> {
     let set = set_of(rt.alloc(), SCHEMAS)?;

@@ -83,8 +83,8 @@ impl io::Write for Faltering<'_> {
     }
 }
 
-/// How many bytes the calls before hold when a table and a segment of two words are written by
-/// three bytes.
+/// The number of bytes that the earlier calls hold when a table and a segment of two words are
+/// written by three bytes.
 const HELD_BEFORE: [usize; 10] = [0, 3, 6, 8, 11, 14, 17, 20, 23, 24];
 
 #[test]

@@ -1,4 +1,4 @@
-//! Readers and writers of a program that do what they may at each call, and reads of much at once.
+//! Readers and writers of a program with a choice at each call, and reads of many bytes at once.
 use capnp_stream::forms::Framed;
 use capnp_stream::frames::read_message_in;
 use capnp_stream_io::adapters::{Sink, Source};
@@ -11,7 +11,7 @@ use std::io;
 use std::process::Abort;
 use std::test::Fail;
 
-/// What a device does at a call: it moves n bytes at most, or fails.
+/// The action of a device at a call: it moves at most n bytes, or fails.
 #[derive(Clone, Copy)]
 enum Turn {
     Moves(usize),
@@ -24,7 +24,7 @@ const INTERRUPTED: Turn = Fails(io::ErrorKind::Interrupted);
 
 const BROKEN: Turn = Fails(io::ErrorKind::Other);
 
-/// The turns of a device that are left; behind them it moves all that it is asked for.
+/// The turns of a device that are left; afterwards it moves all bytes that it is asked for.
 #[derive(Drop)]
 struct Turns<'a> {
     left: &'a [Turn],
@@ -85,7 +85,7 @@ impl io::Write for Taking<'_> {
 
 const EIGHT: [u8; 8] = [1, 2, 3, 4, 5, 6, 7, 8];
 
-/// What a reader's first turns show, `None` where it has failed.
+/// The bytes that a reader's first turns show, `None` if it has failed.
 const READS: [(&[Turn], Option<usize>); 8] = [
     (&[], Some(8)),
     (&[Moves(1)], Some(1)),
@@ -97,7 +97,7 @@ const READS: [(&[Turn], Option<usize>); 8] = [
     (&[Fails(io::ErrorKind::UnexpectedEof)], None),
 ];
 
-/// How many bytes a source shows.
+/// Returns the number of bytes that a source shows.
 fn count_shown<R: BufRead>(source: &mut R) -> Result<usize> {
     Ok(source.fill_buf()?.len())
 }
@@ -135,7 +135,7 @@ fn readers_end_stop_and_fail(rt: HostRuntime) -> std::result::Result<(), Fail> {
     Ok(())
 }
 
-/// How many of eight bytes a writer holds after its first turns, and whether it has failed.
+/// The number of eight bytes that a writer holds after its first turns, and whether it has failed.
 const WRITES: [(&[Turn], usize, bool); 9] = [
     (&[], 8, false),
     (&[Moves(1)], 8, false),

@@ -1,5 +1,5 @@
-//! Tests of `capnp_stream_io`, `capnp_stream`, `capnp_stream` and `capnp_stream_packed`, by their
-//! public calls alone, where no case of `cases_segments` can say them.
+//! Tests of `capnp_stream_io`, `capnp_stream` and `capnp_stream_packed`, only by public calls, for
+//! properties that no case of `cases_segments` can express.
 #![tactic(auto)]
 
 #[cfg(test)]

@@ -35,7 +35,7 @@ pub fn expect_two<R: BufRead>(rt: &impl Abort, alloc: Global, source: &mut R) ->
     Ok(())
 }
 
-/// Whether these are the two segments.
+/// Returns whether these are the two segments.
 pub fn is_two<S: ReaderSegments>(message: &S) -> bool {
     message.len() == 2
         && message.get_segment(0) == Some(&TWO[16..24])
@@ -43,7 +43,7 @@ pub fn is_two<S: ReaderSegments>(message: &S) -> bool {
         && message.get_segment(2) == None
 }
 
-/// Whether these are the three segments.
+/// Returns whether these are the three segments.
 pub fn is_three<S: ReaderSegments>(message: &S) -> bool {
     message.len() == 3
         && !message.is_empty()

@@ -11,7 +11,7 @@ use capnp_units::kinds::ErrorKind;
 use std::test::Fail;
 use test_support::shown::Shown;
 
-/// Two words without zero bytes but the last.
+/// Two words without zero bytes, except the last byte.
 const DENSE: [u8; 16] = [1, 2, 3, 4, 5, 6, 7, 8, 1, 2, 3, 4, 5, 6, 7, 0];
 
 /// Their packed bytes.

@@ -1,4 +1,4 @@
-//! Segments that are owned, and tables that tell where segments lie.
+//! Segments that are owned, and tables of the places of segments.
 
 use crate::messages::{THREE, is_three};
 use capnp_stream::buffers::{BufferSegments, NoAllocBufferSegments};
@@ -12,7 +12,7 @@ use capnp_units::segments::ReaderSegments;
 use std::alloc::Global;
 use std::test::Fail;
 
-/// The table of three segments.
+/// Makes the table of three segments.
 fn three(alloc: Global) -> Result<SegmentLengthsBuilder> {
     let mut table = SegmentLengthsBuilder::with_capacity(alloc, 3)?;
     table.try_push_segment(1)?;
@@ -65,8 +65,8 @@ fn sizes_past_all_memory_are_sizes(rt: HostRuntime) -> std::result::Result<(), F
     Ok(())
 }
 
-/// Whether the slice behind n bytes is cut into the three segments; `None` where the table doesn't
-/// fit.
+/// Returns whether the slice after n bytes is cut into the three segments; `None` if the table
+/// doesn't fit.
 fn is_cut_into_three(alloc: Global, slice: &[u8], behind: usize) -> Result<Option<bool>> {
     let table = three(alloc)?;
     if !table.describes(slice, behind) {

@@ -1,4 +1,4 @@
-//! Streams that fail or are too short, in every form, and the buffer that is kept behind a refusal.
+//! Streams that fail or are too short, in every form, and the buffer that is kept after a refusal.
 
 use crate::messages::{PACKED, TWO, WRITTEN, expect_two, is_two};
 use capnp_stream::forms::Framed;
@@ -15,7 +15,7 @@ use std::test::Fail;
 use test_support::shown::Shown;
 use test_support::{Drip, Short};
 
-/// Whether the device is told to have failed.
+/// Returns whether the result says that the device failed.
 fn is_failed<T>(read: &Result<T>) -> bool {
     match read {
         Ok(_) => false,

@@ -1,4 +1,4 @@
-//! Slices that are lent with words in them, and come back all zeros.
+//! Slices that are lent with words in them, and return all zeros.
 ghost use Rattle.std.specs.Prelude.{◌≡◌, ◌*◌, ◌^◌, ◌<◌, ◌≤◌, length};
 ghost use Rattle.capnp_copy_arenas.specs.Memory.{AllZero};
 
@@ -12,7 +12,7 @@ use capnp_units::errors::Result;
 use std::alloc::Global;
 use std::test::Fail;
 
-/// What is seen of the segment that an allocator was opened with, which is written and given back.
+/// Returns a view of the segment that an allocator was opened with, which is written and returned.
 fn written<L: OpensSegment>(allocator: &mut L) -> Option<(usize, u32, u8)>
     requires { length (L.loans allocator.old) ≤ 1 }
     ensures loans { L.loans allocator.new ≡ L.loans allocator.old }
@@ -30,7 +30,7 @@ fn written<L: OpensSegment>(allocator: &mut L) -> Option<(usize, u32, u8)>
     }
 }
 
-/// The same over a slice of which n words are used; it comes back all zeros.
+/// Does this over a slice whose first n words are used; it returns all zeros.
 fn written_in(alloc: Global, region: &mut [u8], used: u32) -> Option<(usize, u32, u8)>
     requires inside { 8 * used ≤ length region.old }
     requires few { used < 2 ^ 29 }
@@ -42,7 +42,7 @@ fn written_in(alloc: Global, region: &mut [u8], used: u32) -> Option<(usize, u32
     if again.is_some() { None } else { seen }
 }
 
-/// An allocator that hands nothing out leaves its slice all zeros.
+/// Checks that an allocator that hands nothing out leaves its slice all zeros.
 fn only_opened(alloc: Global, region: &mut [u8], used: u32) -> bool
     requires inside { 8 * used ≤ length region.old }
     requires few { used < 2 ^ 29 }
@@ -70,8 +70,8 @@ fn a_slice_is_opened_with_its_words(rt: HostRuntime) -> std::result::Result<(), 
     Ok(())
 }
 
-/// How many bytes a heap's segments have that are asked for n words, one after the other. They are
-/// at most four words where no more are asked for at once.
+/// Returns the numbers of bytes of a heap's segments for requests of n words, one after the other.
+/// They have at most four words if no more are requested at once.
 fn most_of_four(alloc: Global, asked: [u32; 3]) -> Result<[usize; 3]> {
     let mut heap = HeapAllocator::new(alloc)
         .first_segment_words(3)

@@ -31,7 +31,7 @@ const ROOT: Place = Place {
     position: 0,
 };
 
-/// What a message's root is made of.
+/// The value of a message's root.
 #[derive(Clone, Copy)]
 enum Root<'a> {
     Text(&'a [u8]),
@@ -55,7 +55,7 @@ fn set_root<A: BuilderArena>(memory: &mut Memory<A>, root: Root<'_>) -> Result<(
     }
 }
 
-/// What is seen of a message.
+/// A view of a message.
 #[derive(Drop)]
 struct Seen {
     text: Option<Vec<u8>>,
@@ -67,7 +67,7 @@ struct Seen {
     packed: Vec<u8>,
 }
 
-/// The text at the root, where one is there.
+/// Returns the text at the root, if there is one.
 fn text_at_root<A: ReaderArena>(alloc: Global, arena: &A) -> Result<Option<Vec<u8>>> {
     let mut limiter = ReadLimiter::new(None);
     let root = PointerReader::get_root_from_arena(arena)?;
@@ -102,7 +102,7 @@ fn observed<L: Allocator>(alloc: Global, builder: &Builder<L>) -> Result<Seen> {
     })
 }
 
-/// A message with this root, whose segments are given back.
+/// Builds a message with this root, whose segments are returned.
 fn message<L: Allocator>(alloc: Global, allocator: &mut L, root: Root<'_>) -> Result<Seen>
     requires { length (L.loans allocator.old) ≤ 1 }
     ensures loans { L.loans allocator.new ≡ L.loans allocator.old }
@@ -126,13 +126,12 @@ const TWO_WORDS: Root<'static> = Root::Struct(StructSize {
     pointers: 0,
 });
 
-/// The packed message of a pointer to the second segment, where a pad leads to two zero words
-/// behind it.
+/// The packed message of a pointer to the second segment, which has a pad and then two zero words.
 const TWO_SEGMENTS_PACKED: [u8; 12] = [0x11, 1, 1, 1, 3, 0x11, 2, 1, 0x10, 2, 0, 1];
 
 const HELLO: &[u8] = b"Hello, World!";
 
-/// Messages one after the other with one allocator.
+/// Builds messages one after the other with one allocator.
 fn messages<L: Allocator>(
     alloc: Global,
     allocator: &mut L,
@@ -148,7 +147,7 @@ fn messages<L: Allocator>(
     (one, other)
 }
 
-/// Two messages over a slice and the heap. The slice comes back all zeros.
+/// Builds two messages over a slice and the heap. The slice returns all zeros.
 fn over_scratch(
     alloc: Global,
     region: &mut [u8],
@@ -163,7 +162,7 @@ fn over_scratch(
     messages(alloc, &mut scratch, first, second)
 }
 
-/// Two messages over a slice alone, which comes back all zeros.
+/// Builds two messages only over a slice, which returns all zeros.
 fn over_slice(
     alloc: Global,
     region: &mut [u8],
@@ -197,7 +196,7 @@ fn texts_are_built_on_the_heap(rt: HostRuntime) -> std::result::Result<(), Fail>
     Ok(())
 }
 
-/// A first segment of one word has the root alone; the struct and its pad are in the second.
+/// A first segment of one word has only the root; the struct and its pad are in the second.
 #[test]
 fn heap_segments_are_as_large_as_is_set(rt: HostRuntime) -> std::result::Result<(), Fail> {
     let mut heap = HeapAllocator::new(rt.alloc())
@@ -211,8 +210,8 @@ fn heap_segments_are_as_large_as_is_set(rt: HostRuntime) -> std::result::Result<
     Ok(())
 }
 
-/// The text has the root and two words in the slice; the struct of two words goes behind a pad to
-/// the heap where the slice has two words.
+/// The text has the root and two words in the slice; the struct of two words is on the heap after a
+/// pad if the slice has two words.
 #[test]
 fn a_lent_slice_is_the_first_segment(rt: HostRuntime) -> std::result::Result<(), Fail> {
     let mut bytes = [0xeeu8; 24];
@@ -250,7 +249,7 @@ fn a_slice_without_a_word_isnt_used(rt: HostRuntime) -> std::result::Result<(), 
 }
 
 /// Three words hold the text; a struct of two words and a text of eight bytes with its zero byte
-/// hold too, none of more.
+/// fit too, and no longer value.
 #[test]
 fn a_single_segment_has_no_second(rt: HostRuntime) -> std::result::Result<(), Fail> {
     let full = Error::from(ErrorKind::BufferNotLargeEnough);

@@ -1,4 +1,4 @@
-//! Roots of callers' types: handles that know where their values lie.
+//! Roots of callers' types: handles that know the places of their values.
 ghost use Rattle.std.specs.Prelude.{◌≡◌, ◌≤◌, ◌++◌, length};
 ghost use Rattle.std.specs.List.{flat_map};
 ghost use Rattle.capnp_copy_arenas.specs.Memory.{AllZero};
@@ -40,7 +40,7 @@ impl PlacedStruct for Labelled {
     }
 }
 
-/// An older version of it, without the label.
+/// An older version of that struct, without the label.
 #[derive(Drop)]
 struct Number(StructPlace);
 
@@ -80,7 +80,7 @@ fn put<A: BuilderArena>(memory: &mut Memory<A>, place: StructPlace, value: u32) 
     Ok(())
 }
 
-/// The number of a struct.
+/// Returns the number of a struct.
 fn number_of<A: BuilderArena>(memory: &mut Memory<A>, place: StructPlace) -> Result<u32>
     ensures { A.books memory.new.arena ≡ A.books memory.old.arena }
 {
@@ -105,7 +105,7 @@ fn write<A: BuilderArena>(memory: &mut Memory<A>, place: BlobPlace, value: &str)
     }
 }
 
-/// The used bytes of the first segment.
+/// Returns the used bytes of the first segment.
 fn bytes_of<S: ReaderSegments>(alloc: Global, message: &S) -> Result<Vec<u8>> {
     match message.get_segment(0) {
         Some(bytes) => Ok(Vec::from_slice(alloc, bytes)?),
@@ -113,7 +113,7 @@ fn bytes_of<S: ReaderSegments>(alloc: Global, message: &S) -> Result<Vec<u8>> {
     }
 }
 
-/// The root is made a number, and got as the newer type. Returns its pointers and the number.
+/// Makes the root a number, and reads it as the newer type. Returns its pointers and the number.
 fn widened<L: Allocator>(builder: &mut Builder<L>) -> Result<(u16, u32)>
     ensures loans { loans_held builder.new.memory.arena ≡ loans_held builder.old.memory.arena }
     ensures place { L.place builder.new.memory.arena.allocator
@@ -125,8 +125,8 @@ fn widened<L: Allocator>(builder: &mut Builder<L>) -> Result<(u16, u32)>
     Ok((got.0.pointers, number_of(&mut builder.memory, got.0)?))
 }
 
-/// The root is made a text, which is written, and then data of n bytes. Returns how long the text
-/// was when it was got.
+/// Makes the root a text, which is written, and then data of n bytes. Returns the length of the
+/// text when it was read.
 fn text_and_data<L: Allocator>(builder: &mut Builder<L>, count: u32) -> Result<u32>
     ensures { loans_held builder.new.memory.arena ≡ loans_held builder.old.memory.arena }
 {
@@ -138,7 +138,7 @@ fn text_and_data<L: Allocator>(builder: &mut Builder<L>, count: u32) -> Result<u
     Ok(got.0.count.saturating_mul(100).saturating_add(data.0.count))
 }
 
-/// The same message, with its bytes.
+/// Builds this message, and returns its bytes too.
 fn widened_bytes<L: Allocator>(
     alloc: Global,
     builder: &mut Builder<L>,
@@ -152,7 +152,7 @@ fn widened_bytes<L: Allocator>(
     Ok((seen, bytes))
 }
 
-/// The same over an allocator.
+/// Does this over an allocator.
 fn built<L: Allocator>(alloc: Global, allocator: &mut L) -> Result<((u16, u32), Vec<u8>)>
     requires { length (L.loans allocator.old) ≤ 1 }
     ensures loans { L.loans allocator.new ≡ L.loans allocator.old }
@@ -164,7 +164,7 @@ fn built<L: Allocator>(alloc: Global, allocator: &mut L) -> Result<((u16, u32), 
     seen
 }
 
-/// The same in a lent slice alone. It comes back all zeros.
+/// Does this only in a lent slice, which returns all zeros.
 fn built_in(alloc: Global, region: &mut [u8]) -> Result<((u16, u32), Vec<u8>)>
     ensures { AllZero region.new }
 {
@@ -172,7 +172,7 @@ fn built_in(alloc: Global, region: &mut [u8]) -> Result<((u16, u32), Vec<u8>)>
     built(alloc, &mut single)
 }
 
-/// The number lies behind the root pointer first, and behind what is left of that then.
+/// The number comes after the root pointer first, and then after the zeros of the old struct.
 #[test]
 fn a_root_is_made_and_got_as_a_newer_type(rt: HostRuntime) -> std::result::Result<(), Fail> {
     let mut heap = HeapAllocator::new(rt.alloc());
@@ -193,7 +193,7 @@ fn a_root_is_made_and_got_as_a_newer_type(rt: HostRuntime) -> std::result::Resul
     Ok(())
 }
 
-/// A text that is made and got, data in its place, and a root that is no struct.
+/// Makes and reads a text, data in its place, and a root that is not a struct.
 fn blobs(alloc: Global) -> Result<(u32, Vec<u8>, Option<Error>)> {
     let mut builder = Builder::new_default(alloc);
     let seen = text_and_data(&mut builder, 5);
@@ -215,7 +215,7 @@ fn roots_with_a_count_are_made(rt: HostRuntime) -> std::result::Result<(), Fail>
     Ok(())
 }
 
-/// A typed message whose root is got before it is made, and then written.
+/// Builds a typed message whose root is read before it is made, and then written.
 fn got_and_made<A: Allocator>(typed: &mut TypedBuilder<LabelledNumbers, A>) -> Result<(u32, u32)>
     ensures { loans_held typed.new.message.memory.arena
         ≡ loans_held typed.old.message.memory.arena }
@@ -238,7 +238,7 @@ fn typed(alloc: Global) -> Result<((u32, u32), Vec<u8>)> {
     Ok((seen?, bytes?))
 }
 
-/// The first struct is cleared where another is made.
+/// The first struct is cleared when another is made.
 #[test]
 fn typed_roots_are_made_and_got(rt: HostRuntime) -> std::result::Result<(), Fail> {
     let (seen, bytes) = typed(rt.alloc())?;

@@ -13,12 +13,12 @@ use capnp_wire::traits::Owned;
 use capnp_wire_objects::arena::ReaderArena;
 use std::test::Fail;
 
-/// A framed message whose root is data of two bytes, and a byte behind it.
+/// A framed message whose root is data of two bytes, followed by a byte.
 const DATA: [u8; 25] = [
     0, 0, 0, 0, 2, 0, 0, 0, 1, 0, 0, 0, 18, 0, 0, 0, 0x68, 0x69, 0, 0, 0, 0, 0, 0, 0xee,
 ];
 
-/// Options that are set one after the other.
+/// Makes options that are set one after the other.
 fn options(words: Option<usize>, levels: i32) -> ReaderOptions
     ensures words { result.traversal_limit_in_words ≡ words }
     ensures levels { result.nesting_limit ≡ levels }
@@ -29,7 +29,7 @@ fn options(words: Option<usize>, levels: i32) -> ReaderOptions
     options
 }
 
-/// Options that are set in a chain.
+/// Makes options that are set in a chain.
 fn chained(words: Option<usize>, levels: i32) -> ReaderOptions
     ensures words { result.traversal_limit_in_words ≡ words }
     ensures levels { result.nesting_limit ≡ levels }
@@ -41,7 +41,7 @@ fn chained(words: Option<usize>, levels: i32) -> ReaderOptions
     options
 }
 
-/// Options of which one alone is set keep the other.
+/// Checks that options keep the other value if only one is set.
 fn boundless() -> ReaderOptions
     ensures words { result.traversal_limit_in_words ≡ None }
     ensures levels { result.nesting_limit ≡ default_options.nesting_limit }
@@ -51,7 +51,7 @@ fn boundless() -> ReaderOptions
     options
 }
 
-/// Whether the root is data of these bytes.
+/// Returns whether the root is data of these bytes.
 fn holds_data<S: ReaderSegments>(message: &Reader<S>, bytes: &[u8]) -> Result<bool> {
     let mut limiter = DEFAULT_READER_OPTIONS.read_limiter();
     let data: &[u8] = message.get_root(&mut limiter)?;

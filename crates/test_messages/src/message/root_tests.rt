@@ -1,4 +1,4 @@
-//! Roots that are set and read back, and messages that are edited where their words stand.
+//! Roots that are set and read, and messages that are edited in place.
 ghost use Rattle.std.specs.Prelude.{◌≡◌, ◌+◌, ◌*◌, ◌^◌, ◌<◌, ◌≤◌, ◌++◌, length};
 ghost use Rattle.capnp_copy_arenas.specs.Memory.{AllZero, ZeroFrom};
 ghost use Rattle.capnp_wire.specs.Views.{seen_struct};
@@ -48,7 +48,7 @@ impl<'a, A: ReaderArena> FromPointerReader<'a, A> for Fields<'a, A> {
     }
 }
 
-/// The used bytes of each segment, one behind the other.
+/// Returns the used bytes of each segment, one after the other.
 fn bytes_of<S: ReaderSegments>(alloc: Global, message: &S) -> Result<Vec<u8>> {
     let mut all = Vec::new(alloc);
     let count = message.len().min(100) as u32;
@@ -60,14 +60,14 @@ fn bytes_of<S: ReaderSegments>(alloc: Global, message: &S) -> Result<Vec<u8>> {
     Ok(all)
 }
 
-/// What is seen of a message whose root is set to a text: its words, and the root read back.
+/// Returns a view of a message whose root is set to a text: its words, and the root that is read.
 fn seen_text<L: Allocator>(alloc: Global, builder: &Builder<L>) -> Result<(usize, Vec<u8>)> {
     let mut limiter = ReadLimiter::new(None);
     let root: &[u8] = builder.get_root_as_reader(&mut limiter)?;
     Ok((builder.size_in_words(), Vec::from_slice(alloc, root)?))
 }
 
-/// A message whose root is set to a text, and then to another.
+/// Builds a message whose root is set to a text, and then to another.
 fn two_texts<L: Allocator>(
     alloc: Global,
     allocator: &mut L,
@@ -92,13 +92,13 @@ fn two_texts<L: Allocator>(
     seen
 }
 
-/// The same over the heap.
+/// Does this over the heap.
 fn two_texts_on_heap(alloc: Global, first: &str, second: &str) -> Result<(usize, Vec<u8>)> {
     let mut heap = HeapAllocator::new(alloc);
     two_texts(alloc, &mut heap, first, second)
 }
 
-/// The same over a slice alone.
+/// Does this only over a slice.
 fn two_texts_in(
     alloc: Global,
     region: &mut [u8],
@@ -109,7 +109,7 @@ fn two_texts_in(
     two_texts(alloc, &mut single, first, second)
 }
 
-/// A message of the canonical words of another.
+/// Builds a message of the canonical words of another.
 fn canonical<L: Allocator, S: ReaderSegments>(
     alloc: Global,
     allocator: &mut L,
@@ -130,7 +130,7 @@ fn canonical<L: Allocator, S: ReaderSegments>(
     bytes
 }
 
-/// Sets the root to a text where a segment has words already, and answers all used ones.
+/// Sets the root to a text in a segment that has words already, and returns all used ones.
 fn edited<L: Allocator>(
     alloc: Global,
     allocator: &mut L,
@@ -159,7 +159,7 @@ fn edited<L: Allocator>(
     bytes
 }
 
-/// Sets the root of the words that an allocator was opened with to a text, and answers all used
+/// Sets the root of the words that an allocator was opened with to a text, and returns all used
 /// words.
 fn edited_there<L: OpensSegment>(alloc: Global, allocator: &mut L, value: &str) -> Result<Vec<u8>>
     requires { length (L.loans allocator.old) ≤ 1 }
@@ -179,7 +179,7 @@ fn edited_there<L: OpensSegment>(alloc: Global, allocator: &mut L, value: &str) 
     bytes
 }
 
-/// The same in a lent slice, of which n words are there already. It comes back all zeros.
+/// Does this in a lent slice whose first n words are used already. It returns all zeros.
 fn edited_in(alloc: Global, region: &mut [u8], used: u32, value: &str) -> Result<Vec<u8>>
     requires inside { 8 * used ≤ length region.old }
     requires few { used < 2 ^ 29 }
@@ -189,13 +189,13 @@ fn edited_in(alloc: Global, region: &mut [u8], used: u32, value: &str) -> Result
     edited_there(alloc, &mut scratch, value)
 }
 
-/// A message of the canonical words of another, over the heap.
+/// Builds a message of the canonical words of another, over the heap.
 fn canonical_on_heap(alloc: Global, source: &Reader<SegmentArray<'_>>) -> Result<Vec<u8>> {
     let mut heap = HeapAllocator::new(alloc);
     canonical(alloc, &mut heap, source)
 }
 
-/// The same in a lent slice, alone or with the heap behind it. It comes back all zeros.
+/// Does this in a lent slice, with or without the heap after it. The slice returns all zeros.
 fn canonical_in(
     alloc: Global,
     region: &mut [u8],
@@ -224,7 +224,7 @@ fn a_root_is_set_again(rt: HostRuntime) -> std::result::Result<(), Fail> {
     Ok(())
 }
 
-/// The root of two segments leads to a word behind a pad.
+/// The root of two segments leads to a word after a pad.
 #[test]
 fn a_root_is_set_to_canonical_words(rt: HostRuntime) -> std::result::Result<(), Fail> {
     let first = [2u8, 0, 0, 0, 1, 0, 0, 0];
@@ -276,7 +276,7 @@ fn a_message_goes_on_behind_its_words(rt: HostRuntime) -> std::result::Result<()
     Ok(())
 }
 
-/// A typed message that is built, and then read.
+/// Builds a typed message, and then reads it.
 fn typed_text(alloc: Global, value: &[u8]) -> Result<(Vec<u8>, Vec<u8>)> {
     let mut built: TypedBuilder<capnp_text::data::Owned, HeapAllocator> = TypedBuilder::new_default(
         alloc,
@@ -305,8 +305,8 @@ fn a_typed_root_is_set(rt: HostRuntime) -> std::result::Result<(), Fail> {
     Ok(())
 }
 
-/// Fields of the root of a message to which nothing was written: a number, one of default 5, a
-/// truth value of default true, and a text's bytes, counted.
+/// Returns fields of the root of a message to which nothing was written: a number, a number of
+/// default 5, a truth value of default true, and the number of a text's bytes.
 fn fields_unwritten<L: Allocator>(builder: &Builder<L>) -> Result<(u16, u16, bool, usize)> {
     let mut limiter = ReadLimiter::new(Some(0));
     let fields: Fields<'_, _> = builder.get_root_as_reader(&mut limiter)?;
@@ -319,7 +319,7 @@ fn fields_unwritten<L: Allocator>(builder: &Builder<L>) -> Result<(u16, u16, boo
     ))
 }
 
-/// The same of a new message.
+/// Does this for a new message.
 fn defaults<L: Allocator>(alloc: Global, allocator: &mut L) -> Result<(u16, u16, bool, usize)>
     requires { length (L.loans allocator.old) ≤ 1 }
     ensures loans { L.loans allocator.new ≡ L.loans allocator.old }
@@ -331,7 +331,7 @@ fn defaults<L: Allocator>(alloc: Global, allocator: &mut L) -> Result<(u16, u16,
     seen
 }
 
-/// The same over a slice, of which no word is taken.
+/// Does this over a slice, of whose words none is taken.
 fn defaults_in(alloc: Global, region: &mut [u8]) -> Result<(u16, u16, bool, usize)>
     ensures { AllZero region.new }
 {

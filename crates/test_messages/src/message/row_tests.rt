@@ -20,18 +20,18 @@ const FAR: [u8; 40] = [
     7, 0, 0, 0, 0, 0, 0, 0,
 ];
 
-/// The same struct in one segment.
+/// This struct in one segment.
 const NEAR: [u8; 24] = [
     0, 0, 0, 0, 2, 0, 0, 0, 0, 0, 0, 0, 1, 0, 0, 0, 7, 0, 0, 0, 0, 0, 0, 0,
 ];
 
-/// A struct of three words, of which the last is zero.
+/// A struct of three words, whose last word is zero.
 const WIDE: [u8; 40] = [
     0, 0, 0, 0, 4, 0, 0, 0, 0, 0, 0, 0, 3, 0, 0, 0, 17, 17, 17, 17, 17, 17, 17, 17, 0, 0, 0, 0, 0,
     0, 0, 128, 0, 0, 0, 0, 0, 0, 0, 0,
 ];
 
-/// The same struct, of two words.
+/// This struct, of two words.
 const TRIMMED: [u8; 32] = [
     0, 0, 0, 0, 3, 0, 0, 0, 0, 0, 0, 0, 2, 0, 0, 0, 17, 17, 17, 17, 17, 17, 17, 17, 0, 0, 0, 0, 0,
     0, 0, 128,
@@ -43,7 +43,7 @@ const TWO: [u8; 40] = [
     0, 0, 0, 0, 0xee, 0xee, 0xee, 0xee, 0xee, 0xee, 0xee, 0xee,
 ];
 
-/// No segment but an empty one, then one word.
+/// An empty segment, then one word.
 const NONE_THEN_NULL: [u8; 24] = [
     0, 0, 0, 0, 0, 0, 0, 0, 0, 0, 0, 0, 1, 0, 0, 0, 0, 0, 0, 0, 0, 0, 0, 0,
 ];
@@ -51,8 +51,8 @@ const NONE_THEN_NULL: [u8; 24] = [
 /// A list of no voids.
 const LIST: [u8; 16] = [0, 0, 0, 0, 1, 0, 0, 0, 1, 0, 0, 0, 0, 0, 0, 0];
 
-/// The first message of a text, copied canonically into a builder, where a text is the root before
-/// or none, and written.
+/// Copies the first message of a text canonically into a builder, whose root is a text or nothing
+/// before, and writes it.
 fn rewritten<L: Allocator>(
     alloc: Global,
     allocator: &mut L,
@@ -83,7 +83,7 @@ fn rewritten<L: Allocator>(
     bytes
 }
 
-/// The same over a slice and the heap, or over the slice alone. The slice comes back all zeros.
+/// Does this over a slice and the heap, or only over the slice. The slice returns all zeros.
 fn over_slice(
     alloc: Global,
     region: &mut [u8],
@@ -102,8 +102,8 @@ fn over_slice(
     }
 }
 
-/// What is written of a text over the heap, over a slice and the heap, and over the slice alone,
-/// where all three agree.
+/// Returns the output for a text over the heap, over a slice and the heap, and only over the slice,
+/// if all three agree.
 fn over_each(alloc: Global, input: &[u8], before: Option<&str>) -> Result<Vec<u8>> {
     let mut heap = HeapAllocator::new(alloc);
     let (mut first, mut second, mut third) = (input, input, input);
@@ -130,7 +130,7 @@ fn messages_are_rewritten_over_each_allocator(rt: HostRuntime) -> std::result::R
     Ok(())
 }
 
-/// The words of the text that was there are zero, and the struct lies behind them.
+/// The words of the old text are zero, and the struct follows them.
 #[test]
 fn a_root_is_replaced_by_a_canonical_copy(rt: HostRuntime) -> std::result::Result<(), Fail> {
     let far = over_each(rt.alloc(), &FAR, Some("hi"))?;
@@ -146,7 +146,7 @@ fn a_root_is_replaced_by_a_canonical_copy(rt: HostRuntime) -> std::result::Resul
     Ok(())
 }
 
-/// A message without a root word has no value; the one behind it is read still.
+/// A message without a root word has no value; the next message is still read.
 #[test]
 fn a_message_without_words_is_passed_by(rt: HostRuntime) -> std::result::Result<(), Fail> {
     let mut input = &NONE_THEN_NULL[..];
@@ -158,7 +158,7 @@ fn a_message_without_words_is_passed_by(rt: HostRuntime) -> std::result::Result<
     Ok(())
 }
 
-/// The words and the bytes of the frame of a message whose root is a text.
+/// Returns the words and the bytes of the frame of a message whose root is a text.
 fn greeted<L: Allocator>(alloc: Global, allocator: &mut L) -> Result<(usize, usize)>
     requires { length (L.loans allocator.old) ≤ 1 }
     ensures loans { L.loans allocator.new ≡ L.loans allocator.old }

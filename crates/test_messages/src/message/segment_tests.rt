@@ -30,7 +30,7 @@ const ROOT: Place = Place {
     position: 0,
 };
 
-/// Segments of 1, 0 and 2 words: the root leads to the third, where a pad stands before a struct of
+/// Segments of 1, 0 and 2 words: the root leads to the third, which has a pad before a struct of
 /// one word.
 const THREE: [u8; 40] = [
     2, 0, 0, 0, 1, 0, 0, 0, 0, 0, 0, 0, 2, 0, 0, 0, 2, 0, 0, 0, 2, 0, 0, 0, 0, 0, 0, 0, 1, 0, 0, 0,
@@ -57,7 +57,7 @@ fn set_number<A: BuilderArena>(memory: &mut Memory<A>, number: u64) -> Result<()
     Ok(())
 }
 
-/// Adds segments of which no word is used.
+/// Adds segments without a used word.
 fn add_empty<L: Allocator>(arena: &mut BuilderArenaImpl<L>, count: u32) -> Result<()>
     ensures place { L.place arena.new.allocator ≡ L.place arena.old.allocator }
     ensures loans { flat_map (λ h. L.Segment.loans h.segment) arena.new.segments.items
@@ -71,8 +71,8 @@ fn add_empty<L: Allocator>(arena: &mut BuilderArenaImpl<L>, count: u32) -> Resul
     Ok(())
 }
 
-/// The frame of a message and the words that it is said to have: n empty segments, and around them
-/// the root and a number that it leads to, if any.
+/// Returns the frame of a message and its reported number of words: n empty segments, and around
+/// them the root and a number that it leads to, if any.
 fn framed<L: Allocator>(
     alloc: Global,
     allocator: &mut L,
@@ -104,7 +104,7 @@ fn framed<L: Allocator>(
     seen
 }
 
-/// The frame, and the words that it is said to have.
+/// Returns the frame, and its reported number of words.
 fn written<L: Allocator>(alloc: Global, builder: &Builder<L>) -> Result<(Vec<u8>, usize)> {
     if builder.memory.arena.len() == 0 {
         return Err(Error::from(ErrorKind::OutOfBounds));
@@ -114,7 +114,7 @@ fn written<L: Allocator>(alloc: Global, builder: &Builder<L>) -> Result<(Vec<u8>
     Ok((write_message_to_words(alloc, builder)?, words))
 }
 
-/// The same over segments of the heap of n words.
+/// Does this over segments of the heap of n words.
 fn over_heap(
     alloc: Global,
     words: u32,
@@ -127,7 +127,7 @@ fn over_heap(
     framed(alloc, &mut heap, empty, number)
 }
 
-/// The same over a slice, which comes back all zeros, and then such segments of the heap.
+/// Does this over a slice, which returns all zeros, and then such segments of the heap.
 fn over_scratch(
     alloc: Global,
     region: &mut [u8],
@@ -143,7 +143,7 @@ fn over_scratch(
     framed(alloc, &mut scratch, empty, number)
 }
 
-/// The same over a slice alone, which comes back all zeros.
+/// Does this only over a slice, which returns all zeros.
 fn over_slice(
     alloc: Global,
     region: &mut [u8],
@@ -156,7 +156,7 @@ fn over_slice(
     framed(alloc, &mut single, empty, number)
 }
 
-/// A slice alone has no second segment, so that the number stands behind the root.
+/// A slice by itself has no second segment, so the number follows the root.
 #[test]
 fn an_empty_segment_stands_between_two(rt: HostRuntime) -> std::result::Result<(), Fail> {
     let alloc = rt.alloc();
@@ -191,14 +191,14 @@ fn an_empty_segment_stands_between_two(rt: HostRuntime) -> std::result::Result<(
     Ok(())
 }
 
-/// How many segments a frame is read as.
+/// Returns the number of segments that a reader finds in a frame.
 fn count_read(alloc: Global, frame: &[u8]) -> Result<usize> {
     let mut source = frame;
     let message = read_message(alloc, &mut source, DEFAULT_READER_OPTIONS)?;
     Ok(message.get_segments().len())
 }
 
-/// A reader takes 511 segments; more are written still. A slice alone is the one segment.
+/// A reader takes 511 segments; more are still written. A slice by itself is the only segment.
 #[test]
 fn empty_segments_are_written_and_read(rt: HostRuntime) -> std::result::Result<(), Fail> {
     let alloc = rt.alloc();
@@ -237,8 +237,8 @@ const CAPABILITY: [u8; 16] = [3, 0, 0, 0, 0, 0, 0, 0, 0, 0, 0, 0, 0, 0, 0, 0];
 /// A pointer into the sixth segment.
 const FAR: [u8; 16] = [2, 0, 0, 0, 5, 0, 0, 0, 0, 0, 0, 0, 0, 0, 0, 0];
 
-/// Why the root can't be set canonically to the value of a segment; and whether a text that was the
-/// root before stands then, in the words that it had.
+/// Returns the reason for which the root can't be set canonically to the value of a segment, and
+/// whether a text that was the root before remains then, in its words.
 fn refused<L: Allocator>(
     alloc: Global,
     allocator: &mut L,
@@ -266,7 +266,7 @@ fn refused<L: Allocator>(
     Ok((done.err().map(|e| e.kind), bytes && text))
 }
 
-/// The same over the heap.
+/// Does this over the heap.
 fn refused_on_heap(
     alloc: Global,
     segment: &[u8],
@@ -276,8 +276,8 @@ fn refused_on_heap(
     refused(alloc, &mut heap, segment, options)
 }
 
-/// The same over a slice that the text fills, with or without the heap behind it. It comes back all
-/// zeros.
+/// Does this over a slice that the text fills, with or without the heap after it. The slice returns
+/// all zeros.
 fn refused_in(
     alloc: Global,
     region: &mut [u8],
