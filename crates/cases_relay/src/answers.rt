@@ -1,4 +1,4 @@
-//! What calls of the library answer, as texts.
+//! The answers of calls of the library, as texts.
 
 use crate::case::{Case, Fault};
 use crate::given::{Given, hex_of};
@@ -24,8 +24,8 @@ fn text(alloc: Global, text: &str) -> Result<String, Fault> {
     Ok(String::from_str(alloc, text)?)
 }
 
-/// The text of a framed message under the limits of the calls file; without a limit of words where
-/// there is no such file.
+/// Returns the text of a framed message under the limits of the calls file; without a limit of
+/// words if there is no such file.
 pub fn text_of(alloc: Global, given: &Given, message: &[u8]) -> Result<String, Fault> {
     let version = given.older(alloc)?;
     let mut options = ReaderOptions {
@@ -49,7 +49,7 @@ pub fn text_of(alloc: Global, given: &Given, message: &[u8]) -> Result<String, F
     }
 }
 
-/// The same of the case's message.
+/// Returns the text of the case's message.
 pub fn shown(alloc: Global, case: &Case) -> Result<String, Fault> {
     text_of(
         alloc,
@@ -58,7 +58,7 @@ pub fn shown(alloc: Global, case: &Case) -> Result<String, Fault> {
     )
 }
 
-/// Whether the newer schema is compatible with the older.
+/// Returns whether the newer schema is compatible with the older.
 pub fn compatibility(alloc: Global, case: &Case) -> Result<String, Fault> {
     let given = Given::new(alloc, case)?;
     let (older, newer) = (given.older(alloc)?, given.newer(alloc)?);
@@ -78,7 +78,7 @@ pub fn compatibility(alloc: Global, case: &Case) -> Result<String, Fault> {
     text(alloc, if is_compatible { "yes" } else { "no" })
 }
 
-/// Whether the calls are admitted, or the first that isn't.
+/// Returns whether the calls are admitted, or the first call that isn't.
 pub fn admission(alloc: Global, case: &Case) -> Result<String, Fault> {
     let given = Given::new(alloc, case)?;
     let settings = given.settings(alloc)?;
@@ -103,7 +103,7 @@ pub fn admission(alloc: Global, case: &Case) -> Result<String, Fault> {
     }
 }
 
-/// Of each call of a calls file its verb and its path, or why it is refused.
+/// Returns the verb and the path of each call of a calls file, or why the call is refused.
 pub fn made_calls(alloc: Global, case: &Case) -> Result<String, Fault> {
     let Ok(file) = calls_file(alloc, case.text("text")?.as_bytes()) else {
         return Err(Fault::Shape);
@@ -122,7 +122,7 @@ pub fn made_calls(alloc: Global, case: &Case) -> Result<String, Fault> {
     Ok(answers)
 }
 
-/// The nodes of a schema file.
+/// Returns the nodes of a schema file.
 pub fn schema_text(alloc: Global, case: &Case) -> Result<String, Fault> {
     match schema_file(alloc, case.text("text")?.as_bytes()) {
         Ok(nodes) => Ok(format!(in alloc; "{nodes:?}")?),
@@ -131,7 +131,7 @@ pub fn schema_text(alloc: Global, case: &Case) -> Result<String, Fault> {
     }
 }
 
-/// What a calls file says.
+/// Returns the contents of a calls file.
 pub fn calls_text(alloc: Global, case: &Case) -> Result<String, Fault> {
     match calls_file(alloc, case.text("text")?.as_bytes()) {
         Ok(file) => Ok(format!(in alloc; "{file:?}")?),
@@ -140,7 +140,7 @@ pub fn calls_text(alloc: Global, case: &Case) -> Result<String, Fault> {
     }
 }
 
-/// The renamings of a renames file.
+/// Returns the renamings of a renames file.
 pub fn renames_text(alloc: Global, case: &Case) -> Result<String, Fault> {
     match renames_file(alloc, case.text("text")?.as_bytes()) {
         Ok(list) => Ok(format!(in alloc; "{list:?}")?),
@@ -149,7 +149,7 @@ pub fn renames_text(alloc: Global, case: &Case) -> Result<String, Fault> {
     }
 }
 
-/// The canonical words of a message that a call sets.
+/// Returns the canonical words of a message that a call sets.
 pub fn message_words(alloc: Global, case: &Case) -> Result<String, Fault> {
     match MessageValue::new(alloc, &case.bytes(alloc, "stdin")?)? {
         Some(message) => hex_of(alloc, message.segment()),
@@ -157,7 +157,7 @@ pub fn message_words(alloc: Global, case: &Case) -> Result<String, Fault> {
     }
 }
 
-/// The words of bytes, without the rest that is no word.
+/// Returns the words of bytes, without the rest that isn't a whole word.
 fn words_of(alloc: Global, bytes: &[u8]) -> Result<Vec<Word>, Fault> {
     let mut words = Vec::new(alloc);
     for chunk in bytes.chunks(8) {
@@ -168,7 +168,7 @@ fn words_of(alloc: Global, bytes: &[u8]) -> Result<Vec<Word>, Fault> {
     Ok(words)
 }
 
-/// The canonical words that are left of those that are given, where the calls set plain fields of
+/// Returns the canonical words that remain of the given words after the calls set plain fields of
 /// the root in them.
 pub fn words_after_sets(alloc: Global, case: &Case) -> Result<String, Fault> {
     let given = Given::new(alloc, case)?;
@@ -184,7 +184,8 @@ pub fn words_after_sets(alloc: Global, case: &Case) -> Result<String, Fault> {
     hex_of(alloc, words_as_bytes(&words))
 }
 
-/// The same where the calls set fields along paths.
+/// Returns the canonical words that remain of the given words after the calls set fields along
+/// paths.
 pub fn words_after_splices(alloc: Global, case: &Case) -> Result<String, Fault> {
     let given = Given::new(alloc, case)?;
     let (settings, version) = (given.settings(alloc)?, given.older(alloc)?);

@@ -1,4 +1,4 @@
-//! What breaks the compatibility of a case's versions.
+//! The changes that break the compatibility of a case's versions.
 
 use crate::case::{Case, Fault};
 use crate::given::Given;
@@ -34,7 +34,7 @@ fn break_text(alloc: Global, found: Break) -> Result<String, Fault> {
     Ok(format!(in alloc; "{older} {newer}: {}", told.as_str())?)
 }
 
-/// The break of each pair that is reached, or `none`.
+/// Returns the break of each pair that is reached, or `none`.
 pub fn all(alloc: Global, case: &Case) -> Result<String, Fault> {
     let given = Given::new(alloc, case)?;
     let (older, newer) = (given.older(alloc)?, given.newer(alloc)?);
@@ -60,7 +60,7 @@ pub fn all(alloc: Global, case: &Case) -> Result<String, Fault> {
     Ok(told)
 }
 
-/// The first break of a case's versions, or `none`.
+/// Returns the first break of a case's versions, or `none`.
 pub fn first(alloc: Global, case: &Case) -> Result<String, Fault> {
     let given = Given::new(alloc, case)?;
     let (older, newer) = (given.older(alloc)?, given.newer(alloc)?);

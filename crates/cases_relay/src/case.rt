@@ -31,7 +31,7 @@ impl From<capnp_units::errors::Error> for Fault {
     }
 }
 
-/// The bytes that a text spells in hex, with blanks anywhere.
+/// Returns the bytes that a text spells in hex, with blanks anywhere.
 fn hex_in(alloc: Global, text: &str) -> Result<Vec<u8>, Fault> {
     let mut digits = Vec::new(alloc);
     for byte in text.as_bytes() {
@@ -46,7 +46,8 @@ fn hex_in(alloc: Global, text: &str) -> Result<Vec<u8>, Fault> {
     }
 }
 
-/// The bytes of a file: those that a text spells in hex, or the text of another JSON value.
+/// Returns the bytes of a file: the bytes that a text spells in hex, or the text of another JSON
+/// value.
 fn file_in(alloc: Global, file: &Json) -> Result<Vec<u8>, Fault> {
     match file.as_str() {
         Some(text) => hex_in(alloc, text),
@@ -61,7 +62,7 @@ pub struct Case {
 }
 
 impl Case {
-    /// The case of a line.
+    /// Reads the case of a line.
     pub fn new(alloc: Global, line: &str) -> Result<Case, Fault> {
         match Json::from_str(alloc, line) {
             Ok(json) => Ok(Case { json }),
@@ -85,12 +86,12 @@ impl Case {
         self.member(name)?.as_u64().ok_or(Fault::Shape)
     }
 
-    /// The bytes of a member in hex.
+    /// Returns the bytes of a member in hex.
     pub fn bytes(&self, alloc: Global, name: &str) -> Result<Vec<u8>, Fault> {
         hex_in(alloc, self.text(name)?)
     }
 
-    /// The arguments.
+    /// Returns the arguments.
     pub fn words(&self, alloc: Global) -> Result<Vec<String>, Fault> {
         let items = self.member("args")?.as_array().ok_or(Fault::Shape)?;
         let mut words = Vec::new(alloc);
@@ -101,7 +102,7 @@ impl Case {
         Ok(words)
     }
 
-    /// The bytes of the file of this name; `None` where there is no such file.
+    /// Returns the bytes of the file of this name; `None` if there is no such file.
     pub fn file(&self, alloc: Global, name: Option<&String>) -> Result<Option<Vec<u8>>, Fault> {
         let Some(name) = name else {
             return Ok(None);

@@ -1,4 +1,4 @@
-//! What a run is given, and what it should leave.
+//! The input of a run, and the results it should leave.
 
 use crate::case::{Case, Fault};
 use crate::plain;
@@ -35,7 +35,7 @@ impl Given {
         })
     }
 
-    /// The calls and the limits, where nothing is refused.
+    /// Returns the calls and the limits, if nothing is refused.
     pub fn settings(&self, alloc: Global) -> Result<Settings, Fault> {
         let (schema, calls) = (self.schema.as_deref(), self.calls.as_deref());
         let (newer, renames) = (self.newer.as_deref(), self.renames.as_deref());
@@ -45,7 +45,7 @@ impl Given {
         }
     }
 
-    /// The renamings of the renames file; none where there is no such file.
+    /// Returns the renamings of the renames file. Without such a file there are no renamings.
     pub fn renamings(&self, alloc: Global) -> Result<Renamings, Fault> {
         let Some(bytes) = &self.renames else {
             return Ok(Renamings::none(alloc));
@@ -59,12 +59,12 @@ impl Given {
         }
     }
 
-    /// What the words say.
+    /// Parses the words of the case as arguments.
     pub fn arguments(&self) -> Result<Arguments, Fault> {
         Arguments::new(&self.words).ok_or(Fault::Shape)
     }
 
-    /// The root's id.
+    /// Returns the root's id.
     pub fn root(&self) -> Result<u64, Fault> {
         Ok(self.arguments()?.root)
     }
@@ -76,29 +76,29 @@ impl Given {
         }
     }
 
-    /// The schema with its root.
+    /// Returns the schema with its root.
     pub fn older(&self, alloc: Global) -> Result<Version, Fault> {
         self.version_of(alloc, self.schema.as_deref())
     }
 
-    /// The newer schema with its root.
+    /// Returns the newer schema with its root.
     pub fn newer(&self, alloc: Global) -> Result<Version, Fault> {
         self.version_of(alloc, self.newer.as_deref())
     }
 }
 
-/// What a run left, or should leave.
+/// The results that a run left, or should leave.
 #[derive(Drop)]
 pub struct Left {
-    /// How it ended.
+    /// The way it ended.
     pub end: String,
     pub out: Vec<u8>,
     pub log: Vec<u8>,
-    /// How many bytes of the input weren't taken.
+    /// Number of bytes of the input that weren't taken.
     pub unread: usize,
 }
 
-/// The bytes of the log that a case tells: a text, or `stderr` in hex.
+/// Returns the bytes of the log that a case gives: a text, or `stderr` in hex.
 fn log_of(alloc: Global, case: &Case) -> Result<Vec<u8>, Fault> {
     if case.has("log") {
         return Ok(String::from_str(alloc, case.text("log")?)?.into_bytes());
@@ -106,7 +106,7 @@ fn log_of(alloc: Global, case: &Case) -> Result<Vec<u8>, Fault> {
     case.bytes(alloc, "stderr")
 }
 
-/// These bytes, where they aren't those that a member tells in hex.
+/// Returns these bytes if they aren't the bytes that a member gives in hex.
 pub fn difference_of_bytes(
     alloc: Global,
     case: &Case,
@@ -120,7 +120,7 @@ pub fn difference_of_bytes(
 }
 
 impl Left {
-    /// What differs from what the case tells, if anything.
+    /// Returns the difference from the results that the case gives, if any.
     pub fn difference(
         &self,
         alloc: Global,
@@ -153,7 +153,7 @@ impl Left {
     }
 }
 
-/// Bytes in hex.
+/// Returns bytes in hex.
 pub fn hex_of(alloc: Global, bytes: &[u8]) -> Result<String, Fault> {
     Ok(hex::encode(alloc, bytes)?)
 }

@@ -1,6 +1,7 @@
-//! Compares runs of the relay's program, and calls of its library, with what they should be.
+//! Compares runs of the relay's program, and calls of its library, with the results they should
+//! give.
 //!
-//! Each line of the files that are given is a JSON object, a case. README says what is in it.
+//! Each line of the files that are given is a JSON object, a case. README lists its members.
 #![tactic(auto)]
 
 mod answers;
@@ -17,14 +18,14 @@ use std::alloc::Global;
 use std::process::ExitCode;
 use std::{env, fs, io};
 
-/// How many cases are as they should be, and what is said of those that differ.
+/// The number of cases that are as they should be, and a report on each case that differs.
 #[derive(Drop)]
 struct Counts {
     same: u64,
     differing: Vec<String>,
 }
 
-/// What a call of the library answers.
+/// Returns the answer of a call of the library.
 fn answer(alloc: Global, call: &str, case: &Case) -> Result<String, Fault> {
     match call {
         "show" => answers::shown(alloc, case),
@@ -43,7 +44,7 @@ fn answer(alloc: Global, call: &str, case: &Case) -> Result<String, Fault> {
     }
 }
 
-/// What differs in a case, if anything.
+/// Returns the difference in a case, if any.
 fn difference(alloc: Global, case: &Case) -> Result<Option<String>, Fault> {
     if !case.has("call") {
         return runs::difference(alloc, case);
@@ -60,7 +61,7 @@ fn difference(alloc: Global, case: &Case) -> Result<Option<String>, Fault> {
     }
 }
 
-/// What differs in the case of a line, if anything.
+/// Returns the difference in the case of a line, if any.
 fn difference_in(alloc: Global, line: &str) -> Result<Option<String>, Fault> {
     let told = match Case::new(alloc, line) {
         Ok(case) => difference(alloc, &case),
@@ -91,7 +92,7 @@ fn count(alloc: Global, text: &str) -> Result<Counts, Fault> {
     Ok(counts)
 }
 
-/// Prints the counts; whether no case differs, and there are some.
+/// Prints the counts. Returns whether no case differs, and there are some.
 fn report(rt: &HostRuntime, name: &str, counts: &Counts) -> io::Result<bool> {
     let Counts { same, differing } = counts;
     println!(rt;
@@ -104,7 +105,7 @@ fn report(rt: &HostRuntime, name: &str, counts: &Counts) -> io::Result<bool> {
     Ok(differing.is_empty() && *same > 0)
 }
 
-/// Whether all cases of a file are as they should be.
+/// Returns whether all cases of a file are as they should be.
 fn compare(rt: &HostRuntime, name: &str) -> io::Result<bool> {
     let text = fs::read_to_string(rt, name)?;
     match count(rt.alloc(), text.as_str()) {

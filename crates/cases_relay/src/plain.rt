@@ -1,5 +1,4 @@
-//! What is told of output in the plain form: what it becomes canonically, how it is shown, and
-//! bytes that it lacks.
+//! Checks of output in the plain form: its canonical form, its text, and bytes that it lacks.
 
 use crate::answers::text_of;
 use crate::case::{Case, Fault};
@@ -9,14 +8,14 @@ use capnp_relay_streams::options::{Form, RelayOptions};
 use capnp_relay_streams::relay::relay;
 use std::alloc::Global;
 
-/// As many words as an output here has at most, and the levels of pointers.
+/// The most words that an output here has, and the levels of pointers.
 const LIMITS: ReaderOptions = ReaderOptions {
     traversal_limit_in_words: Some(4096),
     nesting_limit: 64,
 };
 
-/// What an output becomes when it is relayed canonically, framed and without calls, to its end or
-/// to a fault.
+/// Relays an output canonically, framed and without calls, to its end or to a fault, and returns
+/// the result.
 fn relayed_again(alloc: Global, given: &Given, out: &[u8]) -> Result<Vec<u8>, Fault> {
     let form = given.arguments()?.forms.output;
     let Ok(options) = RelayOptions::new(form, Form::Framed, LIMITS) else {
@@ -41,7 +40,7 @@ fn relayed_again(alloc: Global, given: &Given, out: &[u8]) -> Result<Vec<u8>, Fa
     }
 }
 
-/// What differs in an output in the plain form from what a case tells, if anything.
+/// Returns the difference of an output in the plain form from what a case gives, if any.
 pub fn difference(
     alloc: Global,
     given: &Given,

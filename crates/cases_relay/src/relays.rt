@@ -9,10 +9,10 @@ use capnp_relay_streams::relay::relay;
 use capnp_stream_io::traits::BufRead;
 use std::alloc::Global;
 
-/// What the region holds before a run.
+/// The bytes of the region before a run.
 const DIRT: u8 = 0xff;
 
-/// How `relay` ended.
+/// Describes the end of `relay`.
 fn end_of(alloc: Global, end: &Result<Counts, RelayFault>) -> Result<String, Fault> {
     let Counts { written, refused } = match end {
         Ok(counts) => *counts,
@@ -24,7 +24,8 @@ fn end_of(alloc: Global, end: &Result<Counts, RelayFault>) -> Result<String, Fau
     }
 }
 
-/// How a run ended, which leaves the region clean, or as it was where it didn't begin.
+/// Describes the end of a run. Reports a region that isn't zero afterwards, or isn't as it was if
+/// the run didn't begin.
 fn checked(
     alloc: Global,
     end: Result<Counts, BetweenFault>,
@@ -42,8 +43,8 @@ fn checked(
     }
 }
 
-/// How a run of `relay` ends, of `relay_between` where there is a newer schema, or of
-/// `relay_between_with` where fields are renamed.
+/// Describes the end of a run of `relay`, of `relay_between` if there is a newer schema, or of
+/// `relay_between_with` if fields are renamed.
 fn ended<R: BufRead>(
     alloc: Global,
     given: &Given,
@@ -96,7 +97,7 @@ fn ended<R: BufRead>(
     checked(alloc, end, &region)
 }
 
-/// What a run leaves, but for how many bytes are unread.
+/// Returns the results of a run, except the number of unread bytes.
 fn left_of<R: BufRead>(alloc: Global, given: &Given, source: &mut R) -> Result<Left, Fault> {
     let mut out = Vec::new(alloc);
     let mut log = Vec::new(alloc);
@@ -109,7 +110,8 @@ fn left_of<R: BufRead>(alloc: Global, given: &Given, source: &mut R) -> Result<L
     })
 }
 
-/// What differs in a run of the relay, whether its input is shown at once or one byte at a time.
+/// Returns the difference in a run of the relay, if any, with its input shown at once and one byte
+/// at a time.
 pub fn difference(alloc: Global, case: &Case) -> Result<Option<String>, Fault> {
     let given = Given::new(alloc, case)?;
     let input = case.bytes(alloc, "stdin")?;

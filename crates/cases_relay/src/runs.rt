@@ -7,7 +7,7 @@ use capnp_relay_program::program::program;
 use capnp_relay_program::sources::Windowed;
 use std::alloc::Global;
 
-/// What the program leaves, but for how many bytes are unread.
+/// Returns the results of a run of the program, except the number of unread bytes.
 fn left_of<R: Windowed>(alloc: Global, given: &Given, source: &mut R) -> Result<Left, Fault> {
     let mut out = Vec::new(alloc);
     let mut log = Vec::new(alloc);
@@ -30,7 +30,8 @@ fn left_of<R: Windowed>(alloc: Global, given: &Given, source: &mut R) -> Result<
     })
 }
 
-/// What differs in a run of the program, whether its input is shown at once or one byte at a time.
+/// Returns the difference in a run of the program, if any, with its input shown at once and one
+/// byte at a time.
 pub fn difference(alloc: Global, case: &Case) -> Result<Option<String>, Fault> {
     let given = Given::new(alloc, case)?;
     let input = case.bytes(alloc, "stdin")?;

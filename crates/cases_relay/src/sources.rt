@@ -21,12 +21,12 @@ impl<'a> OneByOne<'a> {
         }
     }
 
-    /// How many bytes weren't taken.
+    /// Returns the number of bytes that weren't taken.
     pub fn left(&self) -> usize {
         self.window.len().saturating_add(self.rest.len())
     }
 
-    /// Shows the next byte where none is shown.
+    /// Shows the next byte if none is shown.
     fn show(&mut self) {
         if self.window.is_empty() {
             let rest = self.rest;

@@ -10,22 +10,22 @@ use capnp_relay_requests::request::{FloatField, Floats, Requested, request_file}
 use std::alloc::Global;
 use std::fmt;
 
-/// How a request and a file compare.
+/// The result of a comparison of a request and a file.
 #[derive(Debug, Drop)]
 pub struct Compared {
-    /// Nodes that are the same in both.
+    /// Number of nodes that are the same in both.
     same: usize,
-    /// Nodes of either that differ or are missing in the other.
+    /// Number of nodes of either that differ or are missing in the other.
     differing: usize,
-    /// Fields that are floats in the file and are told to be.
+    /// Number of fields that are floats in the file and are declared as floats.
     floats: usize,
-    /// Whether the request is refused for a float where floats are refused, exactly where there is
-    /// one.
+    /// Whether the request is refused because of a float exactly when it has a float, if floats are
+    /// refused.
     is_refused_by_floats: bool,
 }
 
 impl Compared {
-    /// Whether all nodes are the same, and there is one.
+    /// Returns whether all nodes are the same, and there is at least one.
     pub fn is_right(&self) -> bool {
         self.same > 0 && self.differing == 0 && self.is_refused_by_floats
     }
@@ -80,7 +80,8 @@ fn is_same_value(told: &Value, filed: &Value) -> bool {
     }
 }
 
-/// A float has no default in a schema file; its bits are zero then.
+/// Returns whether a default is zero. A float has no default in a schema file; its bits are zero
+/// then.
 fn is_zero(value: &Value) -> bool {
     match value {
         Value::UInt32(n) => *n == 0,
@@ -164,17 +165,18 @@ fn is_same_node(told: &NodeRecord, filed: &NodeRecord) -> bool {
         && is_same_kind(&told.body, &filed.body)
 }
 
-/// Whether one of the nodes of a file is the same.
+/// Returns whether one of the nodes of a file is the same.
 fn is_among(told: &NodeRecord, file: &[NodeRecord]) -> bool {
     file.iter().any(|filed| is_same_node(told, filed))
 }
 
-/// Whether the field is told to be a float.
+/// Returns whether the field is declared as a float.
 fn is_told(floats: &[FloatField], node: u64, index: usize) -> bool {
     floats.iter().any(|float| float.node == node && float.index as usize == index)
 }
 
-/// The fields of a file that are floats and are told to be, and those that aren't told.
+/// Counts the fields of the file that are floats and are declared as floats, and those that aren't
+/// declared.
 fn floats_in(file: &[NodeRecord], floats: &[FloatField]) -> (usize, usize) {
     let mut told: usize = 0;
     let mut untold: usize = 0;
@@ -196,7 +198,7 @@ fn floats_in(file: &[NodeRecord], floats: &[FloatField]) -> (usize, usize) {
     (told, untold)
 }
 
-/// Whether the request is refused for a float exactly where there are some.
+/// Returns whether the request is refused because of a float exactly when there are some.
 fn is_refused_by_floats(alloc: Global, request: &[u8], floats: usize) -> bool {
     match request_file(alloc, request, Floats::Refused) {
         Ok(schema) => floats == 0 && schema.floats.is_empty(),

@@ -8,19 +8,19 @@ use capnp_relay_requests::request::{Floats, request_file};
 use std::alloc::Global;
 use std::fmt;
 
-/// What became of damaged requests.
+/// The counts of damaged requests.
 #[derive(Debug, Drop)]
 pub struct Damaged {
-    /// Those with a byte flipped, which were read or refused.
+    /// Number of requests with a byte flipped, which were read or refused.
     flipped: usize,
-    /// Those that were cut short.
+    /// Number of requests that were cut short.
     cuts: usize,
-    /// Those of them that were refused.
+    /// Number of requests cut short that were refused.
     refused: usize,
 }
 
 impl Damaged {
-    /// Whether each request that was cut short was refused, and at least one was.
+    /// Returns whether each request that was cut short was refused, and at least one was.
     pub fn is_right(&self) -> bool {
         self.cuts > 0 && self.refused == self.cuts
     }
@@ -36,7 +36,7 @@ impl fmt::Display for Damaged {
     }
 }
 
-/// Whether bytes are refused, for another cause than memory.
+/// Returns whether bytes are refused for a cause other than memory.
 fn is_refused(alloc: Global, bytes: &[u8]) -> Result<bool, CaseFault> {
     match request_file(alloc, bytes, Floats::AsBits) {
         Ok(_) => Ok(false),
@@ -45,7 +45,7 @@ fn is_refused(alloc: Global, bytes: &[u8]) -> Result<bool, CaseFault> {
     }
 }
 
-/// Whether a request is refused with the byte at a place flipped.
+/// Returns whether a request is refused with the byte at a place flipped.
 fn is_flip_refused(alloc: Global, request: &[u8], at: usize) -> Result<bool, CaseFault>
     requires { at < length request.now }
 {

@@ -31,7 +31,7 @@ fn request_of(rt: &HostRuntime, name: &str) -> Result<Vec<u8>, CaseFault> {
     Ok(fs::read(rt, path.as_str())?)
 }
 
-/// Compares the request of a name with its schema file, and tells whether nothing differs.
+/// Compares the request of a name with its schema file, and returns whether nothing differs.
 fn is_same(rt: &HostRuntime, name: &str) -> Result<bool, CaseFault> {
     let request = request_of(rt, name)?;
     let path = format!(in rt.alloc(); "{name}.json")?;
@@ -41,7 +41,7 @@ fn is_same(rt: &HostRuntime, name: &str) -> Result<bool, CaseFault> {
     Ok(compared.is_right())
 }
 
-/// Damages the request of a name, and tells whether each that is cut short is refused.
+/// Damages the request of a name, and returns whether each that is cut short is refused.
 fn is_refused(rt: &HostRuntime, name: &str) -> Result<bool, CaseFault> {
     let request = request_of(rt, name)?;
     let damaged = damage::damage(rt.alloc(), &request)?;
@@ -49,7 +49,7 @@ fn is_refused(rt: &HostRuntime, name: &str) -> Result<bool, CaseFault> {
     Ok(damaged.is_right())
 }
 
-/// What is done with a word: a name, or `damaged:` and a name.
+/// Handles a word: a name, or `damaged:` and a name.
 fn is_right(rt: &HostRuntime, word: &str) -> Result<bool, CaseFault> {
     match word.strip_prefix("damaged:") {
         Some(name) => is_refused(rt, name),

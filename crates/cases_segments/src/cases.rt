@@ -4,8 +4,8 @@ use crate::machine;
 use crate::streams::{self, Cuts, Form};
 use std::alloc::{AllocError, Global};
 
-/// Whether each step of a case gives what it should. A line that isn't written as cases are
-/// differs.
+/// Returns whether each step of a case gives what it should. A line that isn't written in the form
+/// of cases counts as different.
 pub fn is_as_it_should_be(alloc: Global, line: &str) -> Result<bool, AllocError> {
     let mut words = Vec::new(alloc);
     for word in line.split_whitespace() {

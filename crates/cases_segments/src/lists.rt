@@ -10,7 +10,7 @@ use capnp_wire::list::ListReader;
 use std::alloc::{AllocError, Global};
 use std::fmt::Display;
 
-/// An element, read as a type.
+/// Returns an element, read as a type.
 fn element<T: PrimitiveElement + Display>(
     alloc: Global,
     list: ListReader<'_, Message<'_>>,
@@ -22,7 +22,7 @@ fn element<T: PrimitiveElement + Display>(
     }
 }
 
-/// An element, read as nothing.
+/// Returns an element, read as nothing.
 fn void(alloc: Global, list: ListReader<'_, Message<'_>>, step: &Step) -> Answer {
     match step.short(1) {
         Some(index) if index < list.len() => {
@@ -34,8 +34,8 @@ fn void(alloc: Global, list: ListReader<'_, Message<'_>>, step: &Step) -> Answer
 }
 
 impl Machine<'_> {
-    /// What a step from a list gives; `None` where no list is there, or the step is of another
-    /// sort.
+    /// Returns the answer of a step from a list; `None` if there is no list, or the step is of
+    /// another sort.
     pub fn of_list(&mut self, alloc: Global, step: &Step) -> Result<Option<Seen>, AllocError> {
         let Some(list) = self.list else {
             return Ok(None);

@@ -1,4 +1,4 @@
-//! Steps over segments: readers that stand somewhere in a message, and a budget.
+//! Steps over segments: readers at places in a message, and a budget.
 
 use crate::seen::{Answer, Seen};
 use crate::steps::Step;
@@ -16,8 +16,8 @@ use std::alloc::{AllocError, Global};
 /// A message of the segments of a case.
 pub type Message<'a> = Reader<&'a Vec<Vec<u8>>>;
 
-/// The readers that the steps so far led to, what they took of the budget, and where canonical
-/// words were found to end.
+/// The readers that the steps so far led to, the part of the budget that they used, and the end of
+/// the canonical words that were found.
 #[derive(Drop)]
 pub struct Machine<'a> {
     pub message: &'a Message<'a>,
@@ -49,7 +49,7 @@ impl<'a> Machine<'a> {
         }
     }
 
-    /// What a step gives.
+    /// Returns the answer of a step.
     fn answer(&mut self, alloc: Global, step: &Step) -> Answer {
         if let Some(seen) = self.of_message(alloc, step)? {
             return Ok(seen);
@@ -67,7 +67,7 @@ impl<'a> Machine<'a> {
     }
 }
 
-/// Whether each step gives what it should.
+/// Returns whether each step gives what it should.
 fn goes_on(alloc: Global, machine: &mut Machine, steps: &[&str]) -> Result<bool, AllocError> {
     for text in steps {
         let Some(step) = Step::of(text) else {
@@ -81,7 +81,7 @@ fn goes_on(alloc: Global, machine: &mut Machine, steps: &[&str]) -> Result<bool,
     Ok(!steps.is_empty())
 }
 
-/// How far a message is read.
+/// Returns the limits of reading a message.
 fn options_of(nesting: &str, budget: &str) -> Option<ReaderOptions> {
     Some(ReaderOptions {
         traversal_limit_in_words: limit_of(budget)?,
@@ -89,8 +89,8 @@ fn options_of(nesting: &str, budget: &str) -> Option<ReaderOptions> {
     })
 }
 
-/// Whether the steps over segments give what they should: under a nesting limit and a budget, with
-/// a default where there is one.
+/// Returns whether the steps over segments give what they should: under a nesting limit and a
+/// budget, with a default if the case has one.
 pub fn goes(
     alloc: Global,
     segments: &str,

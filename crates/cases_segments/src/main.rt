@@ -1,6 +1,6 @@
-//! Compares what readers and streams give for given bytes with what they should.
+//! Compares the answers of readers and streams for given bytes with the answers they should give.
 //!
-//! Each line of the files that are named is a case; the README tells how they are written.
+//! Each line of the files that are named is a case; the README describes how cases are written.
 #![tactic(auto)]
 
 mod cases;
@@ -21,7 +21,7 @@ use std::alloc::{AllocError, Global};
 use std::process::ExitCode;
 use std::{env, fs, io};
 
-/// How many cases are as they should be, and the lines of those that differ.
+/// The number of cases that are as they should be, and the lines of those that differ.
 #[derive(Drop)]
 struct Counts {
     same: u64,
@@ -48,7 +48,7 @@ fn count(alloc: Global, text: &str) -> Result<Counts, AllocError> {
     Ok(counts)
 }
 
-/// Prints the counts of a file. Whether no case differs, and there is one.
+/// Prints the counts of a file. Returns whether no case differs, and there is at least one.
 fn report(rt: &HostRuntime, name: &str, counts: &Counts) -> io::Result<bool> {
     let Counts { same, differing } = counts;
     println!(rt; "{name}: {same} cases are as they should be")?;
@@ -71,7 +71,7 @@ fn compare(rt: &HostRuntime, name: &str) -> io::Result<bool> {
     }
 }
 
-/// Compares the cases of each file that is named; the status is 0 where none differs.
+/// Compares the cases of each file that is named; the status is 0 if none differs.
 fn run(rt: &HostRuntime) -> io::Result<ExitCode> {
     let mut is_any = false;
     let mut is_all = true;

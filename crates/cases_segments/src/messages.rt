@@ -13,10 +13,10 @@ use capnp_wire_objects::arena::ReaderArena;
 use capnp_wire_objects::place::{ROOT, has_words};
 use std::alloc::{AllocError, Global};
 
-/// What words are filled with that nothing should be written into.
+/// The value that fills words into which nothing should be written.
 const UNTOUCHED: Word = [0xaa; 8];
 
-/// Whether a call that gives nothing was refused, and why.
+/// Reports whether a call that gives nothing was refused, and why.
 fn done(alloc: Global, read: Read<()>) -> Answer {
     match read {
         Ok(()) => word(alloc, "ok"),
@@ -24,13 +24,13 @@ fn done(alloc: Global, read: Read<()>) -> Answer {
     }
 }
 
-/// The bytes of words.
+/// Returns the bytes of words.
 fn words(alloc: Global, words: &[Word]) -> Answer {
     Ok(Seen::Bytes(Vec::from_slice(alloc, words_as_bytes(words))?))
 }
 
 impl Machine<'_> {
-    /// What a step from the message gives; `None` where the step is of another sort.
+    /// Returns the answer of a step from the message; `None` if the step is of another sort.
     pub fn of_message(&mut self, alloc: Global, step: &Step) -> Result<Option<Seen>, AllocError> {
         let limiter = &mut self.limiter;
         let seen = match step.verb() {
@@ -115,8 +115,8 @@ impl Machine<'_> {
         )
     }
 
-    /// The canonical words of the root, under n levels, written into m words. What stands behind
-    /// them has to stay.
+    /// Writes the canonical words of the root, under n levels, into m words, and returns them. The
+    /// words after them must keep their values.
     fn copy(&mut self, alloc: Global, step: &Step) -> Answer {
         let (Some(levels), Some(room)) = (step.short(1), step.number(2)) else {
             return Ok(Seen::Nothing);

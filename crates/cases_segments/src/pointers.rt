@@ -7,7 +7,7 @@ use capnp_units::errors::Result as Read;
 use capnp_units::sizes::{MessageSize, PointerType};
 use std::alloc::{AllocError, Global};
 
-/// Bytes that were lent, or why not.
+/// Returns bytes that were lent, or why they weren't.
 fn lent(alloc: Global, read: Read<&[u8]>) -> Answer {
     match read {
         Ok(found) => bytes(alloc, found),
@@ -15,7 +15,7 @@ fn lent(alloc: Global, read: Read<&[u8]>) -> Answer {
     }
 }
 
-/// A size: its words, and with a comma between its capabilities.
+/// Returns a size: its words, and its capabilities after a comma.
 pub fn size(alloc: Global, read: Read<MessageSize>) -> Answer {
     match read {
         Ok(size) => Ok(Seen::Word(format!(in alloc; "{},{}", size.word_count, size.cap_count)?)),
@@ -23,7 +23,7 @@ pub fn size(alloc: Global, read: Read<MessageSize>) -> Answer {
     }
 }
 
-/// Whether something holds, or why that isn't known.
+/// Returns whether something holds, or why that isn't known.
 pub fn told(alloc: Global, read: Read<bool>) -> Answer {
     match read {
         Ok(holds) => shown(alloc, &holds),
@@ -42,8 +42,8 @@ fn sort(alloc: Global, read: Read<PointerType>) -> Answer {
 }
 
 impl Machine<'_> {
-    /// What a step from a pointer gives; `None` where no pointer is there, or the step is of
-    /// another sort.
+    /// Returns the answer of a step from a pointer; `None` if there is no pointer, or the step is
+    /// of another sort.
     pub fn of_pointer(&mut self, alloc: Global, step: &Step) -> Result<Option<Seen>, AllocError> {
         let Some(pointer) = self.pointer else {
             return Ok(None);

@@ -1,4 +1,4 @@
-//! Messages that are read in each way.
+//! Readings of messages by each function.
 
 use crate::seen::{Answer, Seen, refusal, segments, word};
 use crate::streams::Form;
@@ -14,7 +14,7 @@ use capnp_units::segments::ReaderSegments;
 use std::alloc::Global;
 use test_support::shown::Shown;
 
-/// The segments of a message, or why there are none.
+/// Returns the segments of a message, or why there are none.
 fn found<S: ReaderSegments>(alloc: Global, read: &Read<Reader<S>>) -> Answer {
     match read {
         Ok(message) => segments(alloc, message.get_segments()),
@@ -22,7 +22,7 @@ fn found<S: ReaderSegments>(alloc: Global, read: &Read<Reader<S>>) -> Answer {
     }
 }
 
-/// The same where there may be the end.
+/// Returns the segments of a message, or the end, or why there are none.
 fn found_or_end<S: ReaderSegments>(alloc: Global, read: &Read<Option<Reader<S>>>) -> Answer {
     match read {
         Ok(Some(message)) => segments(alloc, message.get_segments()),
@@ -31,7 +31,7 @@ fn found_or_end<S: ReaderSegments>(alloc: Global, read: &Read<Option<Reader<S>>>
     }
 }
 
-/// The next message.
+/// Reads the next message.
 pub fn read(alloc: Global, form: Form, source: &mut Shown, options: ReaderOptions) -> Answer {
     match form {
         Form::Framed => found(alloc, &serialize::read_message(alloc, source, options)),
@@ -42,7 +42,7 @@ pub fn read(alloc: Global, form: Form, source: &mut Shown, options: ReaderOption
     }
 }
 
-/// The next message, or the end.
+/// Reads the next message, or the end.
 pub fn tried(alloc: Global, form: Form, source: &mut Shown, options: ReaderOptions) -> Answer {
     match form {
         Form::Framed => {
@@ -57,7 +57,7 @@ pub fn tried(alloc: Global, form: Form, source: &mut Shown, options: ReaderOptio
     }
 }
 
-/// The next message in a buffer of n bytes.
+/// Reads the next message into a buffer of n bytes.
 pub fn lent(
     alloc: Global,
     form: Form,
@@ -81,7 +81,7 @@ pub fn lent(
     }
 }
 
-/// The same, or the end.
+/// Reads the next message into a buffer of n bytes, or the end.
 pub fn tried_lent(
     alloc: Global,
     form: Form,
@@ -105,7 +105,7 @@ pub fn tried_lent(
     }
 }
 
-/// The next message in a buffer that is kept, or the end.
+/// Reads the next message into a buffer that is kept, or the end.
 pub fn kept(
     alloc: Global,
     form: Form,
@@ -125,8 +125,8 @@ pub fn kept(
     }
 }
 
-/// The framed message at the front of the bytes, which then begin behind it, where both readers of
-/// slices give the same.
+/// Reads the framed message at the front of the bytes, which then begin after it, if both readers
+/// of slices give the same.
 pub fn flat(alloc: Global, source: &mut Shown, options: ReaderOptions) -> Answer {
     let mut first = source.bytes;
     let mut second = source.bytes;
@@ -141,7 +141,7 @@ pub fn flat(alloc: Global, source: &mut Shown, options: ReaderOptions) -> Answer
     Ok(seen)
 }
 
-/// The framed message at the front of the bytes, where both buffers give the same.
+/// Reads the framed message at the front of the bytes, if both buffers give the same.
 pub fn held(alloc: Global, bytes: &[u8], options: ReaderOptions) -> Answer {
     let limit = options.traversal_limit_in_words;
     let lent = match BufferSegments::new(alloc, bytes, limit) {

@@ -10,8 +10,8 @@ use std::alloc::{AllocError, Global};
 use std::fmt::Display;
 use std::str::FromStr;
 
-/// A number of the data section, at an index in its own width, and exclusive or a default where one
-/// is given.
+/// Returns a number of the data section at an index in units of its own width, combined by
+/// exclusive or with a default if the step has one.
 fn number<N>(alloc: Global, record: StructReader<'_, Message<'_>>, step: &Step) -> Answer
 where
     N: Primitive + Zero + Mask<T = N> + Display + FromStr,
@@ -29,7 +29,8 @@ where
     }
 }
 
-/// The same of a bit.
+/// Returns a bit of the data section at an index, combined by exclusive or with a default if the
+/// step has one.
 fn bit(alloc: Global, record: StructReader<'_, Message<'_>>, step: &Step) -> Answer {
     let Some(index) = step.number(1) else {
         return Ok(Seen::Nothing);
@@ -41,8 +42,8 @@ fn bit(alloc: Global, record: StructReader<'_, Message<'_>>, step: &Step) -> Ans
 }
 
 impl Machine<'_> {
-    /// What a step from a struct gives; `None` where no struct is there, or the step is of another
-    /// sort.
+    /// Returns the answer of a step from a struct; `None` if there is no struct, or the step is of
+    /// another sort.
     pub fn of_struct(&mut self, alloc: Global, step: &Step) -> Result<Option<Seen>, AllocError> {
         let Some(record) = self.record else {
             return Ok(None);
@@ -83,8 +84,8 @@ impl Machine<'_> {
         shown(alloc, &record.is_pointer_field_null(index))
     }
 
-    /// Asks with two heads: that of the struct's own words, told by the answer behind a comma, and
-    /// that of what they lead to.
+    /// Asks with two heads: the head of the struct's own words, which the answer gives after a
+    /// comma, and the head of what they lead to.
     fn is_struct_canonical(&mut self, alloc: Global, step: &Step) -> Answer {
         let (Some(record), Some(own), Some(head)) = (self.record, step.place(1), step.place(2))
         else {

@@ -1,4 +1,4 @@
-//! What a call gave, and whether that is what a case wants.
+//! The result of a call, and whether it is the result that a case expects.
 
 use crate::words::{bytes_of, segments_of};
 use capnp_units::errors::Error;
@@ -6,10 +6,10 @@ use capnp_units::segments::ReaderSegments;
 use std::alloc::{AllocError, Global};
 use std::fmt::Display;
 
-/// What a call gave.
+/// The result of a call.
 #[derive(Drop, PartialEq)]
 pub enum Seen {
-    /// Bytes, as a case tells them in hex.
+    /// Bytes, which a case gives in hex.
     Bytes(Vec<u8>),
     /// The segments of a message.
     Segments(Vec<Vec<u8>>),
@@ -19,11 +19,11 @@ pub enum Seen {
     Nothing,
 }
 
-/// The same of a call that may want memory.
+/// The result of a call that may need memory.
 pub type Answer = Result<Seen, AllocError>;
 
 impl Seen {
-    /// Whether it is what the text tells; `x` tells a step that can't be taken.
+    /// Returns whether it is the result that the text gives; `x` means a step that can't be taken.
     pub fn is(&self, alloc: Global, text: &str) -> Result<bool, AllocError> {
         match self {
             Seen::Word(word) => Ok(word.as_str() == text),
@@ -40,27 +40,28 @@ impl Seen {
     }
 }
 
-/// A word.
+/// Returns a word.
 pub fn word(alloc: Global, text: &str) -> Answer {
     Ok(Seen::Word(String::from_str(alloc, text)?))
 }
 
-/// The name of a refusal's kind.
+/// Returns the name of a refusal's kind.
 pub fn refusal(alloc: Global, error: Error) -> Answer {
     word(alloc, error.kind.name())
 }
 
-/// What is shown as text.
+/// Returns a value shown as text.
 pub fn shown<T: Display>(alloc: Global, value: &T) -> Answer {
     Ok(Seen::Word(format!(in alloc; "{value}")?))
 }
 
-/// Bytes.
+/// Returns bytes.
 pub fn bytes(alloc: Global, bytes: &[u8]) -> Answer {
     Ok(Seen::Bytes(Vec::from_slice(alloc, bytes)?))
 }
 
-/// The segments of a message, and one that it shouldn't have where it gives any behind its last.
+/// Returns the segments of a message, and one that it shouldn't have if it gives any after its
+/// last.
 pub fn segments<S: ReaderSegments>(alloc: Global, message: &S) -> Answer {
     let mut all = Vec::new(alloc);
     let count = message.len().min(1000) as u32;

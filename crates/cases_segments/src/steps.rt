@@ -1,9 +1,9 @@
-//! The steps of a case: a call with its arguments, and what it should give.
+//! The steps of a case: a call with its arguments, and the answer it should give.
 
 use capnp_units::sizes::ElementSize;
 use capnp_wire_objects::place::Place;
 
-/// A step: a verb and its arguments between colons, and behind a sign of equality what it should
+/// A step: a verb and its arguments between colons, and after an equals sign the answer it should
 /// give.
 #[derive(Clone, Copy)]
 pub struct Step<'a> {
@@ -12,38 +12,38 @@ pub struct Step<'a> {
 }
 
 impl<'a> Step<'a> {
-    /// The step of a word.
+    /// Parses the step of a word.
     pub fn of(word: &'a str) -> Option<Step<'a>> {
         let (call, wanted) = word.split_once('=')?;
         Some(Step { call, wanted })
     }
 
-    /// What it should give.
+    /// Returns the answer it should give.
     pub fn wanted(&self) -> &'a str {
         self.wanted
     }
 
-    /// The verb at place 0, and its arguments behind it.
+    /// Returns the verb at place 0, and its arguments at the places after it.
     pub fn part(&self, place: usize) -> Option<&'a str> {
         self.call.split(':').nth(place)
     }
 
-    /// The verb.
+    /// Returns the verb.
     pub fn verb(&self) -> &'a str {
         self.part(0).unwrap_or("")
     }
 
-    /// An argument that is a number.
+    /// Returns an argument that is a number.
     pub fn number(&self, place: usize) -> Option<usize> {
         self.part(place)?.parse::<usize>().ok()
     }
 
-    /// An argument that is a number of fewer bits.
+    /// Returns an argument that is a number of fewer bits.
     pub fn short(&self, place: usize) -> Option<u32> {
         self.part(place)?.parse::<u32>().ok()
     }
 
-    /// An argument that is a place: its segment and its word, with a slash between.
+    /// Returns an argument that is a place: its segment and its word, with a slash between.
     pub fn place(&self, place: usize) -> Option<Place> {
         let (segment, position) = self.part(place)?.split_once('/')?;
         Some(Place {
@@ -52,7 +52,7 @@ impl<'a> Step<'a> {
         })
     }
 
-    /// An argument that is the size of elements, 0 to 7.
+    /// Returns an argument that is the size of elements, 0 to 7.
     pub fn size(&self, place: usize) -> Option<ElementSize> {
         let number = self.part(place)?.parse::<u64>().ok()?;
         if number < 8 {

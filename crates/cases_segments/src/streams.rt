@@ -22,10 +22,10 @@ pub enum Form {
     Packed,
 }
 
-/// Where the bytes are cut into two pieces.
+/// The places at which the bytes are cut into two pieces.
 #[derive(Clone, Copy)]
 pub enum Cuts {
-    /// At some 64 places, and at each where there are no more.
+    /// At about 64 places, and at each place if there are no more than that.
     Some,
     /// At each place.
     All,
@@ -39,10 +39,10 @@ pub struct Stream<'a> {
     pub buffer: MessageBuffer,
 }
 
-/// The nesting limit, which no reading of streams looks at.
+/// The nesting limit, which no reading of streams uses.
 const LEVELS: i32 = 64;
 
-/// The limit that a step tells, as options of a reader.
+/// Returns the limit that a step gives, as options of a reader.
 fn options_of(step: &Step, place: usize) -> Option<ReaderOptions> {
     let limit = crate::words::limit_of(step.part(place)?)?;
     Some(ReaderOptions {
@@ -51,7 +51,7 @@ fn options_of(step: &Step, place: usize) -> Option<ReaderOptions> {
     })
 }
 
-/// The words of the next piece.
+/// Returns the words of the next piece.
 fn piece(alloc: Global, stream: &mut Stream, words: usize) -> Answer {
     let Some(len) = words.checked_mul(8) else {
         return Ok(Seen::Nothing);
@@ -67,7 +67,7 @@ fn piece(alloc: Global, stream: &mut Stream, words: usize) -> Answer {
     }
 }
 
-/// What a step that reads a message gives, under a limit.
+/// Returns the answer of a step that reads a message, under a limit.
 fn message(alloc: Global, stream: &mut Stream, step: &Step, options: ReaderOptions) -> Answer {
     let Stream {
         form,
@@ -86,7 +86,7 @@ fn message(alloc: Global, stream: &mut Stream, step: &Step, options: ReaderOptio
     }
 }
 
-/// What a step gives.
+/// Returns the answer of a step.
 fn answer(alloc: Global, stream: &mut Stream, step: &Step) -> Answer {
     match (step.verb(), step.part(1)) {
         ("rest", None) => bytes(alloc, stream.source.bytes),
@@ -109,7 +109,8 @@ fn answer(alloc: Global, stream: &mut Stream, step: &Step) -> Answer {
     }
 }
 
-/// How many bytes are left where each step gives what it should, the bytes shown in one way.
+/// Returns the number of bytes left if each step gives what it should, with the bytes shown in one
+/// way.
 fn goes_shown(
     alloc: Global,
     form: Form,
@@ -133,8 +134,8 @@ fn goes_shown(
     Ok(Some(stream.source.bytes.len()))
 }
 
-/// Whether each step gives what it should where the bytes are shown at once, one at a time, and in
-/// two pieces, cut at these places.
+/// Returns whether each step gives what it should, with the bytes shown at once, one at a time, and
+/// in two pieces, cut at these places.
 pub fn goes(
     alloc: Global,
     form: Form,

@@ -1,9 +1,9 @@
-//! Bytes and segments, as cases tell them.
+//! Bytes and segments in the notation of cases.
 
 use hex::FromHexError;
 use std::alloc::{AllocError, Global};
 
-/// The bytes of a group in hex, repeated where a count stands behind a star.
+/// Adds the bytes of a group in hex, repeated if a count follows a star.
 fn add_group(alloc: Global, bytes: &mut Vec<u8>, group: &str) -> Result<bool, AllocError> {
     let (digits, count) = match group.split_once('*') {
         Some((digits, count)) => (digits, count.parse::<usize>().ok()),
@@ -23,7 +23,7 @@ fn add_group(alloc: Global, bytes: &mut Vec<u8>, group: &str) -> Result<bool, Al
     Ok(true)
 }
 
-/// The bytes of groups in hex between dots, or of a dash, which are none.
+/// Returns the bytes of groups in hex between dots, or no bytes for a dash.
 pub fn bytes_of(alloc: Global, text: &str) -> Result<Option<Vec<u8>>, AllocError> {
     let mut bytes = Vec::new(alloc);
     if text == "-" {
@@ -37,7 +37,7 @@ pub fn bytes_of(alloc: Global, text: &str) -> Result<Option<Vec<u8>>, AllocError
     Ok(Some(bytes))
 }
 
-/// The segments between bars; of `none` there are none.
+/// Returns the segments between bars; `none` has no segments.
 pub fn segments_of(alloc: Global, text: &str) -> Result<Option<Vec<Vec<u8>>>, AllocError> {
     let mut segments = Vec::new(alloc);
     if text == "none" {
@@ -52,7 +52,7 @@ pub fn segments_of(alloc: Global, text: &str) -> Result<Option<Vec<Vec<u8>>>, Al
     Ok(Some(segments))
 }
 
-/// A number, or `all` for no limit.
+/// Parses a number, or `all` for no limit.
 pub fn limit_of(text: &str) -> Option<Option<usize>> {
     if text == "all" {
         return Some(None);

@@ -1,4 +1,4 @@
-//! Words and segments that are written in each way.
+//! Words and segments, written by each function.
 ghost use Rattle.std.specs.Prelude.{◌↔◌, IsTrue, All, map};
 ghost use Rattle.capnp_stream.specs.Writing.{AreWritable, IsSegment};
 
@@ -15,7 +15,7 @@ use capnp_units::errors::{Error, Result as Read};
 use capnp_units::kinds::ErrorKind;
 use std::alloc::{AllocError, Global};
 
-/// The packed bytes of words, as one piece.
+/// Returns the packed bytes of words, as one piece.
 pub fn packed(alloc: Global, words: &[u8]) -> Answer {
     let mut out = PackedWrite {
         inner: Vec::new(alloc),
@@ -26,21 +26,21 @@ pub fn packed(alloc: Global, words: &[u8]) -> Answer {
     }
 }
 
-/// Whether bytes are whole words, few enough for a segment.
+/// Returns whether bytes are whole words, few enough for a segment.
 fn is_segment(bytes: &[u8]) -> bool
     ensures { IsTrue result ↔ IsSegment bytes.now }
 {
     bytes.len() % 8 == 0 && bytes.len() < 0x8_0000_0000
 }
 
-/// Whether each of these is a segment.
+/// Returns whether each of these is a segment.
 fn are_segments(segments: &[Vec<u8>]) -> bool
     ensures { IsTrue result ↔ All (λ v. IsSegment v.items) segments.now }
 {
     segments.iter().all(|bytes| is_segment(bytes))
 }
 
-/// Whether segments can be written: there are some, of whole words.
+/// Returns whether segments can be written: there are some, of whole words.
 #[tactic(auto, using(crate::proofs::Writable::writable))]
 fn are_writable(segments: &Vec<Vec<u8>>) -> bool
     ensures { IsTrue result → AreWritable (map (λ v. v.items) segments.now.items) }
@@ -52,7 +52,7 @@ fn are_writable(segments: &Vec<Vec<u8>>) -> bool
     are_segments(segments)
 }
 
-/// Writes segments in a form, or `None` where they can't be written.
+/// Writes segments in a form. Returns `None` if they can't be written.
 fn write<W: Write>(
     alloc: Global,
     form: Form,
@@ -68,7 +68,8 @@ fn write<W: Write>(
     })
 }
 
-/// Whether the bytes fill a slice that is as long, and pass one that lacks a byte.
+/// Checks that the bytes fill a slice of their length, and are refused by a slice that is a byte
+/// shorter.
 fn fill_a_slice(
     alloc: Global,
     form: Form,
@@ -89,7 +90,7 @@ fn fill_a_slice(
     Ok(refused == Some(Err(Error::from(ErrorKind::BufferNotLargeEnough))))
 }
 
-/// Whether the other calls that write a message give the same bytes.
+/// Returns whether the other calls that write a message give the same bytes.
 fn are_alike(
     alloc: Global,
     form: Form,
@@ -117,7 +118,7 @@ fn are_alike(
     Ok(one.is_ok() && again == *text && is_whole)
 }
 
-/// The bytes of segments in a form, where every way to write them gives the same.
+/// Returns the bytes of segments in a form, if every function that writes them gives the same.
 pub fn written(alloc: Global, form: Form, segments: &Vec<Vec<u8>>) -> Answer {
     let mut out = Vec::new(alloc);
     match write(alloc, form, &mut out, segments) {
