@@ -8,8 +8,8 @@ use capnp_units::kinds::ErrorKind;
 use std::alloc::{AllocError, Global};
 use std::cell::Cell;
 
-/// Where the devices of a run note that one of them has failed, and how often one of them is called
-/// then.
+/// A shared note of a run's devices: whether one of them has failed, and how often a device was
+/// called after that.
 #[derive(Drop)]
 pub struct Alarm {
     is_raised: Cell<bool>,
@@ -36,13 +36,13 @@ impl Alarm {
         self.is_raised.set(true);
     }
 
-    /// Whether a device has failed, and none was called then.
+    /// Returns whether a device has failed, and none was called after that.
     pub fn was_heard(&self) -> bool {
         self.is_raised.get() && self.calls.get() == 0
     }
 }
 
-/// A source that gives n bytes, a few at a time, and then fails. It doesn't tell its bytes.
+/// A source that gives n bytes, a few at a time, and then fails. It doesn't expose its bytes.
 #[derive(Drop)]
 pub struct Giving<'a> {
     bytes: &'a [u8],
@@ -63,7 +63,7 @@ impl<'a> Giving<'a> {
         }
     }
 
-    /// How many bytes weren't taken.
+    /// Returns the number of bytes that weren't taken.
     pub fn unread(&self) -> usize {
         self.bytes.len()
     }
@@ -123,7 +123,7 @@ impl BufRead for Giving<'_> {
     ghost device_alone = { λ _ e. e };
 }
 
-/// A sink that takes n bytes, and then fails. It doesn't tell its bytes.
+/// A sink that takes n bytes, and then fails. It doesn't expose its bytes.
 #[derive(Drop)]
 pub struct Taking<'a> {
     held: Vec<u8>,
@@ -142,14 +142,14 @@ impl<'a> Taking<'a> {
         }
     }
 
-    /// The bytes that it took.
+    /// Returns the bytes that it took.
     pub fn held(&self) -> &[u8]
         ensures { result.now ≡ self.now.held.items }
     {
         &self.held
     }
 
-    /// The same, where it isn't used any more.
+    /// Returns the bytes that it took, and consumes the sink.
     pub fn into_held(self) -> Vec<u8> {
         self.held
     }

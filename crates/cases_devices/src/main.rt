@@ -1,7 +1,7 @@
-//! Reads, writes and relays over devices that fail at each byte, and compares what is answered and
-//! left with what should be.
+//! Reads, writes and relays over devices that fail at each byte, and compares the answers and what
+//! is left with what they should be.
 //!
-//! Each argument names a case; README.md tells them.
+//! Each argument names a case; README.md lists the cases.
 #![tactic(auto)]
 
 mod devices;
@@ -16,7 +16,8 @@ use std::alloc::Global;
 use std::process::ExitCode;
 use std::{env, io};
 
-/// At how many bytes a device failed in the case of a name, each as it should be.
+/// Returns the number of byte counts at which a device failed in the case of a name, each as it
+/// should be.
 fn faults(alloc: Global, name: &str) -> Result<usize, Fault> {
     if let Some(count) = writings::faults(alloc, name)? {
         return Ok(count);
@@ -27,7 +28,8 @@ fn faults(alloc: Global, name: &str) -> Result<usize, Fault> {
     readings::faults(alloc, name)?.ok_or(Fault::Memory)
 }
 
-/// Prints how often devices failed in each case. Whether each is as it should be, and there is one.
+/// Prints how often devices failed in each case. Returns whether each case is as it should be, and
+/// there is at least one.
 fn run(rt: &HostRuntime) -> io::Result<bool> {
     let mut are_good = true;
     let mut all: usize = 0;

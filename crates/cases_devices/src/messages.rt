@@ -1,20 +1,21 @@
-//! Messages with what the relay should make of them, and the streams of several in a row.
+//! Messages with the output that the relay should make of them, and the streams of several in a
+//! row.
 
 use crate::devices::Fault;
 use capnp_relay_loop::ends::Counts;
 use std::alloc::Global;
 
-/// A message of a stream, what should be written of it, and what its line should say behind its
-/// number.
+/// A message of a stream, the bytes that should be written for it, and the text of its log line
+/// after its number.
 #[derive(Clone, Copy)]
 pub struct Message<'a> {
     pub given: &'a [u8],
-    /// Empty where the message is skipped.
+    /// Empty if the message is skipped.
     pub written: &'a [u8],
     pub line: &'a str,
 }
 
-/// What should be taken, written, logged and counted behind some messages.
+/// The bytes that should be taken, written and logged, and the counts, after some messages.
 #[derive(Clone, Copy)]
 pub struct Done {
     pub taken: usize,
@@ -32,7 +33,7 @@ pub enum Stream {
 }
 
 impl Done {
-    /// How many bytes of a stream it is.
+    /// Returns the number of bytes of a stream.
     fn bytes_of(&self, stream: Stream) -> usize {
         match stream {
             Stream::Given => self.taken,
@@ -42,8 +43,8 @@ impl Done {
     }
 }
 
-/// The whole streams of a run, and what should be done behind each number of messages, none the
-/// first.
+/// The whole streams of a run, and the state that should be reached after each number of messages,
+/// first after none.
 #[derive(Drop)]
 pub struct Streams {
     pub given: Vec<u8>,
@@ -53,7 +54,7 @@ pub struct Streams {
 }
 
 impl Streams {
-    /// The streams of messages in a row.
+    /// Makes the streams of messages in a row.
     pub fn new(alloc: Global, messages: &[Message<'_>]) -> Result<Streams, Fault> {
         let mut streams = Streams {
             given: Vec::new(alloc),
@@ -82,7 +83,7 @@ impl Streams {
         Ok(streams)
     }
 
-    /// Notes that so much should be done behind the messages until here.
+    /// Notes the state that should be reached after the messages until here.
     fn note(&mut self, counts: Counts) -> Result<(), Fault> {
         let done = Done {
             taken: self.given.len(),
@@ -93,8 +94,8 @@ impl Streams {
         Ok(self.done.push(done)?)
     }
 
-    /// What should be done behind the last message that is whole in n bytes of a stream, and behind
-    /// the next one, or the last, if there is none.
+    /// Returns the state that should be reached after the last message that is whole in n bytes of
+    /// a stream, and after the next message, or the last if there is none.
     pub fn around(&self, stream: Stream, bytes: usize) -> Option<(Done, Done)> {
         let mut whole = None;
         for done in &self.done {
@@ -106,7 +107,7 @@ impl Streams {
         Some((whole?, whole?))
     }
 
-    /// What should be counted of all messages.
+    /// Returns the counts that all messages should give.
     pub fn counts(&self) -> Option<Counts> {
         Some(self.done.last()?.counts)
     }

@@ -14,7 +14,7 @@ use capnp_units::kinds::ErrorKind;
 use capnp_units::segments::ReaderSegments;
 use std::alloc::Global;
 
-/// A frame of segments of one word and of two, and the same packed.
+/// A frame with a segment of one word and a segment of two words, and the same frame packed.
 const TWO: &[u8] = &[
     1, 0, 0, 0, 1, 0, 0, 0, 2, 0, 0, 0, 0, 0, 0, 0, 2, 0, 0, 0, 1, 0, 0, 0, 0, 0, 0, 0, 1, 0, 0, 0,
     7, 0, 0, 0, 0, 0, 0, 0,
@@ -22,14 +22,14 @@ const TWO: &[u8] = &[
 
 const PACKED: &[u8] = &[0x11, 1, 1, 1, 2, 0x11, 2, 1, 0x10, 1, 1, 7];
 
-/// What a message should have: its segments, and their words one behind the other.
+/// Returns whether a message has the segments it should have, with their words in order.
 fn is_two<S: ReaderSegments>(segments: &S) -> bool {
     segments.len() == 2
         && segments.get_segment(0) == TWO.get(16..24)
         && segments.get_segment(1) == TWO.get(24..40)
 }
 
-/// Whether a message is the one that should be read.
+/// Returns whether a message is the one that should be read.
 fn read_two<S: ReaderSegments + Drop>(read: Result<Reader<S>>) -> Result<bool> {
     match read {
         Ok(message) => Ok(is_two(message.get_segments())),
@@ -37,7 +37,7 @@ fn read_two<S: ReaderSegments + Drop>(read: Result<Reader<S>>) -> Result<bool> {
     }
 }
 
-/// The same of one that may be none.
+/// Returns whether a message is the one that should be read, if there is a message.
 fn tried_two<S: ReaderSegments + Drop>(read: Result<Option<Reader<S>>>) -> Result<bool> {
     match read {
         Ok(Some(message)) => Ok(is_two(message.get_segments())),
@@ -59,7 +59,7 @@ fn keep<R: BufRead>(source: &mut R, buffer: &mut MessageBuffer, is_packed: bool)
     }
 }
 
-/// Reads a message in a way. Whether it is the one that should be read.
+/// Reads a message in a way. Returns whether it is the one that should be read.
 fn read<R: BufRead>(
     alloc: Global,
     way: &str,
@@ -104,13 +104,13 @@ fn unpack<R: BufRead>(source: R) -> (Result<bool>, R) {
     (read, unpacked.inner)
 }
 
-/// Whether a reading was refused since its device failed.
+/// Returns whether a reading was refused because its device failed.
 fn is_failed(read: Result<bool>) -> bool {
     read == Err(Error::from(ErrorKind::Device))
 }
 
-/// Reads in a way from a source, and from one that works then. Whether the first is refused, and
-/// the second reads the message.
+/// Reads in a way from a source, and then from one that works. Returns whether the first is
+/// refused, and the second reads the message.
 fn fails_once(
     alloc: Global,
     way: &str,
@@ -144,8 +144,8 @@ fn fails_once(
     Ok(is_refused && alarm.was_heard() && works == Ok(true))
 }
 
-/// At how many bytes a source failed in a way, each as it should be; `None` where there is no such
-/// way.
+/// Returns the number of byte counts at which a source failed in a way, each as it should be;
+/// `None` if there is no such way.
 pub fn faults(alloc: Global, way: &str) -> std::result::Result<Option<usize>, Fault> {
     let bytes = match way.split_once('_') {
         _ if way == "framed" => TWO,

@@ -11,10 +11,10 @@ use capnp_relay_streams::relay::relay;
 use capnp_stream_io::traits::{BufRead, Write};
 use std::alloc::Global;
 
-/// What the region holds before a run.
+/// The bytes of the region before a run.
 const DIRT: u8 = 0xff;
 
-/// What is made, once, of what a run is given.
+/// The parts that are made once from the input of a run.
 #[derive(Drop)]
 struct Relay {
     settings: Settings,
@@ -22,7 +22,7 @@ struct Relay {
     newer: Option<Version>,
 }
 
-/// The schema of a text.
+/// Parses the schema of a text.
 fn version(alloc: Global, text: &str) -> Result<Version, Fault> {
     match Version::new(alloc, Some(text.as_bytes()), 1) {
         Ok(version) => Ok(version),
@@ -52,8 +52,8 @@ impl Relay {
         })
     }
 
-    /// Runs the relay, between both schemas where there is a newer one. How it ends; `None` where
-    /// it doesn't begin, or leaves a region that isn't clean.
+    /// Runs the relay, between both schemas if there is a newer one. Returns how it ends; `None` if
+    /// it doesn't begin, or leaves a region that isn't zero.
     fn end<R: BufRead, W: Write, L: Write>(
         &self,
         alloc: Global,
@@ -80,7 +80,7 @@ impl Relay {
         Ok(region.iter().all(|byte| *byte == 0).then_some(end))
     }
 
-    /// Whether a run over devices that work leaves the whole streams.
+    /// Returns whether a run over devices that work leaves the whole streams.
     fn is_whole(&self, alloc: Global, streams: &Streams) -> Result<bool, Fault> {
         let mut source = streams.given.as_slice();
         let mut out = Vec::new(alloc);
@@ -94,8 +94,8 @@ impl Relay {
         Ok(end == Some(Ok(counts)) && source.is_empty() && is_same)
     }
 
-    /// Runs the relay over devices that fail behind n bytes. What is left, and whether none was
-    /// called behind the fault.
+    /// Runs the relay over devices that fail after n bytes. Returns what is left, and whether none
+    /// was called after the fault.
     fn left(
         &self,
         alloc: Global,
@@ -118,7 +118,7 @@ impl Relay {
     }
 }
 
-/// Behind how many bytes each device fails.
+/// The number of bytes after which each device fails.
 #[derive(Clone, Copy)]
 struct Limits {
     given: usize,
@@ -132,7 +132,7 @@ const NO_LIMITS: Limits = Limits {
     log: usize::MAX,
 };
 
-/// What a run left, and whether no device was called behind the fault.
+/// The results that a run left, and whether no device was called after the fault.
 #[derive(Drop)]
 struct Left {
     end: Option<Result<Counts, RelayFault>>,
@@ -143,8 +143,8 @@ struct Left {
 }
 
 impl Left {
-    /// Whether the run ended by this fault and counts, and wrote and logged n bytes of the whole
-    /// streams.
+    /// Returns whether the run ended by this fault and counts, and wrote and logged n bytes of the
+    /// whole streams.
     fn is_so(&self, streams: &Streams, fault: End, counts: Counts, out: usize, log: usize) -> bool {
         self.was_heard
             && self.end == Some(Err(RelayFault { fault, counts }))
@@ -162,8 +162,8 @@ struct Trial<'a> {
 }
 
 impl Trial<'_> {
-    /// Whether a source that fails behind n bytes ends the run behind the last message that is
-    /// whole, by `Source`.
+    /// Returns whether a source that fails after n bytes ends the run after the last message that
+    /// is whole, by `Source`.
     fn is_good_source(&self, alloc: Global, given: usize) -> Result<bool, Fault> {
         let limits = Limits { given, ..NO_LIMITS };
         let left = self.relay.left(alloc, self.streams, self.width, limits)?;
@@ -179,8 +179,9 @@ impl Trial<'_> {
         Ok(is_so && whole.taken <= left.taken && left.taken <= given)
     }
 
-    /// Whether an output that fails behind n bytes ends the run at the message whose frame it cuts,
-    /// by `Out`. Then no further one was read, and nothing of it is logged.
+    /// Returns whether an output that fails after n bytes ends the run at the message whose frame
+    /// it cuts, by `Out`. In that case no further message was read, and nothing of this message is
+    /// logged.
     fn is_good_out(&self, alloc: Global, out: usize) -> Result<bool, Fault> {
         let limits = Limits { out, ..NO_LIMITS };
         let left = self.relay.left(alloc, self.streams, self.width, limits)?;
@@ -191,8 +192,9 @@ impl Trial<'_> {
         Ok(is_so && left.taken == next.taken)
     }
 
-    /// Whether a log that fails behind n bytes ends the run at the message whose line it cuts, by
-    /// `Log`. Then no further one was read, and its frame is whole and counted.
+    /// Returns whether a log that fails after n bytes ends the run at the message whose line it
+    /// cuts, by `Log`. In that case no further message was read, and the message's frame is whole
+    /// and counted.
     fn is_good_log(&self, alloc: Global, log: usize) -> Result<bool, Fault> {
         let limits = Limits { log, ..NO_LIMITS };
         let left = self.relay.left(alloc, self.streams, self.width, limits)?;
@@ -207,7 +209,8 @@ impl Trial<'_> {
         Ok(is_so && left.taken == next.taken)
     }
 
-    /// At how many bytes a device failed, each as it should be, with a whole run behind each.
+    /// Returns the number of byte counts at which a device failed, each as it should be, with a
+    /// whole run after each.
     fn count(&self, alloc: Global) -> Result<usize, Fault> {
         let mut count: usize = 0;
         for left in 0..=self.streams.given.len() {
@@ -225,7 +228,7 @@ impl Trial<'_> {
         Ok(count)
     }
 
-    /// One more, where a device failed as it should, and the next run is whole.
+    /// Adds one if a device failed as it should, and the next run is whole.
     fn counted(
         &self,
         alloc: Global,
@@ -240,8 +243,8 @@ impl Trial<'_> {
     }
 }
 
-/// At how many bytes a device of the run of a name failed, each as it should be; `None` where there
-/// is no such run.
+/// Returns the number of byte counts at which a device of the named run failed, each as it should
+/// be; `None` if there is no such run.
 pub fn faults(alloc: Global, name: &str) -> Result<Option<usize>, Fault> {
     let Some(run) = run_of(name) else {
         return Ok(None);

@@ -1,9 +1,9 @@
-//! Runs of the relay, worked by hand.
+//! Runs of the relay, worked out by hand.
 
 use crate::messages::Message;
 
-/// What a run of the relay is given: the word of its forms, the schema, a newer one if there is
-/// one, the calls, and messages.
+/// The input of a run of the relay: the word of its forms, the schema, a newer one if there is one,
+/// the calls, and messages.
 #[derive(Clone, Copy)]
 pub struct Run<'a> {
     pub form: &'a str,
@@ -13,7 +13,7 @@ pub struct Run<'a> {
     pub messages: &'a [Message<'a>],
 }
 
-/// A struct of a number and a text, and the same with a second number.
+/// A struct of a number and a text, and the same struct with a second number.
 const OLDER: &str = r#"[{"id": 1, "name": "P", "data": 1, "pointers": 1, "fields": [
     {"name": "a", "type": "UInt16", "offset": 0}, {"name": "t", "type": "Text", "offset": 0}]}]"#;
 
@@ -36,7 +36,7 @@ const EMPTY: &[u8] = &[0, 0, 0, 0, 1, 0, 0, 0, 0xfc, 0xff, 0xff, 0xff, 0, 0, 0, 
 
 const NULL_PACKED: &[u8] = &[0x10, 1, 0, 0];
 
-/// A capability, which is no value.
+/// A capability, which isn't a value.
 const CAPABILITY: &[u8] = &[0, 0, 0, 0, 1, 0, 0, 0, 3, 0, 0, 0, 0, 0, 0, 0];
 
 /// A struct of the number 7, in one segment and in two.
@@ -53,7 +53,7 @@ const IN_TWO: &[u8] = &[
 
 const IN_TWO_PACKED: &[u8] = &[0x11, 1, 1, 1, 2, 0x11, 2, 1, 0x10, 1, 1, 7];
 
-/// The same with the null text, as it is built.
+/// A struct of the number 7 and a null text, as it is built.
 const SEVEN_AND_NULL: &[u8] = &[
     0, 0, 0, 0, 3, 0, 0, 0, 0, 0, 0, 0, 1, 0, 1, 0, 7, 0, 0, 0, 0, 0, 0, 0, 0, 0, 0, 0, 0, 0, 0, 0,
 ];
@@ -171,7 +171,7 @@ const MORE_PACKED: &[Message<'static>] = &[
     },
 ];
 
-/// A run under the older schema alone.
+/// Makes a run under the older schema only.
 fn older(
     form: &'static str,
     calls: &'static str,
@@ -186,7 +186,7 @@ fn older(
     }
 }
 
-/// A run between both.
+/// Makes a run between both schemas.
 fn between(form: &'static str, messages: &'static [Message<'static>]) -> Run<'static> {
     Run {
         form,
@@ -197,7 +197,7 @@ fn between(form: &'static str, messages: &'static [Message<'static>]) -> Run<'st
     }
 }
 
-/// The run of a name, if there is one.
+/// Returns the named run, if there is one.
 pub fn run_of(name: &str) -> Option<Run<'static>> {
     match name {
         "relay_set" => Some(older("framed", SET_NUMBER, SET)),

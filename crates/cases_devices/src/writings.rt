@@ -16,7 +16,7 @@ const WORDS: &[u8] = &[
     1, 2, 3, 4, 5, 6, 7, 8, 0, 0, 0, 0, 0, 0, 0, 0, 1, 0, 2, 0, 3, 0, 0, 0,
 ];
 
-/// Gives back the segments of a message that ends.
+/// Ends a message, and releases its segments.
 fn end(builder: Builder<HeapAllocator>) {
     drop(builder.into_allocator());
 }
@@ -41,7 +41,8 @@ fn write<W: Write>(
     }
 }
 
-/// Whether a sink that takes n bytes is told to have failed, and holds the beginning that it took.
+/// Returns whether a sink that takes n bytes is reported to have failed, and holds the beginning
+/// that it took.
 fn fails_once(
     alloc: Global,
     way: &str,
@@ -59,7 +60,7 @@ fn fails_once(
     Ok(is_told && is_beginning && alarm.was_heard() && again.as_slice() == whole)
 }
 
-/// At how many bytes a sink failed, each as it should be.
+/// Returns the number of byte counts at which a sink failed, each as it should be.
 fn count(
     alloc: Global,
     way: &str,
@@ -76,7 +77,8 @@ fn count(
     Ok(whole.len())
 }
 
-/// The same, with a message of its own; `None` where there is no such way.
+/// Returns the number of byte counts at which a sink failed for a message of its own; `None` if
+/// there is no such way.
 pub fn faults(alloc: Global, way: &str) -> std::result::Result<Option<usize>, Fault> {
     if !matches!(
         way,
