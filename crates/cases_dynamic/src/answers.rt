@@ -1,15 +1,15 @@
-//! What calls answer, and what lines say that they answer.
+//! The answers of calls, and the answers that lines give.
 use crate::fault::{Fault, Stop};
 use std::alloc::Global;
 
-/// What is answered by a call that is done.
+/// The answer of a call that is done.
 #[derive(Drop)]
 pub enum Answer {
     Done,
     Text(Vec<u8>),
 }
 
-/// The bytes of a text in hex; none where it is `-`.
+/// Returns the bytes of a text in hex; no bytes for `-`.
 pub fn hex_of(alloc: Global, text: &str) -> Result<Vec<u8>, Fault> {
     if text == "-" {
         return Ok(Vec::new(alloc));
@@ -17,17 +17,17 @@ pub fn hex_of(alloc: Global, text: &str) -> Result<Vec<u8>, Fault> {
     Ok(hex::decode(alloc, text.as_bytes())?)
 }
 
-/// A word that is told, as a text.
+/// Returns a word as a text.
 pub fn told(alloc: Global, text: &str) -> Result<Answer, Stop> {
     Ok(Answer::Text(Vec::from_slice(alloc, text.as_bytes())?))
 }
 
-/// A truth, as a text.
+/// Returns a truth value as a text.
 pub fn truth(alloc: Global, value: bool) -> Result<Answer, Stop> {
     told(alloc, if value { "true" } else { "false" })
 }
 
-/// Whether the bytes are those of a text, in which a line feed stands as `|`.
+/// Returns whether the bytes are those of a text, in which `|` stands for a line feed.
 fn is_text_of(bytes: &[u8], wanted: &[u8]) -> bool {
     if bytes.len() != wanted.len() {
         return false;
@@ -45,7 +45,7 @@ fn is_text_of(bytes: &[u8], wanted: &[u8]) -> bool {
     true
 }
 
-/// Whether bytes are those that are wanted: `t` and hex, or `'` and the text itself.
+/// Returns whether bytes are the expected ones: `t` and hex, or `'` and the text itself.
 fn is_wanted_text(alloc: Global, bytes: &[u8], wanted: &str) -> Result<bool, Fault> {
     if let Some(text) = wanted.strip_prefix('t') {
         return Ok(bytes == hex_of(alloc, text)?.as_slice());
@@ -56,7 +56,7 @@ fn is_wanted_text(alloc: Global, bytes: &[u8], wanted: &str) -> Result<bool, Fau
     }
 }
 
-/// Whether a call answered what a line says.
+/// Returns whether a call gave the answer in a line.
 pub fn is_wanted(alloc: Global, answer: Result<Answer, Stop>, line: &str) -> Result<bool, Fault> {
     let wanted = line.strip_prefix("= ").ok_or(Fault::Shape)?;
     match answer {

@@ -13,18 +13,18 @@ use capnp_values_queries::enums::EnumSchema;
 use capnp_wire_objects::arena::ReaderArenaImpl;
 use std::alloc::Global;
 
-/// What is asked: a message under a schema, or a schema.
+/// The subject of a script: a message under a schema, or a schema.
 #[derive(Clone, Copy)]
 pub struct Asked<'a> {
     pub set: &'a SchemaSet,
-    /// How deep a message may be read; for what is shown also how many words, behind a comma.
+    /// The limit of levels of a message; for shown text also the limit of words, after a comma.
     pub limits: &'a str,
     pub id: &'a str,
     /// The message in hex: its segments with commas between them, or its frame.
     pub content: &'a str,
 }
 
-/// Whether all calls of a script answer what their lines say.
+/// Returns whether all calls of a script give the answers in their lines.
 pub fn is_right(
     alloc: Global,
     sort: &str,
@@ -49,14 +49,14 @@ pub fn is_right(
     Ok(all)
 }
 
-/// Returns a query of an enum.
+/// Answers a query of an enum.
 fn of_enum(alloc: Global, asked: Asked<'_>, call: Call<'_>) -> Result<Answer, Stop> {
     let id = number_in::<u64>(asked.id)?;
     let raw = asked.set.enum_by_id(id).ok_or(Fault::Shape)?;
     queries::of_enum(alloc, EnumSchema::new(asked.set, raw), call)
 }
 
-/// Returns a call at the root of a message.
+/// Answers a call at the root of a message.
 fn read(alloc: Global, asked: Asked<'_>, call: Call<'_>) -> Result<Answer, Stop> {
     let mut held = Vec::new(alloc);
     for text in asked.content.split(',') {
@@ -76,7 +76,7 @@ fn read(alloc: Global, asked: Asked<'_>, call: Call<'_>) -> Result<Answer, Stop>
     readers::answer(alloc, root, call)
 }
 
-/// The limits of a message that is shown: `LEVELS,WORDS`, or `LEVELS` alone.
+/// Parses the limits of a message that is shown: `LEVELS,WORDS`, or only `LEVELS`.
 fn options_of(limits: &str) -> Result<ReaderOptions, Fault> {
     let (levels, words) = match limits.split_once(',') {
         Some((levels, words)) => (levels, Some(number_in::<usize>(words)?)),
@@ -88,7 +88,7 @@ fn options_of(limits: &str) -> Result<ReaderOptions, Fault> {
     })
 }
 
-/// What is shown of a framed message: its text, or why there is none.
+/// Shows a framed message: returns its text, or why there is none.
 fn shown(alloc: Global, asked: Asked<'_>) -> Result<Answer, Stop> {
     let frame = hex_of(alloc, asked.content)?;
     let schema = schema_of(asked.set, asked.id)?;

@@ -8,19 +8,19 @@ use crate::values::{number_in, schema_of};
 use capnp_records::set::SchemaSet;
 use std::alloc::Global;
 
-/// How many cases are as they should be, and the last lines of those that differ.
+/// The number of cases that are as they should be, and the last lines of those that differ.
 #[derive(Drop)]
 pub struct Counts {
     pub same: u64,
     pub differing: Vec<u64>,
 }
 
-/// Whether a line is a script's last.
+/// Returns whether a line is a script's last.
 fn is_end(line: &str) -> bool {
     line == "." || line.starts_with(". ") || line.starts_with(": ")
 }
 
-/// Whether all is as a script says: its head, calls with their answers, and its end.
+/// Returns whether everything is as a script says: its head, calls with their answers, and its end.
 fn is_script_right(alloc: Global, set: &SchemaSet, lines: &[&str]) -> Result<bool, Fault> {
     let [head, calls @ .., end] = lines else {
         return Err(Fault::Shape);
@@ -52,14 +52,14 @@ fn is_script_right(alloc: Global, set: &SchemaSet, lines: &[&str]) -> Result<boo
     }
 }
 
-/// What was read of a file: its last schema file, and the lines of a script so far.
+/// The state while a file is read: its last schema file, and the lines of a script so far.
 #[derive(Drop)]
 struct Reading<'a> {
     set: SchemaSet,
     lines: Vec<&'a str>,
 }
 
-/// Reads a line, and tells whether the case that it ends is right.
+/// Reads a line. If the line ends a case, returns whether the case is right.
 fn take<'a>(
     alloc: Global,
     reading: &mut Reading<'a>,

@@ -1,11 +1,11 @@
-//! Why a case can't be tried, and why a call of a case has no other answer.
+//! Reasons why a case can't be tried, and why a call of a case has no other answer.
 use capnp_relay_files::fault::FileFault;
 use capnp_units::errors::Error;
 use capnp_units::kinds::ErrorKind;
 use hex::FromHexError;
 use std::alloc::{AllocError, AllocFailed};
 
-/// Why a line is no case.
+/// The reason why a line isn't a case.
 #[derive(Clone, Copy, Debug, thiserror::Error)]
 pub enum Fault {
     #[error("out of memory")]
@@ -51,7 +51,7 @@ impl From<Error> for Fault {
     }
 }
 
-/// Why a call isn't done.
+/// The reason why a call isn't done.
 #[derive(Clone, Copy, Debug)]
 pub enum Stop {
     Refused(ErrorKind),

@@ -1,7 +1,7 @@
 //! Compares calls of dynamic values, queries of schemas and printed texts with what they should be.
 //!
-//! The files that are given are read line by line; the README says what the lines mean. The answers
-//! are those of independent software, or worked by hand.
+//! The files that are given are read line by line; the README explains the lines. The answers come
+//! from independent software, or were worked out by hand.
 #![tactic(auto)]
 
 mod answers;
@@ -23,7 +23,7 @@ use cases::{Counts, count};
 use std::process::ExitCode;
 use std::{env, fs, io};
 
-/// Prints the counts of a file, and tells whether no case differs and at least one was there.
+/// Prints the counts of a file. Returns whether no case differs, and there is at least one.
 fn report(rt: &HostRuntime, name: &str, counts: &Counts) -> io::Result<bool> {
     let Counts { same, differing } = counts;
     println!(rt;

@@ -24,7 +24,7 @@ use capnp_wire_objects::arena::{ReaderArena, ReaderArenaImpl};
 use capnp_wire_objects::place::{ROOT, has_words};
 use std::alloc::Global;
 
-/// Whether a struct has at least its schema's sizes.
+/// Returns whether a struct has at least its schema's sizes.
 fn is_wide<A: BuilderArena>(
     memory: &mut Memory<A>,
     place: StructPlace,
@@ -37,7 +37,7 @@ fn is_wide<A: BuilderArena>(
     has_sizes(&object, schema)
 }
 
-/// Where the root lies, as a struct that is got.
+/// Gets the root as a struct, and returns its place.
 pub fn root_place<A: BuilderArena>(
     memory: &mut Memory<A>,
     schema: StructSchema<'_>,
@@ -70,7 +70,7 @@ pub fn put_words<A: BuilderArena>(memory: &mut Memory<A>, message: &[u8]) -> Res
     Ok(())
 }
 
-/// Makes the root pointer, and puts a copy of a source's root behind it.
+/// Makes the root pointer, and sets it to a copy of a source's root.
 pub fn put_copy<A: BuilderArena, B: ReaderArena>(memory: &mut Memory<A>, source: &B) -> Result<()> {
     memory.arena.allocate_anywhere(1)?;
     if !has_words(&memory.arena, ROOT, 1) {
@@ -80,7 +80,7 @@ pub fn put_copy<A: BuilderArena, B: ReaderArena>(memory: &mut Memory<A>, source:
     copy_from(&mut memory.arena, ROOT, &mut unlimited, source, ROOT, 64)
 }
 
-/// The used bytes of the first segment.
+/// Returns the used bytes of the first segment.
 pub fn first_of<L: Allocator>(alloc: Global, arena: &BuilderArenaImpl<L>) -> Result<Vec<u8>> {
     let all = arena.get_segments_for_output(alloc)?;
     if all.len() != 1 {
@@ -89,13 +89,13 @@ pub fn first_of<L: Allocator>(alloc: Global, arena: &BuilderArenaImpl<L>) -> Res
     Ok(Vec::from_slice(alloc, all[0])?)
 }
 
-/// Gives back the segments of an arena that ends.
+/// Ends an arena, and releases its segments.
 pub fn end_heap(arena: BuilderArenaImpl<HeapAllocator>) {
     drop(arena.into_allocator());
 }
 
-/// The words of a copy of a source's value in one segment, each object where the last one ends: the
-/// same for each two sources of the same tree.
+/// Returns the words of a copy of a source's value in one segment, with each object at the end of
+/// the previous one. Any two sources of the same tree give the same words.
 fn words_of_copy<B: ReaderArena>(alloc: Global, source: &B) -> Result<Vec<u8>> {
     let allocator = HeapAllocator::new(alloc).first_segment_words(0x4000);
     let mut memory = Memory {
@@ -109,7 +109,7 @@ fn words_of_copy<B: ReaderArena>(alloc: Global, source: &B) -> Result<Vec<u8>> {
     bytes
 }
 
-/// Whether a source means the tree of a frame of one segment.
+/// Returns whether a source means the tree of a frame of one segment.
 pub fn is_tree_of<B: ReaderArena>(
     alloc: Global,
     source: &B,

@@ -11,15 +11,15 @@ use capnp_values_queries::slots::FieldPlace;
 use capnp_values_queries::structs::StructSchema;
 use std::alloc::Global;
 
-/// Appends a field's name, in front of a blank.
+/// Appends a field's name and a blank.
 fn push_name(names: &mut String, field: Field<'_>) -> Result<(), Stop> {
     names.push_str(field.get_proto().name.as_str())?;
     names.push_str(" ")?;
     Ok(())
 }
 
-/// The names of all fields, of the union's members, or of the other fields, each in front of a
-/// blank.
+/// Returns the names of all fields, of the union's members, or of the other fields, with a blank
+/// after each.
 fn names(alloc: Global, schema: StructSchema<'_>, verb: &str) -> Result<Answer, Stop> {
     let mut names = String::new(alloc);
     match verb {
@@ -42,7 +42,7 @@ fn names(alloc: Global, schema: StructSchema<'_>, verb: &str) -> Result<Answer, 
     told(alloc, names.as_str())
 }
 
-/// How a type that is no list is called.
+/// Returns the name of a type that isn't a list.
 fn base_name(ty: Type) -> &'static str {
     match ty.which() {
         TypeVariant::Void => "Void",
@@ -65,7 +65,7 @@ fn base_name(ty: Type) -> &'static str {
     }
 }
 
-/// Where a field lies.
+/// Returns the place of a field.
 fn place_of(alloc: Global, field: Field<'_>) -> Result<Answer, Stop> {
     let text = match field.place() {
         FieldPlace::Void { .. } => String::from_str(alloc, "void")?,
@@ -83,7 +83,7 @@ fn place_of(alloc: Global, field: Field<'_>) -> Result<Answer, Stop> {
     told(alloc, text.as_str())
 }
 
-/// Returns a query of a field.
+/// Answers a query of a field.
 fn of_field(alloc: Global, field: Field<'_>, verb: &str) -> Result<Answer, Stop> {
     let ty = field.get_type();
     let text = match verb {
@@ -99,7 +99,7 @@ fn of_field(alloc: Global, field: Field<'_>, verb: &str) -> Result<Answer, Stop>
     told(alloc, text.as_str())
 }
 
-/// Returns a query of a struct or a group.
+/// Answers a query of a struct or a group.
 pub fn of_struct(alloc: Global, schema: StructSchema<'_>, call: Call<'_>) -> Result<Answer, Stop> {
     if let [word] = call.path {
         let Step::Name(name) = step_of(word)? else {
@@ -127,7 +127,7 @@ pub fn of_struct(alloc: Global, schema: StructSchema<'_>, call: Call<'_>) -> Res
     }
 }
 
-/// Returns a query of an enum.
+/// Answers a query of an enum.
 pub fn of_enum(alloc: Global, schema: EnumSchema<'_>, call: Call<'_>) -> Result<Answer, Stop> {
     match call.verb {
         "name" => told(alloc, schema.get_proto().display_name.as_str()),

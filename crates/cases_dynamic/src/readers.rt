@@ -14,7 +14,7 @@ use capnp_wire_objects::arena::ReaderArena;
 use std::alloc::Global;
 use std::fmt;
 
-/// What a step leads to.
+/// Returns the value that a step leads to.
 fn step_on<'a, A: ReaderArena>(value: Reader<'a, A>, word: &str) -> Result<Reader<'a, A>, Stop> {
     match (value, step_of(word)?) {
         (Reader::Struct(object), Step::Name(name)) => {
@@ -31,7 +31,7 @@ fn step_on<'a, A: ReaderArena>(value: Reader<'a, A>, word: &str) -> Result<Reade
     }
 }
 
-/// What a path leads to.
+/// Returns the value that a path leads to.
 pub fn follow<'a, A: ReaderArena>(
     value: Reader<'a, A>,
     path: &[&str],
@@ -43,7 +43,7 @@ pub fn follow<'a, A: ReaderArena>(
     Ok(here)
 }
 
-/// The text of a value.
+/// Returns the text of a value.
 fn printed<A: ReaderArena>(
     alloc: Global,
     value: Reader<'_, A>,
@@ -54,7 +54,7 @@ fn printed<A: ReaderArena>(
     Ok(Answer::Text(text))
 }
 
-/// A value that is printed, in segments that live as long as it.
+/// A value that is printed, in segments that live as long as the value.
 #[derive(Clone, Copy)]
 struct Shown<'a> {
     printed: Printed<'a, Segments<'a>>,
@@ -72,7 +72,7 @@ impl fmt::Debug for Shown<'_> {
     }
 }
 
-/// The text of a value by `{}`, `{:?}`, `{:#}` and `{:#?}`, each in front of a blank.
+/// Returns the text of a value by `{}`, `{:?}`, `{:#}` and `{:#?}`, separated by blanks.
 pub fn formatted<'a>(alloc: Global, value: Reader<'a, Segments<'a>>) -> Result<Answer, Stop> {
     let shown = Shown {
         printed: Printed::new(alloc, value),
@@ -81,7 +81,7 @@ pub fn formatted<'a>(alloc: Global, value: Reader<'a, Segments<'a>>) -> Result<A
     told(alloc, text.as_str())
 }
 
-/// The name of a field, or that there is none.
+/// Returns the name of a field, or that there is none.
 pub fn name_of(alloc: Global, field: Option<Field<'_>>) -> Result<Answer, Stop> {
     match field {
         Some(field) => told(alloc, field.get_proto().name.as_str()),
@@ -89,13 +89,13 @@ pub fn name_of(alloc: Global, field: Option<Field<'_>>) -> Result<Answer, Stop> 
     }
 }
 
-/// Words and capabilities.
+/// Returns words and capabilities.
 fn size_of(alloc: Global, size: MessageSize) -> Result<Answer, Stop> {
     let text = format!(in alloc; "{} {}", size.word_count, size.cap_count)?;
     told(alloc, text.as_str())
 }
 
-/// Returns a call that asks for a struct as a whole.
+/// Answers a call about a struct as a whole.
 fn of_struct<A: ReaderArena>(
     alloc: Global,
     object: dynamic_struct::Reader<'_, A>,
@@ -108,7 +108,7 @@ fn of_struct<A: ReaderArena>(
     }
 }
 
-/// Returns a call that asks for a list as a whole.
+/// Answers a call about a list as a whole.
 fn of_list<A: ReaderArena>(
     alloc: Global,
     list: dynamic_list::Reader<'_, A>,
@@ -121,7 +121,7 @@ fn of_list<A: ReaderArena>(
     }
 }
 
-/// Returns a call that asks for what an untyped pointer names.
+/// Answers a call about the value of an untyped pointer.
 fn of_pointer<A: ReaderArena>(
     alloc: Global,
     pointer: any_pointer::Reader<'_, A>,
@@ -144,7 +144,7 @@ fn of_pointer<A: ReaderArena>(
     }
 }
 
-/// Returns a call at the field of a name.
+/// Answers a call at the named field.
 fn at_field<A: ReaderArena>(
     alloc: Global,
     object: dynamic_struct::Reader<'_, A>,
@@ -166,7 +166,7 @@ fn at_field<A: ReaderArena>(
     }
 }
 
-/// Returns a call at the last step of its path.
+/// Answers a call at the last step of its path.
 fn at_end<A: ReaderArena>(
     alloc: Global,
     root: Reader<'_, A>,
@@ -181,7 +181,7 @@ fn at_end<A: ReaderArena>(
     }
 }
 
-/// Returns a call at a value that is read.
+/// Answers a call at a value that is read.
 pub fn answer<A: ReaderArena>(
     alloc: Global,
     root: Reader<'_, A>,

@@ -16,7 +16,7 @@ pub struct Room {
 }
 
 impl Room {
-    /// An allocator with room for n words.
+    /// Makes an allocator with room for n words.
     pub fn new(alloc: Global, words: u32) -> Room {
         Room {
             alloc,

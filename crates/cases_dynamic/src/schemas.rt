@@ -1,4 +1,4 @@
-//! Schema files, and which rule they break first.
+//! Schema files, and the rule that each breaks first.
 use crate::fault::Fault;
 use capnp_records::fault::SchemaFault;
 use capnp_records::set::SchemaSet;
@@ -6,13 +6,13 @@ use capnp_relay_files::schema_file::schema_file;
 use serde_json::Value as Json;
 use std::alloc::Global;
 
-/// The set of a schema file.
+/// Returns the set of a schema file.
 pub fn set_of(alloc: Global, text: &str) -> Result<SchemaSet, Fault> {
     let nodes = schema_file(alloc, text.as_bytes())?;
     SchemaSet::new(nodes).ok().ok_or(Fault::Shape)
 }
 
-/// What is answered to the nodes.
+/// Returns the answer to the nodes.
 fn answer_to(alloc: Global, schema: &Json) -> Result<String, Fault> {
     let text = schema.to_string(alloc)?;
     match SchemaSet::new(schema_file(alloc, text.as_bytes())?) {
@@ -24,7 +24,8 @@ fn answer_to(alloc: Global, schema: &Json) -> Result<String, Fault> {
     }
 }
 
-/// Whether the schema file of a line is answered as it should be: `{"schema": .., "answer": ..}`.
+/// Returns whether the schema file of a line is answered as it should be: `{"schema": .., "answer":
+/// ..}`.
 pub fn is_right(alloc: Global, line: &str) -> Result<bool, Fault> {
     let Ok(case) = Json::from_str(alloc, line) else {
         return Err(Fault::Shape);

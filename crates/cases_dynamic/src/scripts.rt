@@ -15,7 +15,7 @@ use capnp_values_queries::structs::StructSchema;
 use capnp_wire_objects::arena::ReaderArenaImpl;
 use std::alloc::Global;
 
-/// The words of a line.
+/// Returns the words of a line.
 pub fn words_of<'a>(alloc: Global, line: &'a str) -> Result<Vec<&'a str>, Fault> {
     let mut words = Vec::new(alloc);
     for word in line.split_whitespace() {
@@ -24,17 +24,17 @@ pub fn words_of<'a>(alloc: Global, line: &'a str) -> Result<Vec<&'a str>, Fault>
     Ok(words)
 }
 
-/// Calls with their answers, and how the message ends.
+/// Calls with their answers, and the state of the message at the end.
 #[derive(Clone, Copy)]
 pub struct Script<'a> {
     pub schema: StructSchema<'a>,
-    /// The words of the message, from its root pointer on; none where the root is null.
+    /// The words of the message, from its root pointer on; no words if the root is null.
     pub content: &'a [u8],
     pub calls: &'a [&'a str],
     pub end: &'a str,
 }
 
-/// Whether a call at the root answers what a line says.
+/// Returns whether a call at the root gives the answer in a line.
 fn is_answered<A: BuilderArena>(
     alloc: Global,
     memory: &mut Memory<A>,
@@ -47,7 +47,7 @@ fn is_answered<A: BuilderArena>(
     is_wanted(alloc, answer, wanted)
 }
 
-/// Whether all calls answer what their lines say.
+/// Returns whether all calls give the answers in their lines.
 fn are_answered<A: BuilderArena>(
     alloc: Global,
     memory: &mut Memory<A>,
@@ -64,8 +64,8 @@ fn are_answered<A: BuilderArena>(
     Ok(all)
 }
 
-/// Whether a message that is built ends as the last line says: `. FRAME` with that tree, or `:
-/// WORDS` with those words.
+/// Returns whether a message that is built ends as the last line says: `. FRAME` with that tree, or
+/// `: WORDS` with those words.
 fn ends_so<L: Allocator>(
     alloc: Global,
     arena: &BuilderArenaImpl<L>,
@@ -105,7 +105,7 @@ fn placed<A: BuilderArena>(
     are_answered(alloc, memory, script)
 }
 
-/// Whether all is as a script says in a message over segments of at least n words.
+/// Returns whether everything is as a script says in a message over segments of at least n words.
 pub fn is_right_on_heap(alloc: Global, words: u32, script: Script<'_>) -> Result<bool, Fault> {
     let allocator = HeapAllocator::new(alloc)
         .first_segment_words(words)
@@ -120,12 +120,13 @@ pub fn is_right_on_heap(alloc: Global, words: u32, script: Script<'_>) -> Result
     Ok(answered? && ends?)
 }
 
-/// Gives back the room of an arena that ends.
+/// Ends an arena, and releases its room.
 fn end_room(arena: BuilderArenaImpl<Room>) {
     drop(arena.into_allocator());
 }
 
-/// Whether all is as a script says in a message whose one segment has room for n words.
+/// Returns whether everything is as a script says in a message whose one segment has room for n
+/// words.
 pub fn is_right_in_room(alloc: Global, words: u32, script: Script<'_>) -> Result<bool, Fault> {
     let mut memory = Memory {
         arena: BuilderArenaImpl::new(alloc, Room::new(alloc, words)),

@@ -1,4 +1,4 @@
-//! Paths, gone step by step through dynamic builders.
+//! Paths through dynamic builders, step by step.
 ghost use Rattle.std.specs.Prelude.{◌≡◌, ◌<◌, IfOk};
 ghost use Rattle.capnp_units.specs.Segments.{words_in};
 ghost use Rattle.capnp_values_queries.specs.Structs.{shape_of_struct};
@@ -25,7 +25,7 @@ pub enum Step<'a> {
     Index(u32),
 }
 
-/// The step that a word says.
+/// Parses the step of a word.
 pub fn step_of(word: &str) -> Result<Step<'_>, Fault> {
     if let Some(name) = word.strip_prefix('.') {
         return Ok(Step::Name(name));
@@ -34,7 +34,7 @@ pub fn step_of(word: &str) -> Result<Step<'_>, Fault> {
     Ok(Step::Index(digits.parse::<u32>().ok().ok_or(Fault::Shape)?))
 }
 
-/// A struct that is there, to write under its schema.
+/// Returns a struct that is there, to write under its schema.
 pub fn struct_at<'a, A: BuilderArena>(
     memory: &'a mut Memory<A>,
     part: Part<'a>,
@@ -50,7 +50,7 @@ pub fn struct_at<'a, A: BuilderArena>(
     dynamic_struct::Builder::new(StructBuilder { memory, place }, schema)
 }
 
-/// A list that is there, to write.
+/// Returns a list that is there, to write.
 pub fn list_at<'a, A: BuilderArena>(
     memory: &'a mut Memory<A>,
     list: ListPart<'a>,
@@ -69,7 +69,7 @@ pub fn list_at<'a, A: BuilderArena>(
     dynamic_list::Builder::new(ListBuilder { memory, place }, set, element_type)
 }
 
-/// A field of a struct, where it is got.
+/// Gets a field of a struct.
 fn field_of<'a, A: BuilderArena>(
     memory: &mut Memory<A>,
     part: Part<'a>,
@@ -88,7 +88,7 @@ fn field_of<'a, A: BuilderArena>(
     }
 }
 
-/// An element of a list, where it is got.
+/// Gets an element of a list.
 fn element_of<'a, A: BuilderArena>(
     memory: &mut Memory<A>,
     list: ListPart<'a>,
@@ -106,7 +106,7 @@ fn element_of<'a, A: BuilderArena>(
     }
 }
 
-/// What a step leads to.
+/// Returns the value that a step leads to.
 fn step_on<'a, A: BuilderArena>(
     memory: &mut Memory<A>,
     placed: Placed<'a>,
@@ -129,7 +129,7 @@ fn step_on<'a, A: BuilderArena>(
     }
 }
 
-/// What a path leads to.
+/// Returns the value that a path leads to.
 pub fn follow<'a, A: BuilderArena>(
     memory: &mut Memory<A>,
     placed: Placed<'a>,

@@ -1,4 +1,4 @@
-//! Values that lines give, as what calls take.
+//! Values that lines give, in the form that calls take.
 ghost use Rattle.std.specs.Prelude.{◌≡◌, true};
 ghost use Rattle.capnp_records.specs.Sets.{nodes_of};
 ghost use Rattle.capnp_values_queries.specs.Types.{ty_of, is_type_of};
@@ -23,14 +23,14 @@ use std::str::FromStr;
 /// Segments to read.
 pub type Segments<'a> = ReaderArenaImpl<&'a [&'a [u8]]>;
 
-/// The struct or the group of an id.
+/// Returns the struct or the group of an id.
 pub fn schema_of<'a>(set: &'a SchemaSet, id: &str) -> Result<StructSchema<'a>, Fault> {
     let id = number_in::<u64>(id)?;
     let raw = set.struct_or_group_by_id(id).ok_or(Fault::Shape)?;
     Ok(StructSchema::new(set, raw))
 }
 
-/// A number that a word says.
+/// Parses a number from a word.
 pub fn number_in<T: FromStr>(word: &str) -> Result<T, Fault>
 where
     T::Err: Drop,
@@ -38,7 +38,8 @@ where
     word.parse::<T>().ok().ok_or(Fault::Shape)
 }
 
-/// The bytes that a value holds: those behind its first colon, of which a second colon is the end.
+/// Returns the bytes that a value holds: those after its first colon, up to a second colon if there
+/// is one.
 pub fn bytes_in(alloc: Global, value: &str) -> Result<Vec<u8>, Fault> {
     let Some((sort, rest)) = value.split_once(':') else {
         return Ok(Vec::new(alloc));
@@ -55,12 +56,12 @@ pub fn bytes_in(alloc: Global, value: &str) -> Result<Vec<u8>, Fault> {
     }
 }
 
-/// The root pointer of segments.
+/// Returns the root pointer of segments.
 pub fn root_pointer<'a>(arena: &'a Segments<'a>) -> Result<PointerReader<'a, Segments<'a>>, Fault> {
     Ok(PointerReader::get_root_from_arena(arena)?)
 }
 
-/// The root of segments, as a struct.
+/// Returns the root of segments, as a struct.
 pub fn root_struct<'a>(
     arena: &'a Segments<'a>,
     schema: StructSchema<'a>,
@@ -70,7 +71,7 @@ pub fn root_struct<'a>(
     Ok(dynamic_struct::Reader::new(reader, schema))
 }
 
-/// The root of segments, as a list.
+/// Returns the root of segments, as a list.
 fn root_list<'a>(
     arena: &'a Segments<'a>,
     set: &'a SchemaSet,
@@ -84,7 +85,7 @@ fn root_list<'a>(
     Ok(dynamic_list::Reader::new(reader, set, element_type))
 }
 
-/// The first enum of a set.
+/// Returns the first enum of a set.
 fn first_enum(set: &SchemaSet) -> Result<EnumSchema<'_>, Fault> {
     for node in set.nodes() {
         if let Some(raw) = set.enum_by_id(node.id) {
@@ -94,7 +95,7 @@ fn first_enum(set: &SchemaSet) -> Result<EnumSchema<'_>, Fault> {
     Err(Fault::Shape)
 }
 
-/// The first struct or group of a set.
+/// Returns the first struct or group of a set.
 fn first_struct(set: &SchemaSet) -> Result<StructSchema<'_>, Fault> {
     for node in set.nodes() {
         if let Some(raw) = set.struct_or_group_by_id(node.id) {
@@ -104,7 +105,7 @@ fn first_struct(set: &SchemaSet) -> Result<StructSchema<'_>, Fault> {
     Err(Fault::Shape)
 }
 
-/// A value of an enum: of the type, where that is an enum's, else of the first.
+/// Returns a value of an enum: of the type if that is an enum's, otherwise of the first.
 fn enum_value<'a>(set: &'a SchemaSet, ty: Type, word: &str) -> Result<Enum<'a>, Fault>
     requires { is_type_of (nodes_of set.now) ty ≡ true }
 {
@@ -116,7 +117,7 @@ fn enum_value<'a>(set: &'a SchemaSet, ty: Type, word: &str) -> Result<Enum<'a>, 
     Ok(Enum::new(value, schema))
 }
 
-/// A number as the integers of a type, if it is one of them.
+/// Returns a number as one of the integers of a type, if it is one of them.
 fn integer<'a>(ty: Type, word: &str) -> Option<Reader<'a, Segments<'a>>> {
     Some(match ty.which() {
         TypeVariant::Int8 => Reader::Int8(word.parse::<i8>().ok()?),
@@ -130,7 +131,7 @@ fn integer<'a>(ty: Type, word: &str) -> Option<Reader<'a, Segments<'a>>> {
     })
 }
 
-/// A number: of the type, where it is one of its integers, else of 64 bits.
+/// Returns a number: of the type if the number is one of its integers, otherwise of 64 bits.
 fn number<'a>(ty: Type, word: &str) -> Result<Reader<'a, Segments<'a>>, Fault> {
     if let Some(value) = integer(ty, word) {
         return Ok(value);
@@ -141,7 +142,7 @@ fn number<'a>(ty: Type, word: &str) -> Result<Reader<'a, Segments<'a>>, Fault> {
     }
 }
 
-/// A number of a type that is told.
+/// Returns a number of a type that the word names.
 fn sorted<'a>(sort: &str, word: &str) -> Result<Reader<'a, Segments<'a>>, Fault> {
     Ok(match sort {
         "i8" => Reader::Int8(number_in(word)?),
@@ -158,8 +159,8 @@ fn sorted<'a>(sort: &str, word: &str) -> Result<Reader<'a, Segments<'a>>, Fault>
     })
 }
 
-/// The root of segments, as a list or a struct of the type. Under a type of another sort it is read
-/// as a struct of any schema, or as an untyped pointer where it is no struct.
+/// Returns the root of segments, as a list or a struct of the type. Under a type of another sort
+/// the root is read as a struct of any schema, or as an untyped pointer if it isn't a struct.
 fn message<'a>(
     set: &'a SchemaSet,
     ty: Type,
@@ -179,7 +180,7 @@ fn message<'a>(
     }
 }
 
-/// A field of the root of segments, by the id of its schema and its name.
+/// Returns a field of the root of segments, by the id of its schema and its name.
 fn field_value<'a>(
     set: &'a SchemaSet,
     arena: &'a Segments<'a>,
@@ -190,12 +191,12 @@ fn field_value<'a>(
     Ok(object.get_named(name)?)
 }
 
-/// The bytes of the first of segments.
+/// Returns the bytes of the first segment.
 fn first_segment<'a>(arena: &'a Segments<'a>) -> Result<&'a [u8], Fault> {
     arena.get_segment(0).ok_or(Fault::Shape)
 }
 
-/// The value that is set where a type stands. The one segment of the arena has the bytes of
+/// Returns the value to set at the place of a type. The one segment of the arena has the bytes of
 /// `bytes_in`.
 pub fn value_of<'a>(
     set: &'a SchemaSet,

@@ -19,8 +19,8 @@ use capnp_values_print::stringify::print;
 use capnp_wire_objects::arena::{ReaderArena, ReaderArenaImpl};
 use std::alloc::Global;
 
-/// A call that a line says: `VERB SIZE VALUE STEP..`, or `VERB STEP..` where it takes neither size
-/// nor value.
+/// A call in a line: `VERB SIZE VALUE STEP..`, or `VERB STEP..` if the verb takes neither size nor
+/// value.
 #[derive(Clone, Copy)]
 pub struct Call<'a> {
     pub verb: &'a str,
@@ -33,7 +33,7 @@ fn is_step(word: &str) -> bool {
     word.starts_with('.') || word.starts_with('#')
 }
 
-/// The call of a line's words.
+/// Parses the call of a line's words.
 pub fn call_of<'a>(words: &'a [&'a str]) -> Result<Call<'a>, Fault> {
     let [verb, others @ ..] = words else {
         return Err(Fault::Shape);
@@ -52,7 +52,7 @@ pub fn call_of<'a>(words: &'a [&'a str]) -> Result<Call<'a>, Fault> {
     })
 }
 
-/// The text of a field that is got by its name.
+/// Gets a field by its name, and returns its text.
 fn reach_field<A: BuilderArena>(
     alloc: Global,
     memory: &mut Memory<A>,
@@ -70,7 +70,7 @@ fn reach_field<A: BuilderArena>(
     Ok(Answer::Text(text))
 }
 
-/// The text of an element that is got.
+/// Gets an element, and returns its text.
 fn reach_element<A: BuilderArena>(
     alloc: Global,
     memory: &mut Memory<A>,
@@ -159,7 +159,7 @@ fn edit_field<A: BuilderArena>(
     Ok(Answer::Done)
 }
 
-/// Whether a field of a struct is there.
+/// Returns whether a field of a struct is there.
 fn has_field<A: BuilderArena>(
     alloc: Global,
     memory: &mut Memory<A>,
@@ -300,7 +300,7 @@ fn at_end<A: BuilderArena>(
     }
 }
 
-/// Returns a call at a struct.
+/// Answers a call at a struct.
 pub fn answer<A: BuilderArena>(
     alloc: Global,
     memory: &mut Memory<A>,

@@ -1,4 +1,4 @@
-//! Calls of values as a whole, where they were got.
+//! Calls of values as a whole.
 ghost use Rattle.std.specs.Prelude.{◌≡◌, ◌<◌, ◌^◌, true};
 ghost use Rattle.std.specs.Option.{is_some};
 ghost use Rattle.capnp_units.specs.Segments.{words_in};
@@ -25,7 +25,7 @@ use capnp_schema_values::placed::Placed;
 use capnp_text::{data, text};
 use std::alloc::Global;
 
-/// The text that a value is.
+/// Returns the text that a value is.
 fn text_of<'a, A: BuilderArena>(value: Builder<'a, A>) -> TextBuilder<'a, A>
     requires is { is_some (built_text value) ≡ true }
     requires ready { IsReadyValue A.segments value }
@@ -37,7 +37,7 @@ fn text_of<'a, A: BuilderArena>(value: Builder<'a, A>) -> TextBuilder<'a, A>
     inner
 }
 
-/// The data that a value is.
+/// Returns the data that a value is.
 fn data_of<'a, A: BuilderArena>(value: Builder<'a, A>) -> DataBuilder<'a, A>
     requires is { is_some (built_data value) ≡ true }
     requires ready { IsReadyValue A.segments value }
@@ -49,7 +49,7 @@ fn data_of<'a, A: BuilderArena>(value: Builder<'a, A>) -> DataBuilder<'a, A>
     inner
 }
 
-/// The untyped pointer that a value is.
+/// Returns the untyped pointer that a value is.
 fn untyped_of<'a, A: BuilderArena>(value: Builder<'a, A>) -> any_pointer::Builder<'a, A>
     requires is { is_some (built_untyped value) ≡ true }
     requires ready { IsReadyValue A.segments value }
@@ -61,29 +61,29 @@ fn untyped_of<'a, A: BuilderArena>(value: Builder<'a, A>) -> any_pointer::Builde
     inner
 }
 
-/// Whether a value is a text.
+/// Returns whether a value is a text.
 fn is_text<A: BuilderArena>(value: &Builder<'_, A>) -> bool
     ensures { result ≡ is_some (built_text value.now) }
 {
     matches!(value, Builder::Text(_))
 }
 
-/// Whether a value is data.
+/// Returns whether a value is data.
 fn is_data<A: BuilderArena>(value: &Builder<'_, A>) -> bool
     ensures { result ≡ is_some (built_data value.now) }
 {
     matches!(value, Builder::Data(_))
 }
 
-/// Whether a value is an untyped pointer.
+/// Returns whether a value is an untyped pointer.
 fn is_untyped<A: BuilderArena>(value: &Builder<'_, A>) -> bool
     ensures { result ≡ is_some (built_untyped value.now) }
 {
     matches!(value, Builder::AnyPointer(_))
 }
 
-/// Where a value lies: a struct's position and sizes, an untyped pointer's position, how many bytes
-/// or elements others have.
+/// Returns the place of a value: a struct's position and sizes, an untyped pointer's position, the
+/// number of bytes or elements of others.
 fn place_of(alloc: Global, placed: Placed<'_>) -> Result<Answer, Stop> {
     let text = match placed {
         Placed::Struct(part) => {
@@ -120,7 +120,7 @@ fn write_text<A: BuilderArena>(
     Ok(Answer::Done)
 }
 
-/// The same of data.
+/// Writes bytes over the first bytes of data that has room for them.
 fn write_data<A: BuilderArena>(
     memory: &mut Memory<A>,
     placed: Placed<'_>,
@@ -140,7 +140,7 @@ fn write_data<A: BuilderArena>(
     Ok(Answer::Done)
 }
 
-/// The active member of a union.
+/// Returns the active member of a union.
 fn which<A: BuilderArena>(
     alloc: Global,
     memory: &mut Memory<A>,
@@ -153,7 +153,7 @@ fn which<A: BuilderArena>(
     name_of(alloc, object.which()?)
 }
 
-/// How many bytes a text or data behind an untyped pointer has.
+/// Returns the number of bytes of a text or data of an untyped pointer.
 fn length<A: BuilderArena>(
     alloc: Global,
     memory: &mut Memory<A>,
@@ -175,7 +175,7 @@ fn length<A: BuilderArena>(
     told(alloc, text.as_str())
 }
 
-/// Makes a new text or data, or null, behind an untyped pointer.
+/// Sets an untyped pointer to a new text or data, or to null.
 fn begin<A: BuilderArena>(
     memory: &mut Memory<A>,
     placed: Placed<'_>,
@@ -202,7 +202,7 @@ fn begin<A: BuilderArena>(
     Ok(Answer::Done)
 }
 
-/// Asks whether an untyped pointer is null, clears it, or puts a text or data behind it.
+/// Asks whether an untyped pointer is null, clears the pointer, or sets it to a text or data.
 fn put<A: BuilderArena>(
     alloc: Global,
     memory: &mut Memory<A>,
@@ -228,7 +228,7 @@ fn put<A: BuilderArena>(
     Ok(Answer::Done)
 }
 
-/// Returns a call of a value that was got.
+/// Answers a call of a value that `get` returned.
 pub fn answer<A: BuilderArena>(
     alloc: Global,
     memory: &mut Memory<A>,
