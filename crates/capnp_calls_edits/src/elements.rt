@@ -74,7 +74,7 @@ fn set_plain<A: BuilderArena>(
 }
 
 /// Sets an element that is a struct or a list to the value of a message, or a Void element to any
-/// value. A struct takes over as much as it has place for. Other elements are refused with
+/// value. A struct takes as much as it has room for. Other elements are refused with
 /// `TypeMismatch`.
 fn set_message<A: BuilderArena>(
     arena: &mut A,

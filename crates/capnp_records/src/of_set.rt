@@ -11,10 +11,10 @@ use crate::set::SchemaSet;
 
 /// An item that can be of a set: a raw schema, or a type that names one.
 pub trait OfSet: Copy {
-    /// Whether the item is of the set of these nodes.
+    /// Whether the item belongs to the set of these nodes.
     ghost is_of: { List Node → Self → Bool };
 
-    /// Returns whether the item is of the set.
+    /// Returns whether the item belongs to the set.
     fn is_of_set(self, set: &SchemaSet) -> bool
         ensures { result ≡ is_of (nodes_of set.now) self };
 }

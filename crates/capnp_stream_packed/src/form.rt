@@ -36,7 +36,7 @@ impl MessageForm for Packed {
 
     ghost faults = { is_packed_fault };
 
-    /// After a refusal the buffer holds the words before the fault, followed by zeros.
+    /// After a refusal the buffer holds words before the fault, followed by zeros.
     fn read_piece<R: BufRead>(source: &mut R, buf: &mut [u8]) -> Result<()>
         requires { length buf.old % 8 ≡ 0 }
         ensures ok { OnOk result (TakesPiece unpacked (R.remaining source.old)

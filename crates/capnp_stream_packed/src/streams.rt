@@ -36,7 +36,7 @@ impl<R: BufRead> Read for PackedRead<R> {
     ///
     /// `BufferNotLargeEnough`: `buf` ends in a part of a word; nothing is taken. `Device`: the
     /// source failed; any other kind says why the bytes that are left don't begin with such a
-    /// piece. Then less than the piece was taken, and `buf` is unchanged, or holds the words before
+    /// piece. Then less than the piece was taken, and `buf` is unchanged, or holds words before
     /// the fault, followed by zeros.
     fn read(&mut self, buf: &mut [u8]) -> Result<usize>
         ensures bound { ReadsAtMost result buf.new }
@@ -62,7 +62,7 @@ impl<R: BufRead> Read for PackedRead<R> {
     ///
     /// `BufferNotLargeEnough`: `buf` ends in a part of a word; nothing is taken. `Device`: the
     /// source failed; any other kind says why the bytes that are left don't begin with such a
-    /// piece. Then less than the piece was taken, and `buf` is unchanged, or holds the words before
+    /// piece. Then less than the piece was taken, and `buf` is unchanged, or holds words before
     /// the fault, followed by zeros.
     fn read_exact(&mut self, buf: &mut [u8]) -> Result<()>
         ensures ok { OnOk result (Consumes None None buf.new) }

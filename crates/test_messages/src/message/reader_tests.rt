@@ -118,7 +118,7 @@ fn a_typed_root_is_read(rt: HostRuntime) -> std::result::Result<(), Fail> {
     Ok(())
 }
 
-/// A limiter that allows more than the options do is refused for room.
+/// A limiter that allows more than the options is refused because of room.
 #[test]
 fn the_options_bound_the_canonical_words(rt: HostRuntime) -> std::result::Result<(), Fail> {
     let segments: [&[u8]; 1] = [&DATA[8..24]];
