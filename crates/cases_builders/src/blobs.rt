@@ -12,7 +12,7 @@ use capnp_units::sizes::Word;
 use capnp_wire_objects::place::{Place, has_words};
 use std::alloc::Global;
 
-/// Writes among the bytes of data that are got. How many there are.
+/// Gets data and writes over some of their bytes. Returns the length of the data.
 fn write_data<A: BuilderArena>(
     memory: &mut Memory<A>,
     place: Place,
@@ -38,7 +38,7 @@ fn write_data<A: BuilderArena>(
     }
 }
 
-/// The same of a text.
+/// Gets a text and writes over some of its bytes. Returns the length of the text.
 fn write_text<A: BuilderArena>(
     memory: &mut Memory<A>,
     place: Place,
@@ -64,7 +64,7 @@ fn write_text<A: BuilderArena>(
     }
 }
 
-/// `get_data` or `get_text`, and bytes are written from an index on.
+/// Calls `get_data` or `get_text`, and writes bytes from an index on.
 pub fn write<A: BuilderArena>(
     alloc: Global,
     memory: &mut Memory<A>,
@@ -85,7 +85,7 @@ pub fn write<A: BuilderArena>(
     }
 }
 
-/// Where the text lies that is got at a pointer.
+/// Gets the text at a pointer, and returns its place.
 fn text_at<A: BuilderArena>(memory: &mut Memory<A>, place: Place) -> Result<BlobPlace, Stop>
     ensures { A.books memory.new.arena ≡ A.books memory.old.arena }
 {
@@ -98,8 +98,8 @@ fn text_at<A: BuilderArena>(memory: &mut Memory<A>, place: Place) -> Result<Blob
     }
 }
 
-/// Pushes a piece at a position of a text: one byte as ASCII, more as a `str`. Where the text goes
-/// on.
+/// Pushes a piece at a position of a text: one byte as ASCII, more as a `str`. Returns the new
+/// position.
 fn push<A: BuilderArena>(
     memory: &mut Memory<A>,
     place: BlobPlace,
@@ -129,7 +129,7 @@ fn push<A: BuilderArena>(
     Ok(text.position)
 }
 
-/// `get_text`, and a piece is pushed at a position. Where the text goes on.
+/// Calls `get_text`, and pushes a piece at a position. Returns the new position.
 pub fn push_text<A: BuilderArena>(
     alloc: Global,
     memory: &mut Memory<A>,
@@ -145,7 +145,7 @@ pub fn push_text<A: BuilderArena>(
     Ok(Some(end as u64))
 }
 
-/// `get_text` and `clear`. Where the text goes on.
+/// Calls `get_text` and `clear`. Returns the new position.
 pub fn clear_text<A: BuilderArena>(memory: &mut Memory<A>, place: Place) -> Answer
     ensures { A.books memory.new.arena ≡ A.books memory.old.arena }
 {

@@ -1,4 +1,4 @@
-//! A call at a pointer, as a line tells it.
+//! The call that a line makes at a pointer.
 ghost use Rattle.std.specs.Prelude.{◌≡◌};
 
 use crate::blobs::{clear_text, push_text, write};

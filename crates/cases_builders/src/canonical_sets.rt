@@ -1,4 +1,4 @@
-//! Canonical copies of structs and lists that are read, by way of a scratch message.
+//! Canonical copies of structs and lists that are read, through a scratch message.
 ghost use Rattle.std.specs.Prelude.{◌≡◌};
 
 use crate::handles::{FAR, NOT_THERE, handle};
@@ -15,14 +15,14 @@ use capnp_wire_objects::arena::ReaderArena;
 use capnp_wire_objects::place::{Place, ROOT, has_words};
 use std::alloc::Global;
 
-/// What is copied.
+/// The struct or the list that is copied.
 #[derive(Drop)]
 pub enum Read<'a, B> {
     Struct(StructReader<'a, B>),
     List(ListReader<'a, B>),
 }
 
-/// Copies what is read by way of the root of a scratch message.
+/// Copies a struct or a list through the root of a scratch message.
 fn set_by_way<A: BuilderArena, B: ReaderArena, C: BuilderArena>(
     memory: &mut Memory<A>,
     place: Place,
@@ -55,7 +55,7 @@ fn set_by_way<A: BuilderArena, B: ReaderArena, C: BuilderArena>(
     }
 }
 
-/// `set_struct_canonical` or `set_list_canonical`, with a scratch message of its own.
+/// Calls `set_struct_canonical` or `set_list_canonical`, with a scratch message of its own.
 pub fn set_canonical<A: BuilderArena, B: ReaderArena>(
     alloc: Global,
     memory: &mut Memory<A>,

@@ -1,4 +1,4 @@
-//! Copies of what readers stand at.
+//! Copies of the values that readers read.
 ghost use Rattle.std.specs.Prelude.{◌≡◌};
 
 use crate::canonical_sets::{Read, set_canonical};
@@ -21,7 +21,7 @@ use capnp_wire_objects::arena::{ReaderArena, ReaderArenaImpl};
 use capnp_wire_objects::place::{Place, has_words};
 use std::alloc::Global;
 
-/// Puts a copy of a pointer's value in place of a pointer's.
+/// Replaces the value of a pointer with a copy of another pointer's value.
 fn copy_pointer<A: BuilderArena, B: ReaderArena>(
     memory: &mut Memory<A>,
     place: Place,
@@ -39,7 +39,7 @@ fn copy_pointer<A: BuilderArena, B: ReaderArena>(
     }
 }
 
-/// Puts a canonical copy of a pointer's value in place of a pointer's.
+/// Replaces the value of a pointer with a canonical copy of another pointer's value.
 fn copy_canonical<A: BuilderArena, B: ReaderArena>(
     memory: &mut Memory<A>,
     place: Place,
@@ -59,7 +59,7 @@ fn copy_canonical<A: BuilderArena, B: ReaderArena>(
     }
 }
 
-/// Puts a copy of a struct in place of a pointer's value.
+/// Replaces the value of a pointer with a copy of a struct.
 fn copy_struct<A: BuilderArena, B: ReaderArena>(
     memory: &mut Memory<A>,
     place: Place,
@@ -77,7 +77,7 @@ fn copy_struct<A: BuilderArena, B: ReaderArena>(
     }
 }
 
-/// Puts a copy of a list in place of a pointer's value.
+/// Replaces the value of a pointer with a copy of a list.
 fn copy_list<A: BuilderArena, B: ReaderArena>(
     memory: &mut Memory<A>,
     place: Place,
@@ -95,7 +95,7 @@ fn copy_list<A: BuilderArena, B: ReaderArena>(
     }
 }
 
-/// Puts the content of a struct into a struct.
+/// Sets the content of a struct to the content of another struct.
 fn copy_content<A: BuilderArena, B: ReaderArena>(
     memory: &mut Memory<A>,
     place: StructPlace,
@@ -115,7 +115,7 @@ fn copy_content<A: BuilderArena, B: ReaderArena>(
     }
 }
 
-/// The struct that takes a content: that of the pointer, or an element of its list.
+/// Returns the struct that takes a content: the pointer's struct, or an element of its list.
 fn target<A: BuilderArena>(
     memory: &mut Memory<A>,
     place: Place,
@@ -131,7 +131,7 @@ fn target<A: BuilderArena>(
     struct_of(memory, list, source.index)
 }
 
-/// The element that is read, where one is.
+/// Returns the index of the element that is read, if one is.
 fn element_of(verb: u64, source: &Source) -> Option<u32> {
     if verb == 24 || verb == 32 {
         Some(source.index)
@@ -140,17 +140,17 @@ fn element_of(verb: u64, source: &Source) -> Option<u32> {
     }
 }
 
-/// Whether a verb copies.
+/// Returns whether a verb copies.
 pub fn is_copy(verb: u64) -> bool {
     matches!(&verb, 17..=21 | 23 | 24 | 26 | 27 | 32..=34)
 }
 
-/// Whether it copies canonically.
+/// Returns whether a verb copies canonically.
 fn is_canonical(verb: u64) -> bool {
     matches!(&verb, 23 | 26 | 27)
 }
 
-/// A copy of a pointer's value, plain, or canonical by way of lent words.
+/// Copies a pointer's value, plainly, or canonically through lent words.
 fn copy_value<A: BuilderArena>(
     memory: &mut Memory<A>,
     way: &[Step],
@@ -170,8 +170,7 @@ fn copy_value<A: BuilderArena>(
     }
 }
 
-/// A canonical copy of a struct or a list that is read, by way of lent words and of a scratch
-/// message.
+/// Copies a struct or a list that is read canonically, through lent words and a scratch message.
 fn copy_by_way<A: BuilderArena>(
     alloc: Global,
     memory: &mut Memory<A>,
@@ -195,7 +194,7 @@ fn copy_by_way<A: BuilderArena>(
     set_canonical(alloc, memory, place, limiter, other, lent)
 }
 
-/// A copy of a list that is read as one of the elements that are expected.
+/// Copies a list that is read as a list of the expected elements.
 fn copy_list_read<A: BuilderArena>(
     memory: &mut Memory<A>,
     way: &[Step],
@@ -212,7 +211,7 @@ fn copy_list_read<A: BuilderArena>(
     copy_list(memory, place, limiter, other)
 }
 
-/// A copy of a struct that is read, or of its content.
+/// Copies a struct that is read, or its content.
 fn copy_struct_read<A: BuilderArena>(
     memory: &mut Memory<A>,
     way: &[Step],
@@ -239,8 +238,8 @@ fn copy_struct_read<A: BuilderArena>(
     copy_struct(memory, place, limiter, other)
 }
 
-/// A copy of what a line tells, under the script's limits. What is copied is read before the way to
-/// where it goes is gone.
+/// Makes the copy of a line, under the script's limits. The source is read before the path to the
+/// target is followed.
 pub fn copy<A: BuilderArena, B: ReaderArena>(
     alloc: Global,
     memory: &mut Memory<A>,

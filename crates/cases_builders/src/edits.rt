@@ -50,7 +50,8 @@ fn set_field<A: BuilderArena>(
     Ok(None)
 }
 
-/// How many bytes a number of a size has, 0 of a bit; `None` where it is no number.
+/// Returns the number of bytes of a number of a size, 0 for a bit; `None` if elements of that size
+/// aren't numbers.
 fn width_of(size: ElementSize) -> Option<u64> {
     match size {
         ElementSize::Bit => Some(0),
@@ -113,7 +114,7 @@ fn set_element<A: BuilderArena>(
     Ok(None)
 }
 
-/// `get_struct` or `get_struct_list`, and a field of it is set.
+/// Calls `get_struct` or `get_struct_list`, and sets a field.
 pub fn set_in_struct<A: BuilderArena>(
     memory: &mut Memory<A>,
     place: Place,
@@ -134,7 +135,7 @@ pub fn set_in_struct<A: BuilderArena>(
     set_field(memory, object, width, offset, line.number()?)
 }
 
-/// `get_list`, and an element of it is set.
+/// Calls `get_list`, and sets an element.
 pub fn set_in_list<A: BuilderArena>(
     memory: &mut Memory<A>,
     place: Place,
@@ -148,7 +149,7 @@ pub fn set_in_list<A: BuilderArena>(
     set_element(memory, list, expected, index, line.number()?)
 }
 
-/// `get_data`, and a byte of it is set.
+/// Calls `get_data`, and sets a byte.
 pub fn set_in_data<A: BuilderArena>(
     memory: &mut Memory<A>,
     place: Place,

@@ -1,5 +1,4 @@
-//! Values that are got where a pointer names them, with a default in place of null, and the size of
-//! a value.
+//! Values that are gotten at a pointer, with a default in place of null, and the size of a value.
 ghost use Rattle.std.specs.Prelude.{◌≡◌};
 
 use crate::handles::{FAR, NOT_THERE, handle, list_got, struct_got, structs_got};
@@ -11,7 +10,7 @@ use capnp_units::limiter::ReadLimiter;
 use capnp_units::sizes::Word;
 use capnp_wire_objects::place::{Place, has_words};
 
-/// How many bytes the text has that is got at a pointer.
+/// Gets the text at a pointer, and returns its number of bytes.
 fn text_got<A: BuilderArena>(
     memory: &mut Memory<A>,
     place: Place,
@@ -28,7 +27,7 @@ fn text_got<A: BuilderArena>(
     }
 }
 
-/// The same of data.
+/// Gets the data at a pointer, and returns their number of bytes.
 fn data_got<A: BuilderArena>(
     memory: &mut Memory<A>,
     place: Place,
@@ -45,7 +44,7 @@ fn data_got<A: BuilderArena>(
     }
 }
 
-/// `get_struct`, `get_list`, `get_struct_list`, `get_text` and `get_data`.
+/// Calls `get_struct`, `get_list`, `get_struct_list`, `get_text` or `get_data`.
 pub fn get<A: BuilderArena>(
     memory: &mut Memory<A>,
     place: Place,
@@ -76,7 +75,7 @@ pub fn get<A: BuilderArena>(
     }
 }
 
-/// `total_size`.
+/// Calls `total_size`.
 pub fn total_size<A: BuilderArena>(memory: &mut Memory<A>, place: Place) -> Answer
     ensures { A.books memory.new.arena ≡ A.books memory.old.arena }
 {

@@ -1,4 +1,4 @@
-//! Words that a script lays into a message, and those that it finds there.
+//! Words that a script writes into a message, and words that it expects there.
 ghost use Rattle.std.specs.Prelude.{◌≡◌};
 
 use crate::handles::{FAR, NOT_THERE};
@@ -10,7 +10,7 @@ use capnp_wire_objects::place::{Place, has_words, word_at};
 /// More segments than a message here has.
 const SEGMENTS: u32 = 1 << 16;
 
-/// Lays the words of segments into new ones.
+/// Writes the words of segments into new segments.
 pub fn lay<A: BuilderArena>(memory: &mut Memory<A>, segments: &Vec<Vec<u8>>) -> Result<(), Stop>
     ensures { A.books memory.new.arena ≡ A.books memory.old.arena }
 {
@@ -32,7 +32,7 @@ pub fn lay<A: BuilderArena>(memory: &mut Memory<A>, segments: &Vec<Vec<u8>>) -> 
     Ok(())
 }
 
-/// Whether a message's segments are these.
+/// Returns whether a message's segments are these.
 pub fn is_laid<A: ReaderArena>(arena: &A, segments: &Vec<Vec<u8>>) -> bool {
     let mut id = 0u32;
     for bytes in segments {
@@ -44,7 +44,7 @@ pub fn is_laid<A: ReaderArena>(arena: &A, segments: &Vec<Vec<u8>>) -> bool {
     arena.get_segment(id).is_none()
 }
 
-/// Whether a message's segments begin with these, and all other words are zero.
+/// Returns whether a message's segments begin with these, and all other words are zero.
 pub fn stands<A: ReaderArena>(arena: &A, segments: &Vec<Vec<u8>>) -> bool {
     for id in 0..SEGMENTS {
         let Some(bytes) = arena.get_segment(id) else {
@@ -64,7 +64,7 @@ pub fn stands<A: ReaderArena>(arena: &A, segments: &Vec<Vec<u8>>) -> bool {
     false
 }
 
-/// How many words aren't zero.
+/// Returns the number of words that aren't zero.
 pub fn words_in_use<A: ReaderArena>(arena: &A) -> u64 {
     let mut count = 0u64;
     for segment in 0..SEGMENTS {
@@ -115,7 +115,7 @@ pub fn exhaust<A: BuilderArena>(memory: &mut Memory<A>)
     fill(memory);
 }
 
-/// How the word of a pointer leads: null, near, over a pad of one word, or of two.
+/// Returns the form of a pointer's word: null, near, over a pad of one word, or of two.
 pub fn reach<A: ReaderArena>(arena: &A, place: Place) -> Result<u64, Stop> {
     if place.position >= FAR {
         return Err(NOT_THERE);

@@ -6,7 +6,7 @@ use hex::FromHexError;
 use std::alloc::Global;
 use std::str::SplitWhitespace;
 
-/// A line's words that weren't taken yet.
+/// The words of a line that weren't taken yet.
 #[derive(Drop)]
 pub struct Line<'a> {
     words: SplitWhitespace<'a>,
@@ -19,12 +19,12 @@ impl<'a> Line<'a> {
         }
     }
 
-    /// The next word.
+    /// Takes the next word.
     pub fn word(&mut self) -> Result<&'a str, Stop> {
         self.words.next().ok_or(Stop::Shape)
     }
 
-    /// The next number.
+    /// Takes the next number.
     pub fn number(&mut self) -> Result<u64, Stop> {
         self.word()?.parse::<u64>().map_err(|_| Stop::Shape)
     }
@@ -37,7 +37,7 @@ impl<'a> Line<'a> {
         u32::try_from(self.number()?).map_err(|_| Stop::Shape)
     }
 
-    /// The sizes of a struct's sections.
+    /// Takes the sizes of a struct's sections.
     pub fn struct_size(&mut self) -> Result<StructSize, Stop> {
         let data_words = u16::try_from(self.number()?).map_err(|_| Stop::Shape)?;
         let pointers = u16::try_from(self.number()?).map_err(|_| Stop::Shape)?;
@@ -55,7 +55,7 @@ impl<'a> Line<'a> {
         Ok(ElementSize::from_number(number))
     }
 
-    /// A number, or none where `-` stands.
+    /// Takes a number, or nothing for `-`.
     pub fn limit(&mut self) -> Result<Option<u64>, Stop> {
         let word = self.word()?;
         if word == "-" {
@@ -64,7 +64,7 @@ impl<'a> Line<'a> {
         Ok(Some(word.parse::<u64>().map_err(|_| Stop::Shape)?))
     }
 
-    /// How many bytes there are, and each.
+    /// Takes a number of bytes, and each byte.
     pub fn bytes(&mut self, alloc: Global) -> Result<Vec<u8>, Stop> {
         let count = self.index()?;
         let mut bytes = Vec::new(alloc);
@@ -74,7 +74,7 @@ impl<'a> Line<'a> {
         Ok(bytes)
     }
 
-    /// Bytes in hex; none where `-` stands.
+    /// Takes bytes in hex; no bytes for `-`.
     pub fn hex(&mut self, alloc: Global) -> Result<Vec<u8>, Stop> {
         let word = self.word()?;
         if word == "-" {
@@ -87,7 +87,7 @@ impl<'a> Line<'a> {
         }
     }
 
-    /// How many segments there are, and the bytes of each in hex.
+    /// Takes a number of segments, and the bytes of each in hex.
     pub fn segments(&mut self, alloc: Global) -> Result<Vec<Vec<u8>>, Stop> {
         let count = self.index()?;
         let mut segments = Vec::new(alloc);

@@ -1,7 +1,7 @@
-//! Makes builder calls by scripts, and compares what they answer and build with what they should.
+//! Makes builder calls by scripts, and compares their answers and messages with the expected ones.
 //!
-//! Each file that is given has scripts, one behind the other; README.md tells their lines. The
-//! answers are those of independent software, or worked by hand.
+//! Each file that is given has scripts, one after the other; README.md describes their lines. The
+//! answers come from independent software, or were worked out by hand.
 #![tactic(auto)]
 
 mod blobs;
@@ -28,8 +28,8 @@ use std::alloc::Global;
 use std::process::ExitCode;
 use std::{env, fs, io};
 
-/// How many scripts are as they should be, and the lines of the file that differ, each with what
-/// was answered.
+/// The number of scripts that are as they should be, and the lines of the file that differ, each
+/// with its answer.
 #[derive(Drop)]
 struct Counts {
     same: u64,
@@ -76,7 +76,7 @@ fn count(alloc: Global, text: &str) -> Result<Counts, Stop> {
     Ok(counts)
 }
 
-/// Prints the counts. Whether there was a script and none differs.
+/// Prints the counts. Returns whether there was a script and none differs.
 fn report(rt: &HostRuntime, name: &str, counts: &Counts) -> io::Result<bool> {
     let Counts { same, differing } = counts;
     println!(rt; "{same} scripts of {name} are as they should be")?;

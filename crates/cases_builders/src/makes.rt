@@ -8,7 +8,7 @@ use capnp_copy_arenas::arena::{BuilderArena, Memory};
 use capnp_units::sizes::{ElementSize, StructSize};
 use capnp_wire_objects::place::{Place, has_words};
 
-/// `init_struct`.
+/// Calls `init_struct`.
 fn init_struct<A: BuilderArena>(memory: &mut Memory<A>, place: Place, size: StructSize) -> Answer
     ensures { A.books memory.new.arena ≡ A.books memory.old.arena }
 {
@@ -21,7 +21,7 @@ fn init_struct<A: BuilderArena>(memory: &mut Memory<A>, place: Place, size: Stru
     }
 }
 
-/// `init_list`.
+/// Calls `init_list`.
 fn init_list<A: BuilderArena>(
     memory: &mut Memory<A>,
     place: Place,
@@ -42,7 +42,7 @@ fn init_list<A: BuilderArena>(
     }
 }
 
-/// `init_struct_list`.
+/// Calls `init_struct_list`.
 fn init_struct_list<A: BuilderArena>(
     memory: &mut Memory<A>,
     place: Place,
@@ -60,7 +60,7 @@ fn init_struct_list<A: BuilderArena>(
     }
 }
 
-/// `init_text`.
+/// Calls `init_text`.
 pub fn init_text<A: BuilderArena>(memory: &mut Memory<A>, place: Place, count: u32) -> Answer
     ensures { A.books memory.new.arena ≡ A.books memory.old.arena }
 {
@@ -73,7 +73,7 @@ pub fn init_text<A: BuilderArena>(memory: &mut Memory<A>, place: Place, count: u
     }
 }
 
-/// `init_data`.
+/// Calls `init_data`.
 pub fn init_data<A: BuilderArena>(memory: &mut Memory<A>, place: Place, count: u32) -> Answer
     ensures { A.books memory.new.arena ≡ A.books memory.old.arena }
 {
@@ -86,7 +86,7 @@ pub fn init_data<A: BuilderArena>(memory: &mut Memory<A>, place: Place, count: u
     }
 }
 
-/// `init_struct`, `init_list` and `init_struct_list`.
+/// Calls `init_struct`, `init_list` or `init_struct_list`.
 pub fn init_object<A: BuilderArena>(
     memory: &mut Memory<A>,
     place: Place,
@@ -108,7 +108,7 @@ pub fn init_object<A: BuilderArena>(
     }
 }
 
-/// `set_text` and `set_data`.
+/// Calls `set_text` or `set_data`.
 pub fn set_bytes<A: BuilderArena>(
     memory: &mut Memory<A>,
     place: Place,
@@ -132,7 +132,7 @@ pub fn set_bytes<A: BuilderArena>(
     }
 }
 
-/// `clear`.
+/// Calls `clear`.
 pub fn clear<A: BuilderArena>(memory: &mut Memory<A>, place: Place) -> Answer
     ensures { A.books memory.new.arena ≡ A.books memory.old.arena }
 {

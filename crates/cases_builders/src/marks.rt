@@ -5,14 +5,14 @@ use capnp_wire_objects::arena::ReaderArena;
 use capnp_wire_objects::place::{Place, word_at};
 use std::alloc::Global;
 
-/// Which words of each segment belong to an object or a pad.
+/// The words of each segment that belong to an object or a pad.
 #[derive(Drop)]
 pub struct Marks {
     segments: Vec<Vec<bool>>,
 }
 
 impl Marks {
-    /// No word of an arena's segments.
+    /// Marks no word of an arena's segments.
     pub fn none<A: ReaderArena>(alloc: Global, arena: &A) -> Result<Marks, Stop> {
         let mut segments = Vec::new(alloc);
         for id in 0..u32::MAX {
@@ -26,7 +26,7 @@ impl Marks {
         Ok(Marks { segments })
     }
 
-    /// Marks n words from a place on. Whether all are there and none was marked.
+    /// Marks n words from a place on. Returns whether all exist and none was marked.
     pub fn mark(&mut self, start: Place, count: usize) -> bool {
         let index = start.segment as usize;
         if index >= self.segments.len() {
@@ -46,7 +46,7 @@ impl Marks {
         true
     }
 
-    /// Whether each word that isn't marked is zero.
+    /// Returns whether each word that isn't marked is zero.
     pub fn others_are_zero<A: ReaderArena>(&self, arena: &A) -> bool {
         let mut segment = 0u32;
         for words in &self.segments {

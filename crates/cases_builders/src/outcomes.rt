@@ -1,10 +1,10 @@
-//! What a call answers, and why a script can't go on.
+//! The answers of calls, and the reasons why a script can't continue.
 
 use capnp_units::errors::Error;
 use capnp_units::kinds::ErrorKind;
 use std::alloc::{AllocError, AllocFailed};
 
-/// Why a call has no answer, or another than that it is done.
+/// The reason why a call has no answer, or has an answer other than that it is done.
 #[derive(Clone, Copy, Debug, thiserror::Error)]
 pub enum Stop {
     #[error("refused")]
@@ -35,10 +35,10 @@ impl<T: Drop> From<AllocFailed<T>> for Stop {
     }
 }
 
-/// What a call answers: that it is done, with a length or a size where it has one.
+/// The answer of a call: that it is done, with a length or a size if it has one.
 pub type Answer = Result<Option<u64>, Stop>;
 
-/// The letter of a kind.
+/// Returns the letter of a kind.
 fn letter(kind: ErrorKind) -> &'static str {
     match kind {
         ErrorKind::OutOfBounds => "a",
@@ -57,8 +57,8 @@ fn letter(kind: ErrorKind) -> &'static str {
     }
 }
 
-/// Whether a call answered what is written: a refusal by its letter, or by none where several
-/// faults can be met.
+/// Returns whether a call gave the written answer: a refusal by its letter, or by no letter if
+/// several faults are possible.
 pub fn is_answer(written: &str, answer: Answer) -> bool {
     match answer {
         Ok(None) => written == "k",

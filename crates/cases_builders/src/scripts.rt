@@ -19,7 +19,7 @@ use capnp_wire_objects::arena::{ReaderArena, ReaderArenaImpl};
 use capnp_wire_objects::place::{ROOT, has_words};
 use std::alloc::Global;
 
-/// The sizes of segments that a script tells of a message, where it does.
+/// Returns the sizes of segments that a script gives for a message, if it gives them.
 fn sizes_told(alloc: Global, lines: &[&str], message: u64) -> Result<Option<Vec<u32>>, Stop> {
     for text in lines {
         let mut line = Line::new(text);
@@ -35,7 +35,7 @@ fn sizes_told(alloc: Global, lines: &[&str], message: u64) -> Result<Option<Vec<
     Ok(None)
 }
 
-/// The allocators of both messages.
+/// Makes the allocators of both messages.
 fn stocks(alloc: Global, lines: &[&str]) -> Result<(Stock, Stock), Stop> {
     let Some(first) = lines.first() else {
         return Err(Stop::Shape);
@@ -49,7 +49,7 @@ fn stocks(alloc: Global, lines: &[&str]) -> Result<(Stock, Stock), Stop> {
     ))
 }
 
-/// Makes the word of a message's root pointer, where there is none.
+/// Makes the word of a message's root pointer, if there is none yet.
 fn begin<A: BuilderArena>(memory: &mut Memory<A>) -> Result<(), Stop>
     ensures { A.books memory.new.arena ≡ A.books memory.old.arena }
 {
@@ -60,7 +60,8 @@ fn begin<A: BuilderArena>(memory: &mut Memory<A>) -> Result<(), Stop>
     Ok(())
 }
 
-/// Does what a line says of a message beside another. Whether it is as it should be.
+/// Does what a line says of a message beside another. Returns whether the message is as it should
+/// be.
 fn act<A: BuilderArena, B: ReaderArena>(
     alloc: Global,
     memory: &mut Memory<A>,
@@ -97,7 +98,7 @@ fn act<A: BuilderArena, B: ReaderArena>(
     }
 }
 
-/// Whether a message has the tree that a line tells in a frame of one segment.
+/// Returns whether a message has the tree that a line gives in a frame of one segment.
 fn ends_so<A: ReaderArena>(alloc: Global, arena: &A, line: &mut Line<'_>) -> Result<bool, Stop> {
     let frame = line.hex(alloc)?;
     let Some(bytes) = frame.get(8..) else {
@@ -108,8 +109,8 @@ fn ends_so<A: ReaderArena>(alloc: Global, arena: &A, line: &mut Line<'_>) -> Res
     has_tree(alloc, arena, &wanted)
 }
 
-/// Does what a line says of the calls that follow, or of both messages. Whether it is as it should
-/// be.
+/// Does what a line says of the calls that follow, or of both messages. Returns whether they are as
+/// they should be.
 fn set<A: BuilderArena, B: BuilderArena>(
     alloc: Global,
     first: &mut Memory<A>,
@@ -134,7 +135,8 @@ fn set<A: BuilderArena, B: BuilderArena>(
     Ok(true)
 }
 
-/// What a line's call answers; where it makes none, whether it is as it should be.
+/// Returns the answer of a line's call; if the line makes no call, whether the message is as it
+/// should be.
 fn step<A: BuilderArena, B: BuilderArena>(
     alloc: Global,
     first: &mut Memory<A>,
@@ -167,7 +169,7 @@ fn step<A: BuilderArena, B: BuilderArena>(
     }
 }
 
-/// Goes through the lines of a script. The number of the first that differs, and what was answered.
+/// Runs the lines of a script. Returns the number of the first line that differs, and its answer.
 fn play<A: BuilderArena, B: BuilderArena>(
     alloc: Global,
     first: &mut Memory<A>,
@@ -205,8 +207,8 @@ fn play<A: BuilderArena, B: BuilderArena>(
     }
 }
 
-/// A lent region that a script tells for the first message, and the words of each segment behind
-/// it.
+/// Returns a lent region that a script gives for the first message, and the words of each segment
+/// after it.
 fn region_told(alloc: Global, lines: &[&str]) -> Result<Option<(Vec<u8>, u32)>, Stop> {
     for text in lines {
         let mut line = Line::new(text);
@@ -221,8 +223,8 @@ fn region_told(alloc: Global, lines: &[&str]) -> Result<Option<(Vec<u8>, u32)>, 
     Ok(None)
 }
 
-/// Runs a script on two messages of these allocators. The number of the first line that differs,
-/// and what was answered.
+/// Runs a script on two messages of these allocators. Returns the number of the first line that
+/// differs, and its answer.
 fn run_over<A: Allocator, B: Allocator>(
     alloc: Global,
     one: &mut A,
@@ -248,8 +250,8 @@ fn run_over<A: Allocator, B: Allocator>(
     difference
 }
 
-/// Runs a script whose first message lies in a lent region, and then in segments of n words. The
-/// region comes back all zeros.
+/// Runs a script whose first message begins in a lent region, and continues in segments of n words.
+/// The region comes back all zeros.
 fn run_in(
     alloc: Global,
     region: &mut [u8],
@@ -265,8 +267,8 @@ fn run_in(
     run_over(alloc, &mut scratch, other, lines)
 }
 
-/// Runs a script on two messages of its own. The number of the first line that differs, and what
-/// was answered.
+/// Runs a script on two messages of its own. Returns the number of the first line that differs, and
+/// its answer.
 pub fn run(alloc: Global, lines: &[&str]) -> Result<Option<(usize, Answer)>, Stop> {
     let (mut one, mut other) = stocks(alloc, lines)?;
     let Some((mut region, words)) = region_told(alloc, lines)? else {

@@ -1,4 +1,4 @@
-//! What the calls of a script are made under.
+//! Settings of the calls of a script.
 
 use crate::line::Line;
 use crate::outcomes::Stop;
@@ -6,8 +6,8 @@ use capnp_units::limiter::ReadLimiter;
 use capnp_units::sizes::Word;
 use std::alloc::Global;
 
-/// The literal segments to copy from, and the literal default; the limits of a copy; what the last
-/// copy took; and segments that are kept to be compared.
+/// The literal segments to copy from, and the literal default; the limits of a copy; the words and
+/// pointers that the last copy used; and segments that are kept for a comparison.
 #[derive(Drop)]
 pub struct Settings {
     pub literals: Vec<Vec<u8>>,
@@ -20,10 +20,10 @@ pub struct Settings {
     pub kept: Vec<Vec<u8>>,
 }
 
-/// The words of a copy at most where none are told.
+/// The most words of a copy if the script sets no limit.
 const BUDGET: u64 = 8 << 20;
 
-/// The words that are lent for a canonical copy where none are told.
+/// The number of words that are lent for a canonical copy if the script doesn't say.
 const LENT: usize = 4096;
 
 impl Settings {
@@ -40,7 +40,8 @@ impl Settings {
         }
     }
 
-    /// The limits that a line tells: of words, of levels, and how many words are lent.
+    /// Sets the limits that a line gives: of words, of levels, and the number of words that are
+    /// lent.
     pub fn set_limits(&mut self, line: &mut Line<'_>) -> Result<(), Stop> {
         self.budget = line.limit()?;
         self.levels = line.word()?.parse::<i32>().map_err(|_| Stop::Shape)?;
@@ -48,7 +49,7 @@ impl Settings {
         Ok(())
     }
 
-    /// The literal segments that a line tells byte by byte.
+    /// Sets the literal segments that a line gives byte by byte.
     pub fn set_literals(&mut self, alloc: Global, line: &mut Line<'_>) -> Result<(), Stop> {
         let count = line.index()?;
         self.literals.clear();
@@ -58,7 +59,7 @@ impl Settings {
         Ok(())
     }
 
-    /// The default that a line tells in hex.
+    /// Sets the default that a line gives in hex.
     pub fn set_default(&mut self, alloc: Global, line: &mut Line<'_>) -> Result<(), Stop> {
         let bytes = line.hex(alloc)?;
         self.default.clear();
@@ -70,13 +71,14 @@ impl Settings {
         Ok(())
     }
 
-    /// Keeps what a copy took.
+    /// Keeps the words and pointers that a copy used.
     pub fn note(&mut self, limiter: &ReadLimiter) {
         self.granted = limiter.granted();
         self.followed = limiter.followed();
     }
 
-    /// Whether the last copy took n words, and followed m pointers, where these are told.
+    /// Returns whether the last copy used n words, and followed m pointers, if the line gives
+    /// these.
     pub fn took(&self, line: &mut Line<'_>) -> Result<bool, Stop> {
         let granted = line.limit()?.unwrap_or(self.granted);
         let followed = line.limit()?.unwrap_or(self.followed);
@@ -109,7 +111,7 @@ const STRUCTS: &[Word] = &[
     [0; 8],
 ];
 
-/// The default of a number; 5 is the one that the script tells.
+/// Returns the default of a number; 5 is the script's own.
 pub fn default_of<'a>(
     settings: &'a Settings,
     line: &mut Line<'_>,

@@ -1,4 +1,4 @@
-//! What copies are made of, as lines tell it.
+//! The sources of copies that lines give.
 
 use crate::line::Line;
 use crate::outcomes::Stop;
@@ -10,7 +10,7 @@ use capnp_wire::structs::StructReader;
 use capnp_wire_objects::arena::ReaderArena;
 use std::alloc::Global;
 
-/// The bytes of a message's segments.
+/// Returns the bytes of a message's segments.
 pub fn segments_of<A: ReaderArena>(alloc: Global, arena: &A) -> Result<Vec<Vec<u8>>, Stop> {
     let mut segments = Vec::new(alloc);
     for id in 0..u32::MAX {
@@ -22,8 +22,8 @@ pub fn segments_of<A: ReaderArena>(alloc: Global, arena: &A) -> Result<Vec<Vec<u
     Ok(segments)
 }
 
-/// The segments that are copied from, and how what is there is read: the struct or element that
-/// takes it, and the elements that are expected.
+/// The segments to copy from, and the way to read them: the struct or element that takes the copy,
+/// and the expected elements.
 #[derive(Drop)]
 pub struct Source {
     pub segments: Vec<Vec<u8>>,
@@ -33,8 +33,8 @@ pub struct Source {
     pub levels: i32,
 }
 
-/// The source that a line tells, as it stands now: this message, the other, or the literal
-/// segments.
+/// Returns the source that a line gives, in its present state: this message, the other, or the
+/// literal segments.
 pub fn source_of<A: ReaderArena, B: ReaderArena>(
     alloc: Global,
     this: &A,
@@ -60,8 +60,8 @@ pub fn source_of<A: ReaderArena, B: ReaderArena>(
     })
 }
 
-/// The struct that a line leads to, with a default in place of null; where an element is asked for,
-/// that of a list read as structs.
+/// Returns the struct that a line leads to, with a default in place of null; if an element is
+/// requested, that element of a list read as structs.
 pub fn struct_read<'a, B: ReaderArena>(
     arena: &'a B,
     limiter: &mut ReadLimiter,

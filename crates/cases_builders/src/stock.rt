@@ -1,4 +1,4 @@
-//! Segments of the sizes that a script tells.
+//! Segments of the sizes that a script gives.
 ghost use Rattle.std.specs.Prelude.{◌≡◌, []};
 ghost use Rattle.capnp_units.specs.declared.kinds.ErrorKind.TheVariants.{OutOfMemory};
 
@@ -7,8 +7,8 @@ use capnp_units::errors::{Error, Result};
 use capnp_units::kinds::ErrorKind;
 use std::alloc::Global;
 
-/// The words of each segment at least, in order, and how many there are; where none are told, the
-/// words of every segment.
+/// The least words of each segment, in order, and the number of segments; if the script gives none,
+/// the least words of every segment.
 #[derive(Drop)]
 pub struct Stock {
     alloc: Global,
@@ -30,7 +30,7 @@ impl Stock {
         }
     }
 
-    /// The words of the next segment at least, where there is one.
+    /// Returns the least words of the next segment, if there is one.
     fn next_size(&self) -> Option<u32> {
         match &self.sizes {
             None => Some(self.least),

@@ -1,4 +1,5 @@
-//! Whether two messages have the same tree, and the words of one are apart.
+//! Comparisons of two messages: whether they have the same tree, and the words of one don't
+//! overlap.
 
 use crate::marks::Marks;
 use crate::outcomes::Stop;
@@ -22,8 +23,8 @@ enum Kind {
     Structs(u64),
 }
 
-/// An object: its elements have n data words, then m pointers each, and words stand before the
-/// first. The last data word of a list of numbers may have bits behind the last number.
+/// An object: its elements have n data words, then m pointers each, and words before the first
+/// element. The last data word of a list of numbers may have bits after the last number.
 #[derive(Clone, Copy, PartialEq, Eq)]
 struct Shape {
     kind: Kind,
@@ -34,7 +35,7 @@ struct Shape {
     last: u64,
 }
 
-/// What has no words.
+/// Returns the shape of an object without words.
 fn bare(kind: Kind) -> Shape {
     Shape {
         kind,
@@ -47,18 +48,18 @@ fn bare(kind: Kind) -> Shape {
 }
 
 impl Shape {
-    /// The words of an element.
+    /// Returns the number of words of an element.
     fn width(&self) -> usize {
         self.data_words.saturating_add(self.pointers)
     }
 
-    /// All the words.
+    /// Returns the number of all words.
     fn words(&self) -> usize {
         self.head
             .saturating_add(self.elements.saturating_mul(self.width()))
     }
 
-    /// How far on a data word lies, by its number among all.
+    /// Returns the position of a data word in the object, by its number among all data words.
     fn data_word(&self, index: usize) -> usize {
         let each = self.data_words.max(1);
         self.head
@@ -66,7 +67,7 @@ impl Shape {
             .saturating_add(index % each)
     }
 
-    /// The same of a pointer.
+    /// Returns the position of a pointer in the object, by its number among all pointers.
     fn pointer(&self, index: usize) -> usize {
         let each = self.pointers.max(1);
         self.head
@@ -76,7 +77,7 @@ impl Shape {
     }
 }
 
-/// The bits of the last word of a list of n numbers.
+/// Returns a mask of the bits of the last word of a list of n numbers.
 fn bits_of_last(size: ElementSize, count: u32) -> u64 {
     let bits = data_bits_per_element(size) as u64;
     match count as u64 * bits % 64 {
@@ -85,7 +86,7 @@ fn bits_of_last(size: ElementSize, count: u32) -> u64 {
     }
 }
 
-/// A list that isn't one of structs.
+/// Returns the shape of a list that isn't one of structs.
 fn list_shape(size: ElementSize, count: u32) -> Shape {
     let is_pointers = size == ElementSize::Pointer;
     Shape {
@@ -102,7 +103,7 @@ fn list_shape(size: ElementSize, count: u32) -> Shape {
     }
 }
 
-/// A list of structs, by its tag and the words that it claims.
+/// Returns the shape of a list of structs, by its tag and the words that it claims.
 fn structs_shape(tag: u64, claimed: u32) -> Option<Shape> {
     let shape = Shape {
         kind: Kind::Structs(tag),
@@ -119,7 +120,7 @@ fn structs_shape(tag: u64, claimed: u32) -> Option<Shape> {
     }
 }
 
-/// Where an object begins, and its shape; `None` where a list's tag isn't one.
+/// Returns the beginning of an object, and its shape; `None` if a list's tag isn't one.
 fn shape_of<A: ReaderArena>(arena: &A, object: NamedObject) -> Option<(Place, Shape)> {
     match object {
         NamedObject::Null => Some((ROOT, bare(Kind::Null))),
@@ -151,7 +152,7 @@ fn shape_of<A: ReaderArena>(arena: &A, object: NamedObject) -> Option<(Place, Sh
     }
 }
 
-/// The place n words on.
+/// Returns the place n words later.
 fn after(place: Place, words: usize) -> Place {
     Place {
         segment: place.segment,
@@ -159,7 +160,7 @@ fn after(place: Place, words: usize) -> Place {
     }
 }
 
-/// Whether two objects of a shape have the same data words.
+/// Returns whether two objects of a shape have the same data words.
 fn has_same_data<A: ReaderArena, B: ReaderArena>(
     arena: &A,
     start: Place,
@@ -184,8 +185,8 @@ fn has_same_data<A: ReaderArena, B: ReaderArena>(
     true
 }
 
-/// Marks the words of what a pointer leads to, with its pads, up to n levels deep. Whether it is
-/// the value of another message's pointer, and its objects lie apart.
+/// Marks the words of the object of a pointer, with its pads, up to n levels deep. Returns whether
+/// it is the value of another message's pointer, and its objects don't overlap.
 #[cycle(is_value)]
 fn is_value<A: ReaderArena, B: ReaderArena>(
     arena: &A,
@@ -224,8 +225,8 @@ fn is_value<A: ReaderArena, B: ReaderArena>(
     true
 }
 
-/// Whether a message has the tree of another, each object and pad in words of its own, and every
-/// other word is zero.
+/// Returns whether a message has the tree of another, each object and pad has words of its own, and
+/// every other word is zero.
 pub fn has_tree<A: ReaderArena, B: ReaderArena>(
     alloc: Global,
     arena: &A,

@@ -1,4 +1,4 @@
-//! Ways from the root to a pointer, step by step.
+//! Paths from the root to a pointer, step by step.
 ghost use Rattle.std.specs.Prelude.{◌≡◌, ◌≢◌, ◌<◌, IfOk};
 ghost use Rattle.capnp_units.specs.Sizes.{size_number};
 ghost use Rattle.capnp_wire.specs.Views.{seen_list};
@@ -18,7 +18,7 @@ use capnp_wire_objects::arena::ReaderArena;
 use capnp_wire_objects::place::{Place, ROOT, has_words};
 use std::alloc::Global;
 
-/// What a step goes through.
+/// The kind of object that a step goes through.
 #[derive(Clone, Copy)]
 enum Through {
     Struct,
@@ -35,7 +35,7 @@ fn kind_of_step(line: &mut Line<'_>) -> Result<Through, Stop> {
     }
 }
 
-/// A step that builders go: the sections that are asked for, which element, and which pointer.
+/// A step of builders: the requested sections, the element, and the pointer.
 #[derive(Clone, Copy)]
 pub struct Step {
     through: Through,
@@ -57,7 +57,7 @@ fn next_step(line: &mut Line<'_>) -> Result<Step, Stop> {
     })
 }
 
-/// Where the pointer lies that a step leads to.
+/// Returns the place of the pointer that a step leads to.
 fn place_behind<A: BuilderArena>(
     memory: &mut Memory<A>,
     place: Place,
@@ -86,7 +86,7 @@ fn place_behind<A: BuilderArena>(
     }
 }
 
-/// The steps of a way of builders.
+/// Parses the steps of a path of builders.
 pub fn steps(alloc: Global, line: &mut Line<'_>) -> Result<Vec<Step>, Stop> {
     let mut steps = Vec::new(alloc);
     for _ in 0..line.index()? {
@@ -95,8 +95,8 @@ pub fn steps(alloc: Global, line: &mut Line<'_>) -> Result<Vec<Step>, Stop> {
     Ok(steps)
 }
 
-/// Where the pointer lies that a way of builders leads to, which makes and widens what it goes
-/// through.
+/// Returns the place of the pointer that a path of builders leads to, which makes and widens the
+/// objects that it goes through.
 pub fn place_at<A: BuilderArena>(memory: &mut Memory<A>, way: &[Step]) -> Result<Place, Stop>
     ensures { A.books memory.new.arena ≡ A.books memory.old.arena }
 {
@@ -107,7 +107,7 @@ pub fn place_at<A: BuilderArena>(memory: &mut Memory<A>, way: &[Step]) -> Result
     Ok(place)
 }
 
-/// A null pointer.
+/// Returns a null pointer.
 fn null<'a, B: ReaderArena>(arena: &'a B) -> Result<PointerReader<'a, B>, Stop> {
     if !has_words(arena, ROOT, 0) {
         return Err(NOT_THERE);
@@ -115,7 +115,7 @@ fn null<'a, B: ReaderArena>(arena: &'a B) -> Result<PointerReader<'a, B>, Stop> 
     Ok(StructReader::at(arena, ROOT, 0, 0).get_pointer_field(0))
 }
 
-/// The list as one of structs, where it can be read so.
+/// Returns the list as a list of structs, if it can be read so.
 pub fn structs_of<'a, B: ReaderArena>(
     pointer: PointerReader<'a, B>,
     limiter: &mut ReadLimiter,
@@ -128,7 +128,7 @@ pub fn structs_of<'a, B: ReaderArena>(
     }
 }
 
-/// The pointer that a step of readers leads to; `None` where there is no such element.
+/// Returns the pointer that a step of readers leads to; `None` if there is no such element.
 fn pointer_behind<'a, B: ReaderArena>(
     pointer: PointerReader<'a, B>,
     limiter: &mut ReadLimiter,
@@ -159,7 +159,7 @@ fn pointer_behind<'a, B: ReaderArena>(
     }
 }
 
-/// The pointer that a way of readers leads to; null where there is no such element.
+/// Returns the pointer that a path of readers leads to; null if there is no such element.
 pub fn pointer_at<'a, B: ReaderArena>(
     arena: &'a B,
     limiter: &mut ReadLimiter,
