@@ -10,7 +10,7 @@ use capnp_units::kinds::ErrorKind;
 use capnp_units::sizes::{ElementSize, StructSize};
 use capnp_wire_objects::place::{Place, has_words, word_at};
 
-/// How many bytes a long list has: 64 KiB.
+/// The number of bytes of a long list: 64 KiB.
 pub const BYTES: u32 = 1 << 16;
 
 /// The root pointer.
@@ -25,7 +25,7 @@ const SIZE: StructSize = StructSize {
     pointers: 2,
 };
 
-/// What is made.
+/// The work of a run.
 #[derive(Clone, Copy)]
 pub enum Task {
     Fields,
@@ -35,7 +35,7 @@ pub enum Task {
     Bytes,
 }
 
-/// Makes a pointer lead to a struct of four words, and returns where it lies.
+/// Makes a pointer lead to a struct of four words, and returns the place of the struct.
 fn init_struct<A: BuilderArena>(memory: &mut Memory<A>, place: Place) -> Result<StructPlace>
     ensures { A.books memory.new.arena ≡ A.books memory.old.arena }
 {
@@ -47,7 +47,7 @@ fn init_struct<A: BuilderArena>(memory: &mut Memory<A>, place: Place) -> Result<
     Ok(made.place)
 }
 
-/// Makes a pointer lead to a list of n elements, and returns where it begins.
+/// Makes a pointer lead to a list of n elements, and returns the beginning of the list.
 fn init_list<A: BuilderArena>(
     memory: &mut Memory<A>,
     place: Place,
@@ -67,8 +67,8 @@ fn init_list<A: BuilderArena>(
     Ok(made.place.start)
 }
 
-/// Sets a number of a struct, whose words are tested to be there, before and, where it is asked,
-/// once more behind.
+/// Sets a number of a struct. Tests before that the struct's words exist, and once more after if
+/// requested.
 fn set_field<A: BuilderArena>(
     memory: &mut Memory<A>,
     place: StructPlace,
@@ -106,7 +106,7 @@ fn set_fields<A: BuilderArena>(memory: &mut Memory<A>, count: u32, tests_again: 
     Ok(word_at(&memory.arena, second).unwrap_or(0))
 }
 
-/// The pointer of a list by its number, where the list begins at a place.
+/// Returns the place of a pointer of a list by its number, from the beginning of the list.
 fn pointer_of(start: Place, index: u32) -> Place {
     Place {
         segment: start.segment,
@@ -114,7 +114,7 @@ fn pointer_of(start: Place, index: u32) -> Place {
     }
 }
 
-/// Makes n structs, behind the pointers of a list, and returns the position of the last.
+/// Makes n structs, at the pointers of a list, and returns the position of the last.
 fn make_structs<A: BuilderArena>(memory: &mut Memory<A>, count: u32) -> Result<u64>
     ensures { A.books memory.new.arena ≡ A.books memory.old.arena }
 {
@@ -126,7 +126,7 @@ fn make_structs<A: BuilderArena>(memory: &mut Memory<A>, count: u32) -> Result<u
     Ok(last)
 }
 
-/// Returns where a pointer lies, with the test that is made before a struct is put there.
+/// Returns the place of a pointer, with the test that is made before a struct is put there.
 fn test_slot<A: BuilderArena>(memory: &mut Memory<A>, place: Place) -> Result<StructPlace>
     ensures { A.books memory.new.arena ≡ A.books memory.old.arena }
 {
@@ -141,8 +141,8 @@ fn test_slot<A: BuilderArena>(memory: &mut Memory<A>, place: Place) -> Result<St
     })
 }
 
-/// Does what `make_structs` does, but for the structs: goes over the pointers of a list, and
-/// returns the position of the last.
+/// Does the same as `make_structs`, except that it makes no structs: goes over the pointers of a
+/// list, and returns the position of the last.
 fn test_slots<A: BuilderArena>(memory: &mut Memory<A>, count: u32) -> Result<u64>
     ensures { A.books memory.new.arena ≡ A.books memory.old.arena }
 {
@@ -154,7 +154,8 @@ fn test_slots<A: BuilderArena>(memory: &mut Memory<A>, count: u32) -> Result<u64
     Ok(last)
 }
 
-/// Makes n lists of 64 KiB, behind the pointers of a list, and returns the words of the message.
+/// Makes n lists of 64 KiB, at the pointers of a list, and returns the number of words of the
+/// message.
 fn make_bytes<A: BuilderArena>(memory: &mut Memory<A>, count: u32) -> Result<u64>
     ensures { A.books memory.new.arena ≡ A.books memory.old.arena }
 {
@@ -165,7 +166,7 @@ fn make_bytes<A: BuilderArena>(memory: &mut Memory<A>, count: u32) -> Result<u64
     Ok(memory.arena.size_in_words() as u64)
 }
 
-/// Makes n of what is asked for in an empty message.
+/// Makes n of the requested objects in an empty message.
 pub fn build<A: BuilderArena>(memory: &mut Memory<A>, task: Task, count: u32) -> Result<u64>
     ensures { A.books memory.new.arena ≡ A.books memory.old.arena }
 {

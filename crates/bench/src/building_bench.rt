@@ -10,7 +10,7 @@ use capnp_units::errors::Result;
 use std::alloc::Global;
 use std::io;
 
-/// Builds a message in segments of an allocator, which is handed back.
+/// Builds a message in segments of an allocator, which is returned.
 fn build_in<A: Allocator + Drop>(
     alloc: Global,
     allocator: A,
@@ -37,7 +37,7 @@ fn fill(alloc: Global, count: u32) -> Result<u64> {
     Ok(all.as_slice().first().copied().unwrap_or(0) as u64)
 }
 
-/// What is done, and what came of it.
+/// Does the work, and returns its result.
 fn made(alloc: Global, word: &str, count: u32) -> Result<u64> {
     let task = match word {
         "fields" => Task::Fields,
@@ -51,7 +51,7 @@ fn made(alloc: Global, word: &str, count: u32) -> Result<u64> {
     made
 }
 
-/// Does what a word names n times, and prints what was made.
+/// Does the work that a word names n times, and prints the result.
 pub fn build(rt: &HostRuntime, word: &str, count: u32) -> io::Result<()> {
     match made(rt.alloc(), word, count) {
         Ok(made) => println!(rt; "{word}: {made}"),

@@ -1,9 +1,9 @@
-//! Car sales, the benchmark that Cap'n Proto comes with: what a car is made of, and where its
-//! fields lie.
+//! Car sales, the benchmark that Cap'n Proto comes with: the parts of a car, and the places of its
+//! fields.
 //!
 //! A car has three data words and four pointers, to its make, its model, its wheels and its engine;
-//! a wheel and an engine have a data word each. Numbers of the data section are counted in their
-//! own width, and truth values in bits.
+//! a wheel and an engine have a data word each. Numbers of the data section are counted in units of
+//! their own width, and truth values in bits.
 use capnp_layout::StructSize;
 
 /// A parking lot, whose one pointer leads to its cars.
@@ -24,7 +24,7 @@ pub const PART: StructSize = StructSize {
     pointers: 0,
 };
 
-/// How many wheels a car has.
+/// The number of wheels of a car.
 pub const WHEELS: u32 = 4;
 
 /// The pointers of a car.
@@ -44,12 +44,12 @@ const MODELS: [&str; 7] = [
     "Camry", "Prius", "Volt", "Accord", "Leaf", "Model S", "Fiesta",
 ];
 
-/// The make of a car, by its number.
+/// Returns the make of a car, by its number.
 pub fn make_of(car: u32) -> &'static str {
     MAKES[(car % 5) as usize]
 }
 
-/// The model of a car, by its number.
+/// Returns the model of a car, by its number.
 pub fn model_of(car: u32) -> &'static str {
     MODELS[(car % 7) as usize]
 }

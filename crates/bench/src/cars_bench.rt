@@ -7,8 +7,8 @@ use capnp_message::serialize::{read_message_from_flat_slice, write_message};
 use std::alloc::Global;
 use std::io;
 
-/// Builds n cars in a message, and returns how many words it has; it is written behind the bytes,
-/// where it is asked for.
+/// Builds n cars in a message, and returns its number of words. Appends the message to the bytes if
+/// they are given.
 fn build_once(alloc: Global, count: u32, text: Option<&mut Vec<u8>>) -> Result<u64> {
     let mut message = Builder::new_default(alloc);
     let built = build(&mut message, count);
@@ -55,8 +55,8 @@ fn read_all(alloc: Global, count: u32, rounds: u32) -> Result<u64> {
     Ok(sum)
 }
 
-/// Builds, writes or reads `count` cars `rounds` times, as the word says, and prints what came of
-/// the last time.
+/// Builds, writes or reads `count` cars `rounds` times, as the word says, and prints the result of
+/// the last round.
 pub fn cars(rt: &HostRuntime, word: &str, count: u32, rounds: u32) -> io::Result<()> {
     let made = match word {
         "build" => build_all(rt.alloc(), count, rounds),

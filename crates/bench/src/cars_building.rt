@@ -1,8 +1,7 @@
 //! Cars that are built. The numbers of each struct are set in a section of their own, by functions
-//! that are inlined as generated code is, and written at once.
+//! that are inlined like generated code, and written at once.
 //!
-//! A caller without proofs tests that the words of a struct are there before it writes them, as
-//! here.
+//! A caller without proofs tests that the words of a struct exist before writing them, as here.
 ghost use Rattle.std.specs.Prelude.{◌≡◌, ◌+◌, ◌*◌, ◌<◌, ◌≤◌, ◌^◌};
 ghost use Rattle.capnp_copy_arenas.specs.States.{HasWords};
 ghost use Rattle.capnp_message.specs.Built.{loans_held};
@@ -14,12 +13,13 @@ use capnp_layout::{
 };
 use capnp_message::message::{Allocator, Builder};
 
-/// Why a struct isn't set whose words aren't there.
+/// Returns the error for a struct whose words don't exist.
 fn not_there() -> Error {
     Error::from(ErrorKind::OutOfBounds)
 }
 
-/// Writes a section of N words over the data of a struct, where it has as many and they are there.
+/// Writes a section of N words over the data of a struct, if the struct has as many words and they
+/// exist.
 #[inline(always)]
 fn set_section<A: BuilderArena, const N: usize>(
     memory: &mut Memory<A>,
@@ -38,7 +38,7 @@ fn set_section<A: BuilderArena, const N: usize>(
     Ok(())
 }
 
-/// The data of a wheel of a car, both by their numbers.
+/// Returns the data of a wheel of a car, both by their numbers.
 #[inline(always)]
 fn wheel_of(car: u32, wheel: u32) -> DataSection<1> {
     let mut data = DataSection::<1>::new();
@@ -48,7 +48,7 @@ fn wheel_of(car: u32, wheel: u32) -> DataSection<1> {
     data
 }
 
-/// The data of the engine of a car, by its number.
+/// Returns the data of the engine of a car, by its number.
 #[inline(always)]
 fn engine_of(car: u32) -> DataSection<1> {
     let mut data = DataSection::<1>::new();
@@ -60,7 +60,7 @@ fn engine_of(car: u32) -> DataSection<1> {
     data
 }
 
-/// The numbers and the truth values of a car, by its number.
+/// Returns the numbers and the truth values of a car, by its number.
 #[inline(always)]
 fn numbers_of(car: u32) -> DataSection<3> {
     let mut data = DataSection::<3>::new();
@@ -81,7 +81,7 @@ fn numbers_of(car: u32) -> DataSection<3> {
     data
 }
 
-/// Where a pointer of a struct stands.
+/// Returns the place of a pointer of a struct.
 fn pointer_of(place: StructPlace, index: usize) -> Place {
     Place {
         segment: place.start.segment,
@@ -93,7 +93,7 @@ fn pointer_of(place: StructPlace, index: usize) -> Place {
     }
 }
 
-/// Where an element of a list of structs lies, behind the tag.
+/// Returns the place of an element of a list of structs, from the place of its tag.
 fn element_of(tag: Place, size: StructSize, index: u32) -> StructPlace {
     let words = size.data_words as usize + size.pointers as usize;
     StructPlace {
@@ -119,7 +119,7 @@ fn set_text<A: BuilderArena>(memory: &mut Memory<A>, place: Place, text: &str) -
     PointerBuilder { memory, place }.set_text(text.as_bytes())
 }
 
-/// Makes a pointer lead to a struct, and returns where it lies.
+/// Makes a pointer lead to a struct, and returns the place of the struct.
 fn init_struct<A: BuilderArena>(
     memory: &mut Memory<A>,
     place: Place,
@@ -134,7 +134,7 @@ fn init_struct<A: BuilderArena>(
     Ok(pointer.init_struct(size)?.place)
 }
 
-/// Makes a pointer lead to a list of structs, and returns where its tag lies.
+/// Makes a pointer lead to a list of structs, and returns the place of its tag.
 fn init_structs<A: BuilderArena>(
     memory: &mut Memory<A>,
     place: Place,

@@ -8,7 +8,7 @@ use capnp_layout::{
     ElementSize, ListReader, PointerReader, ReadLimiter, ReaderArena, Result, StructReader,
 };
 
-/// The list of structs behind a pointer.
+/// Returns the list of structs that a pointer leads to.
 fn structs_behind<'a, A: ReaderArena>(
     pointer: PointerReader<'a, A>,
     limiter: &mut ReadLimiter,
@@ -18,7 +18,7 @@ fn structs_behind<'a, A: ReaderArena>(
     pointer.get_list(limiter, ElementSize::InlineComposite, None)
 }
 
-/// The length of a text.
+/// Returns the length of a text.
 fn length_of<A: ReaderArena>(
     car: &StructReader<'_, A>,
     field: usize,
@@ -28,14 +28,14 @@ fn length_of<A: ReaderArena>(
     Ok(text.len() as u64)
 }
 
-/// The sum of the numbers and the truth values of a wheel.
+/// Returns the sum of the numbers and the truth values of a wheel.
 fn sum_of_wheel<A: ReaderArena>(wheel: &StructReader<'_, A>) -> u64 {
     u64::from(wheel.get_data_field::<u16>(0))
         .wrapping_add(u64::from(wheel.get_data_field::<u32>(1)))
         .wrapping_add(u64::from(wheel.get_bool_field(16)))
 }
 
-/// The sum of the wheels of a car.
+/// Returns the sum of the wheels of a car.
 fn sum_of_wheels<A: ReaderArena>(
     car: &StructReader<'_, A>,
     limiter: &mut ReadLimiter,
@@ -48,7 +48,7 @@ fn sum_of_wheels<A: ReaderArena>(
     Ok(sum)
 }
 
-/// The sum of the numbers and the truth values of an engine.
+/// Returns the sum of the numbers and the truth values of an engine.
 fn sum_of_engine<A: ReaderArena>(engine: &StructReader<'_, A>) -> u64 {
     u64::from(engine.get_data_field::<u16>(0))
         .wrapping_add(u64::from(engine.get_data_field::<u8>(2)))
@@ -57,7 +57,7 @@ fn sum_of_engine<A: ReaderArena>(engine: &StructReader<'_, A>) -> u64 {
         .wrapping_add(u64::from(engine.get_bool_field(25)))
 }
 
-/// The sum of the numbers of a car's own data section.
+/// Returns the sum of the numbers of a car's own data section.
 fn sum_of_numbers<A: ReaderArena>(car: &StructReader<'_, A>) -> u64 {
     u64::from(car.get_data_field::<u16>(0))
         .wrapping_add(u64::from(car.get_data_field::<u8>(2)))
@@ -71,7 +71,7 @@ fn sum_of_numbers<A: ReaderArena>(car: &StructReader<'_, A>) -> u64 {
         .wrapping_add(u64::from(car.get_data_field::<u8>(11)))
 }
 
-/// The sum of the truth values of a car's own data section.
+/// Returns the sum of the truth values of a car's own data section.
 fn sum_of_truths<A: ReaderArena>(car: &StructReader<'_, A>) -> u64 {
     u64::from(car.get_bool_field(80))
         .wrapping_add(u64::from(car.get_bool_field(81)))
@@ -79,7 +79,8 @@ fn sum_of_truths<A: ReaderArena>(car: &StructReader<'_, A>) -> u64 {
         .wrapping_add(u64::from(car.get_bool_field(83)))
 }
 
-/// The sum of a car: the lengths of its make and its model, and all its numbers and truth values.
+/// Returns the sum of a car: the lengths of its make and its model, and all its numbers and truth
+/// values.
 fn sum_of_car<A: ReaderArena>(car: &StructReader<'_, A>, limiter: &mut ReadLimiter) -> Result<u64> {
     let make = length_of(car, MAKE, limiter)?;
     let model = length_of(car, MODEL, limiter)?;
@@ -95,7 +96,7 @@ fn sum_of_car<A: ReaderArena>(car: &StructReader<'_, A>, limiter: &mut ReadLimit
     )
 }
 
-/// The sum of the cars of a message.
+/// Returns the sum of the cars of a message.
 pub fn sum_of_cars<A: ReaderArena>(message: &A) -> Result<u64> {
     let mut limiter = ReadLimiter::new(None);
     let lot = PointerReader::get_root_from_arena(message)?.get_struct(&mut limiter, None)?;

@@ -1,7 +1,7 @@
 //! Reads, unpacks, packs, builds and accepts schemas, n times, so that instructions can be counted.
 //!
-//! The first word says what is done; `README.md` beside this folder has them all. What was done is
-//! printed on standard output, and how fast on standard error.
+//! The first word names the work; `README.md` beside this folder lists all of them. The result is
+//! printed on standard output, and the speed on standard error.
 #![tactic(auto)]
 
 mod building;
@@ -21,19 +21,19 @@ mod streams;
 
 use std::{env, io};
 
-/// How many structs are read where no number is given.
+/// The number of structs that are read if no number is given.
 const STRUCTS: u32 = 1_000_000;
 
-/// How many builder calls are made where no number is given.
+/// The number of builder calls that are made if no number is given.
 const CALLS: u32 = 100;
 
-/// How many cars are built or read where no number is given.
+/// The number of cars that are built or read if no number is given.
 const CARS: u32 = 50;
 
-/// How many nodes a set has where no number is given.
+/// The number of nodes of a set if no number is given.
 const NODES: u32 = 2_000;
 
-/// The words behind the program's name.
+/// The words after the program's name.
 struct Words {
     task: String,
     first: Option<String>,
@@ -41,7 +41,7 @@ struct Words {
     third: Option<String>,
 }
 
-/// The words; `None` where there is no first.
+/// Returns the words; `None` if there is no first word.
 fn words_given(rt: &HostRuntime) -> io::Result<Option<Words>> {
     let mut given = env::args(rt)?;
     let Some(task) = given.nth(1) else {
@@ -55,7 +55,7 @@ fn words_given(rt: &HostRuntime) -> io::Result<Option<Words>> {
     }))
 }
 
-/// The number that a word spells, else another.
+/// Returns the number that a word spells, otherwise another.
 fn number(word: &Option<String>, other: u32) -> u32 {
     match word {
         Some(text) => text.parse::<u32>().unwrap_or(other),
@@ -63,7 +63,7 @@ fn number(word: &Option<String>, other: u32) -> u32 {
     }
 }
 
-/// The word, else another.
+/// Returns the word, otherwise another.
 fn text<'a>(word: &'a Option<String>, other: &'a str) -> &'a str {
     match word {
         Some(text) => text.as_str(),

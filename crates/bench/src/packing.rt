@@ -20,15 +20,15 @@ fn write_words(out: &mut Vec<u8>, bytes: &[u8]) -> Result<()>
     PackedWrite { inner: out }.write_piece(bytes)
 }
 
-/// A number of a table.
+/// Returns a number of a table.
 fn number(bytes: &[u8; 4]) -> usize
     ensures { result < 2 ^ 32 }
 {
     u32::from_le_bytes(*bytes) as usize
 }
 
-/// The first word of a table: how many bytes the table has behind it, and how many the first
-/// segment has.
+/// Reads the first word of a table: returns the number of bytes of the table after it, and the
+/// number of bytes of the first segment.
 fn first_lengths(head: &[u8; 8]) -> (usize, usize)
     ensures table { result.0 % 8 ≡ 0 }
     ensures segment { result.1 % 8 ≡ 0 }
@@ -38,7 +38,7 @@ fn first_lengths(head: &[u8; 8]) -> (usize, usize)
     (table, number(&[e, f, g, h]) * 8)
 }
 
-/// The bytes of all segments, of which the first has n.
+/// Returns the number of bytes of all segments; the first segment has n.
 fn whole_length(first: usize, table: &[u8]) -> usize
     ensures { result % 8 ≡ 0 }
 {
@@ -51,8 +51,8 @@ fn whole_length(first: usize, table: &[u8]) -> usize
     whole / 8 * 8
 }
 
-/// Unpacks the next message, segments behind one another, and returns how many bytes its pieces
-/// have.
+/// Unpacks the next message, with its segments one after another, and returns the number of bytes
+/// of its pieces.
 pub fn unpack_message(source: &mut &[u8], words: &mut [u8]) -> Result<usize> {
     let mut head = [0u8; 8];
     read_words(source, &mut head)?;
@@ -69,7 +69,7 @@ pub fn unpack_message(source: &mut &[u8], words: &mut [u8]) -> Result<usize> {
     Ok(8 + table + segments)
 }
 
-/// Writes the first bytes as a segment, and returns those behind it.
+/// Writes the first bytes as a segment, and returns the bytes after them.
 fn pack_segment<'a>(out: &mut Vec<u8>, words: &'a [u8], len: usize) -> Result<&'a [u8]>
     requires { len % 8 ≡ 0 }
 {
@@ -81,7 +81,7 @@ fn pack_segment<'a>(out: &mut Vec<u8>, words: &'a [u8], len: usize) -> Result<&'
     Ok(behind)
 }
 
-/// Packs the framed message at the front, and returns the bytes behind it.
+/// Packs the framed message at the front, and returns the bytes after it.
 pub fn pack_message<'a>(out: &mut Vec<u8>, framed: &'a [u8]) -> Result<&'a [u8]> {
     let Some((head, behind)) = framed.split_first_chunk::<8>() else {
         return Err(Error::from(ErrorKind::PrematureEndOfFile));

@@ -7,7 +7,7 @@ use capnp_layout::{
     ElementSize, ListReader, PointerReader, ReadLimiter, ReaderArena, ReaderArenaImpl, Result,
 };
 
-/// The root as a list of structs.
+/// Returns the root as a list of structs.
 fn structs_at_root<'a, A: ReaderArena>(
     arena: &'a A,
     limiter: &mut ReadLimiter,
@@ -18,7 +18,7 @@ fn structs_at_root<'a, A: ReaderArena>(
     root.get_list(limiter, ElementSize::InlineComposite, None)
 }
 
-/// The sum of the first numbers of the structs, and how many of their pointers are null.
+/// Returns the sum of the first numbers of the structs, and the number of their null pointers.
 pub fn sum_of_structs(bytes: &[u8]) -> Result<(u64, u64)> {
     let segments: &[&[u8]] = &[bytes];
     let arena = ReaderArenaImpl::new(segments, 64);
@@ -34,7 +34,7 @@ pub fn sum_of_structs(bytes: &[u8]) -> Result<(u64, u64)> {
     Ok((sum, nulls))
 }
 
-/// How many bytes of the text at the root are the letter `a`.
+/// Returns the number of bytes of the text at the root that are the letter `a`.
 fn letters_at_root<A: ReaderArena>(arena: &A) -> Result<u64> {
     let mut limiter = ReadLimiter::new(None);
     let root = PointerReader::get_root_from_arena(arena)?;
@@ -46,7 +46,7 @@ fn letters_at_root<A: ReaderArena>(arena: &A) -> Result<u64> {
     Ok(letters)
 }
 
-/// How many bytes of the text are the letter `a`.
+/// Returns the number of bytes of the text that are the letter `a`.
 pub fn letters_of_text(bytes: &[u8]) -> Result<u64> {
     let segments: &[&[u8]] = &[bytes];
     letters_at_root(&ReaderArenaImpl::new(segments, 64))

@@ -7,7 +7,7 @@ use std::time::Instant;
 /// The most structs.
 const MOST: u32 = 10_000_000;
 
-/// Says how fast n bytes were read.
+/// Reports how fast n bytes were read.
 fn tell(rt: &HostRuntime, what: &str, bytes: usize, start: Instant) -> io::Result<()> {
     let micros = start.elapsed(rt)?.as_micros().max(1);
     let rate = bytes as u128 * 1_000_000 / micros;

@@ -7,8 +7,8 @@ fn push(bytes: &mut Vec<u8>, word: u64) -> Result<(), AllocError> {
     bytes.extend_from_slice(&word.to_le_bytes())
 }
 
-/// A list of n structs of one data word, which holds the element's index, and one null pointer. It
-/// is the root.
+/// Makes a list of n structs of one data word, which holds the element's index, and one null
+/// pointer. The list is the root.
 pub fn structs(alloc: Global, count: u32) -> Result<Vec<u8>, AllocError>
     requires { count < 2 ^ 28 }
 {
@@ -23,7 +23,7 @@ pub fn structs(alloc: Global, count: u32) -> Result<Vec<u8>, AllocError>
     Ok(bytes)
 }
 
-/// A text of n letters `a`. It is the root.
+/// Makes a text of n letters `a`. The text is the root.
 pub fn text(alloc: Global, len: u32) -> Result<Vec<u8>, AllocError>
     requires { len < 2 ^ 28 }
 {

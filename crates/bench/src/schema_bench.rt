@@ -1,4 +1,4 @@
-//! Says how fast sets of node records are accepted.
+//! Measures how fast sets of node records are accepted.
 use crate::schema_samples as samples;
 use capnp_records::fault::SchemaFault;
 use capnp_records::node::NodeRecord;
@@ -21,7 +21,7 @@ fn records(alloc: Global, word: &str, count: u32) -> Result<Vec<NodeRecord>, All
     }
 }
 
-/// Makes a set of the records that a word names, and prints what was accepted.
+/// Makes a set of the records that a word names, and prints the number of nodes accepted.
 fn accept(rt: &HostRuntime, word: &str, count: u32) -> io::Result<()> {
     let nodes = records(rt.alloc(), word, count)?;
     let count = nodes.len();
@@ -38,7 +38,7 @@ fn accept(rt: &HostRuntime, word: &str, count: u32) -> io::Result<()> {
     eprintln!(rt; "{count} nodes in {micros} us")
 }
 
-/// Makes sets of the records that a word names, n times; the records alone where that is none.
+/// Makes sets of the records that a word names, n times; only the records if n is 0.
 pub fn accept_all(rt: &HostRuntime, word: &str, count: u32, rounds: u32) -> io::Result<()> {
     if rounds == 0 {
         let nodes = records(rt.alloc(), word, count)?;

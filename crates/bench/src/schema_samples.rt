@@ -1,4 +1,4 @@
-//! Node records in great number.
+//! Large numbers of node records.
 
 use capnp_records::node::{
     BaseType, EnumerantRecord, FieldBody, FieldRecord, NO_DISCRIMINANT, NodeBody, NodeRecord,
@@ -20,7 +20,7 @@ fn list_of(base: BaseType) -> TypeRecord {
     }
 }
 
-/// A field in a slot, which is no union member.
+/// Makes a field in a slot, which isn't a union member.
 fn slot(
     alloc: Global,
     name: &str,
@@ -40,7 +40,7 @@ fn slot(
     })
 }
 
-/// A UInt16 that is a union member.
+/// Makes a UInt16 field that is a union member.
 fn member(
     alloc: Global,
     name: &str,
@@ -77,8 +77,8 @@ fn node(alloc: Global, id: u64, body: NodeBody) -> Result<NodeRecord, AllocError
     })
 }
 
-/// A struct of twelve fields: numbers, a text and data, a list of the next struct, an enum, a union
-/// of three and a group.
+/// Makes a struct of twelve fields: numbers, a text and data, a list of the next struct, an enum, a
+/// union of three and a group.
 fn record(
     alloc: Global,
     id: u64,
@@ -134,7 +134,7 @@ fn record(
     )
 }
 
-/// A group of a number and a text.
+/// Makes a group of a number and a text.
 fn small_group(alloc: Global, id: u64) -> Result<NodeRecord, AllocError> {
     let fields = vec![in alloc;
         slot(
@@ -160,7 +160,7 @@ fn small_group(alloc: Global, id: u64) -> Result<NodeRecord, AllocError> {
     )
 }
 
-/// An enum of eight enumerants.
+/// Makes an enum of eight enumerants.
 fn colours(alloc: Global, id: u64) -> Result<NodeRecord, AllocError> {
     let mut enumerants = Vec::new(alloc);
     for name in [
@@ -174,7 +174,7 @@ fn colours(alloc: Global, id: u64) -> Result<NodeRecord, AllocError> {
     node(alloc, id, NodeBody::Enum(enumerants))
 }
 
-/// At least n nodes, in threes: a struct, its group, and an enum.
+/// Makes at least n nodes, in threes: a struct, its group, and an enum.
 pub fn nodes(alloc: Global, count: u32) -> Result<Vec<NodeRecord>, AllocError> {
     let threes = u64::from(count / 3) + 1;
     let mut nodes = Vec::new(alloc);
@@ -187,7 +187,7 @@ pub fn nodes(alloc: Global, count: u32) -> Result<Vec<NodeRecord>, AllocError> {
     Ok(nodes)
 }
 
-/// One struct of n bytes, each a field.
+/// Makes one struct of n bytes, each a field.
 pub fn one_struct(alloc: Global, count: u32) -> Result<Vec<NodeRecord>, AllocError> {
     let mut fields = Vec::new(alloc);
     for i in 0..count {
@@ -213,7 +213,7 @@ pub fn one_struct(alloc: Global, count: u32) -> Result<Vec<NodeRecord>, AllocErr
     Ok(nodes)
 }
 
-/// n structs, each but the first a group in the one before.
+/// Makes n structs, each but the first a group in the previous one.
 pub fn chain(alloc: Global, count: u32) -> Result<Vec<NodeRecord>, AllocError> {
     let mut nodes = Vec::new(alloc);
     for i in 0..count {

@@ -6,10 +6,10 @@ use capnp_copy_arenas::allocator::Allocator;
 use capnp_units::errors::Result;
 use std::alloc::Global;
 
-/// How many words a segment has, unless more are asked for.
+/// The number of words of a segment, unless more are requested.
 const WORDS: u32 = 1 << 17;
 
-/// Hands out segments of a MiB, or as many words as are asked for.
+/// Hands out segments of a MiB, or of as many words as are requested.
 #[derive(Drop)]
 pub struct Large {
     pub alloc: Global,

@@ -7,7 +7,7 @@ use std::{fs, io};
 /// The most bytes of a message.
 const MOST: usize = 2 * 1024 * 1024;
 
-/// What was read or written in one round.
+/// The bytes that were read or written in one round.
 #[derive(Clone, Copy)]
 struct Round {
     messages: u64,
@@ -47,7 +47,7 @@ fn pack_all(framed: &[u8], out: &mut Vec<u8>) -> Result<Round> {
     })
 }
 
-/// A number that tells bytes apart.
+/// Returns a digest of bytes, to tell them apart.
 fn digest(bytes: &[u8]) -> u64 {
     let mut sum = 0xcbf2_9ce4_8422_2325u64;
     for byte in bytes {
@@ -56,12 +56,12 @@ fn digest(bytes: &[u8]) -> u64 {
     sum
 }
 
-/// Nanoseconds since a point in time.
+/// Returns the nanoseconds since a point in time.
 fn nanos(rt: &HostRuntime, start: Instant) -> io::Result<u64> {
     Ok(start.elapsed(rt)?.as_nanos().min(u64::MAX as u128) as u64)
 }
 
-/// Says how fast n packed bytes were read or written in the fastest round.
+/// Reports how fast n packed bytes were read or written in the fastest round.
 fn tell_best(rt: &HostRuntime, what: &str, bytes: usize, best: u64) -> io::Result<()> {
     let rate = bytes as u128 * 1_000_000_000 / best.max(1) as u128;
     eprintln!(rt; "{what}: {rate} bytes a second")

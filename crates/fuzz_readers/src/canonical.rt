@@ -1,4 +1,4 @@
-//! Canonical words of values, and who tells that they are.
+//! Canonical words of values, and the tests that judge them.
 
 use crate::copies::{Bounds, Outcome, is_as_told, is_copy};
 use crate::elements::Digest;
@@ -15,8 +15,8 @@ use capnp_wire_canonical::copy::write_canonical;
 use capnp_wire_objects::arena::{NullArena, ReaderArena};
 use capnp_wire_objects::place::Place;
 
-/// Whether words are told to be canonical, and to be no more and no less than their value has, in
-/// structs that are as small as they can be.
+/// Returns whether the tests find words canonical, and exactly the words of their value, in structs
+/// that are as small as possible.
 fn are_canonical(words: &[Word], levels: u32) -> bool {
     let copy: Backing<NullArena> = default_backing(words);
     let Ok(root) = PointerReader::get_root_from_arena(&copy) else {
@@ -38,7 +38,7 @@ fn are_canonical(words: &[Word], levels: u32) -> bool {
         && size.is_ok_and(|size| size.word_count < most && most - size.word_count == 1)
 }
 
-/// Whether a message of one segment is exactly these words.
+/// Returns whether a message of one segment is exactly these words.
 fn is_just(segments: &[Vec<u8>], words: &[Word]) -> bool {
     let [segment] = segments else {
         return false;
@@ -46,8 +46,8 @@ fn is_just(segments: &[Vec<u8>], words: &[Word]) -> bool {
     segment.get(..segment.len() / 8 * 8) == Some(words_as_bytes(words))
 }
 
-/// Whether a message is told to be canonical exactly where it is these words, and the test is
-/// refused only as its size is.
+/// Returns whether the test finds a message canonical exactly when it is these words, and refuses
+/// only as its size is refused.
 fn is_told_of<B: ReaderArena>(
     segments: &[Vec<u8>],
     source: &B,
@@ -63,8 +63,8 @@ fn is_told_of<B: ReaderArena>(
     paid && limiter.granted() <= told.granted && limiter.followed() <= told.followed
 }
 
-/// Writes the canonical words of a message's value. Whether they are told to be canonical, and read
-/// as its tree.
+/// Writes the canonical words of a message's value. Returns whether the tests find them canonical,
+/// and they read as the message's tree.
 pub fn goes_together<B: ReaderArena>(
     segments: &[Vec<u8>],
     source: &B,

@@ -1,4 +1,4 @@
-//! Copies of values, made over data that stand.
+//! Copies of values, made over existing data.
 ghost use Rattle.std.specs.Prelude.{◌≡◌};
 
 use crate::elements::Digest;
@@ -20,13 +20,13 @@ use capnp_wire_objects::arena::ReaderArena;
 use capnp_wire_objects::place::has_words;
 use std::alloc::Global;
 
-/// The data that a copy is made over.
+/// The data that a copy replaces.
 const STANDING: &[u8] = &[1, 2, 3];
 
-/// More segments than a copy has.
+/// A number of segments that no copy reaches.
 const SEGMENTS: u32 = 20_000;
 
-/// What a message is copied under: n words and m levels, into segments of k words.
+/// The bounds of a copy: n words and m levels, into segments of k words.
 #[derive(Clone, Copy)]
 pub struct Bounds {
     pub words: u32,
@@ -34,7 +34,7 @@ pub struct Bounds {
     pub segment: u32,
 }
 
-/// What came of a copy.
+/// The result of a copy.
 #[derive(Clone, Copy)]
 pub struct Outcome {
     pub answer: Result<()>,
@@ -42,8 +42,8 @@ pub struct Outcome {
     pub followed: u64,
 }
 
-/// Whether a copy is made or refused as the size of its value is told. A trimmed one is also
-/// refused at a capability, before which it may stop.
+/// Returns whether a copy is made or refused as the size of its value says. A trimmed copy is also
+/// refused at a capability, and may stop before it.
 pub fn is_as_told(outcome: Outcome, told: Walk, form: Form) -> bool {
     let all = outcome.granted == told.granted && outcome.followed == told.followed;
     match (outcome.answer, told.size) {
@@ -63,7 +63,7 @@ pub fn is_as_told(outcome: Outcome, told: Walk, form: Form) -> bool {
     }
 }
 
-/// How many bytes of a message aren't zero.
+/// Returns the number of bytes of a message that aren't zero.
 fn bytes_in_use<A: ReaderArena>(arena: &A) -> u64 {
     let mut count: u64 = 0;
     for id in 0..SEGMENTS {
@@ -79,7 +79,7 @@ fn bytes_in_use<A: ReaderArena>(arena: &A) -> u64 {
     count
 }
 
-/// Data at the root of an empty message.
+/// Puts data at the root of an empty message.
 fn begin<A: BuilderArena>(arena: &mut A) -> Result<()>
     ensures { A.books arena.new ≡ A.books arena.old }
 {
@@ -90,7 +90,7 @@ fn begin<A: BuilderArena>(arena: &mut A) -> Result<()>
     set_data(arena, ROOT, STANDING)
 }
 
-/// Whether the data stand, and no other byte is there than those before.
+/// Returns whether the data are unchanged, and no byte is there that wasn't before.
 fn stands<A: ReaderArena>(arena: &A, before: u64) -> bool {
     let Ok(root) = PointerReader::get_root_from_arena(arena) else {
         return false;
@@ -99,7 +99,7 @@ fn stands<A: ReaderArena>(arena: &A, before: u64) -> bool {
     data == Ok(STANDING) && bytes_in_use(arena) == before
 }
 
-/// Whether the roots of two messages lead to the same.
+/// Returns whether the roots of two messages lead to the same tree.
 pub fn is_copy<'a, A: ReaderArena, B: ReaderArena>(
     source: &'a A,
     copy: &'a B,
@@ -115,7 +115,7 @@ pub fn is_copy<'a, A: ReaderArena, B: ReaderArena>(
     are_same(one, other, form, levels)
 }
 
-/// Copies the root of a message over another's, where there is one.
+/// Copies the root of a message over another's, if there is one.
 fn copied_over<A: BuilderArena, B: ReaderArena>(
     arena: &mut A,
     limiter: &mut ReadLimiter,
@@ -135,8 +135,8 @@ fn copied_over<A: BuilderArena, B: ReaderArena>(
     }
 }
 
-/// Copies the root of a message into an arena. Whether it is the same there, and has the same
-/// canonical words, or is refused as is told and leaves what stood.
+/// Copies the root of a message into an arena. Returns whether the copy is the same and has the
+/// same canonical words, or is refused as the size says and leaves everything unchanged.
 fn copies_into<A: BuilderArena, B: ReaderArena>(
     arena: &mut A,
     source: &B,
@@ -172,8 +172,8 @@ fn copies_into<A: BuilderArena, B: ReaderArena>(
     good && is_as_told(outcome, told, form)
 }
 
-/// Copies the root of a message, whole or trimmed, into segments of its own. Whether the copy goes
-/// together with its source, and with what is told of it.
+/// Copies the root of a message, whole or trimmed, into segments of its own. Returns whether the
+/// copy agrees with its source, and with the size.
 pub fn goes_together<B: ReaderArena>(
     alloc: Global,
     source: &B,

@@ -6,11 +6,11 @@ use capnp_wire::element::PrimitiveElement;
 use capnp_wire::pointer::PointerReader;
 use capnp_wire_objects::arena::ReaderArena;
 
-/// Longer lists are read up to here; only lists of voids are longer in these messages, and those
-/// only where there is no limit of words.
+/// The most elements of a list that are read. Only lists of voids are longer in these messages, and
+/// only without a limit of words.
 const MOST: u32 = 10_000;
 
-/// A number that depends on all that was read.
+/// A number that depends on all values that were read.
 #[derive(Clone, Copy)]
 pub struct Digest(pub u64);
 
@@ -85,7 +85,7 @@ impl Shown for i64 {
     }
 }
 
-/// The elements of a list, read as one type.
+/// Reads the elements of a list as one type.
 fn read_as<'a, A: ReaderArena, T: PrimitiveElement + Shown>(
     pointer: PointerReader<'a, A>,
     limiter: &mut ReadLimiter,
@@ -103,7 +103,7 @@ fn read_as<'a, A: ReaderArena, T: PrimitiveElement + Shown>(
     }
 }
 
-/// The elements of a list, read as each type of plain elements.
+/// Reads the elements of a list as each type of plain elements.
 pub fn read_numbers<'a, A: ReaderArena>(
     pointer: PointerReader<'a, A>,
     limiter: &mut ReadLimiter,

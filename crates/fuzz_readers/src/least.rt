@@ -1,4 +1,4 @@
-//! Whether the structs of a message are as small as they can be, as readers see them.
+//! Tests whether the structs of a message are as small as possible, as readers see them.
 ghost use Rattle.std.specs.Prelude.{◌≢◌};
 ghost use Rattle.capnp_units.specs.Sizes.{size_number};
 ghost use Rattle.capnp_wire.specs.Views.{seen_list};
@@ -11,15 +11,14 @@ use capnp_wire::pointer::PointerReader;
 use capnp_wire::structs::StructReader;
 use capnp_wire_objects::arena::ReaderArena;
 
-/// Whether a struct needs its last word of data, and its last pointer. One that has none needs
-/// none.
+/// Whether a struct needs its last word of data, and its last pointer. True for an empty section.
 #[derive(Clone, Copy)]
 struct Ends {
     data: bool,
     pointers: bool,
 }
 
-/// Whether the last eight bytes aren't all zeros.
+/// Returns whether the last eight bytes aren't all zeros.
 fn is_last_in_use(section: &[u8]) -> bool {
     let Some(last) = section.get(section.len().saturating_sub(8)..) else {
         return false;
@@ -41,7 +40,8 @@ fn ends_of<A: ReaderArena>(value: StructReader<'_, A>) -> Ends {
     }
 }
 
-/// Whether all that a struct's pointers lead to is as small as it can be, up to n levels deep.
+/// Returns whether everything that a struct's pointers lead to is as small as possible, up to n
+/// levels deep.
 #[cycle(least)]
 fn are_fields_least<A: ReaderArena>(value: StructReader<'_, A>, levels: u32) -> bool {
     for i in 0..value.pointers() as usize {
@@ -52,7 +52,8 @@ fn are_fields_least<A: ReaderArena>(value: StructReader<'_, A>, levels: u32) -> 
     true
 }
 
-/// The same of a list of pointers.
+/// Returns whether everything that the pointers of a list lead to is as small as possible, up to n
+/// levels deep.
 #[cycle(least)]
 fn are_pointers_least<A: ReaderArena>(list: ListReader<'_, A>, levels: u32) -> bool {
     for i in 0..list.len() {
@@ -63,8 +64,8 @@ fn are_pointers_least<A: ReaderArena>(list: ListReader<'_, A>, levels: u32) -> b
     true
 }
 
-/// The same of a list of structs, and whether one of them needs the last word of data, and one the
-/// last pointer. Structs without words take no step.
+/// Returns whether the structs of a list are as small as possible, and one of them needs the last
+/// word of data, and one the last pointer. Structs without words take no step.
 #[cycle(least)]
 fn are_elements_least<A: ReaderArena>(list: ListReader<'_, A>, levels: u32) -> bool
     requires { size_number (seen_list A.segments list).size ≢ 1 }
@@ -87,7 +88,7 @@ fn are_elements_least<A: ReaderArena>(list: ListReader<'_, A>, levels: u32) -> b
     data && pointers
 }
 
-/// The same of any list.
+/// Returns whether a list of any kind is as small as possible.
 #[cycle(least)]
 fn is_list_least<A: ReaderArena>(list: ListReader<'_, A>, levels: u32) -> bool {
     match list.element_size() {
@@ -97,8 +98,8 @@ fn is_list_least<A: ReaderArena>(list: ListReader<'_, A>, levels: u32) -> bool {
     }
 }
 
-/// Whether the structs that a pointer leads to are as small as they can be, up to n levels deep,
-/// and none of its pointers is of a capability.
+/// Returns whether the structs that a pointer leads to are as small as possible, up to n levels
+/// deep, and none of its pointers is of a capability.
 #[cycle(least)]
 pub fn is_least<A: ReaderArena>(pointer: PointerReader<'_, A>, levels: u32) -> bool {
     match pointer.get_pointer_type() {

@@ -7,7 +7,7 @@ use capnp_wire_objects::arena::ReaderArena;
 use capnp_wire_objects::place::Place;
 use std::alloc::{AllocError, Global};
 
-/// Where the root pointer of a message stands.
+/// The place of the root pointer of a message.
 pub const ROOT: Place = Place {
     segment: 0,
     position: 0,
@@ -21,7 +21,7 @@ pub struct Lent {
 }
 
 impl Lent {
-    /// Room for n words each.
+    /// Makes room for n words each.
     pub fn new(alloc: Global, room: usize) -> Result<Lent, AllocError> {
         Ok(Lent {
             words: vec![in alloc; [0u8; 8]; room]?,
@@ -30,7 +30,7 @@ impl Lent {
     }
 }
 
-/// Whether two messages have the same canonical words, or none for the same reason.
+/// Returns whether two messages have the same canonical words, or none for the same reason.
 pub fn have_same_words<A: ReaderArena, B: ReaderArena>(
     one: &A,
     other: &B,

@@ -13,7 +13,7 @@ const NESTINGS: [i32; 5] = [64, 64, 2, 0, -1];
 
 const BUDGETS: [Option<u64>; 5] = [Some(8192), Some(8192), Some(100), Some(3), None];
 
-/// Limits by chance.
+/// Returns random limits.
 pub fn any(random: &mut Random) -> Limits {
     Limits {
         nesting: NESTINGS[random.below(5)],

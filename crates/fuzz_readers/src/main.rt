@@ -1,8 +1,8 @@
-//! Reads mutated messages, and ends with a status other than 0 where two walks over the same bytes
-//! don't go together.
+//! Reads mutated messages, and ends with a status other than 0 if two walks over the same bytes
+//! disagree.
 //!
-//! The number that is given to the program is that of the messages. What was read of all of them is
-//! in the digest, which is printed on standard output.
+//! The number that is given to the program is the number of messages. The digest of all values that
+//! were read is printed on standard output.
 #![tactic(auto)]
 
 mod canonical;
@@ -37,25 +37,25 @@ use walk::walk;
 /// The seed of the messages.
 const SEED: u64 = 1;
 
-/// How many messages are read where no number is given.
+/// The number of messages that are read if no number is given.
 const ROUNDS: u32 = 1000;
 
-/// The most levels of pointers that a message is walked by.
+/// The most levels of pointers of a walk over a message.
 const LEVELS: u32 = 8;
 
-/// How the messages were read.
+/// The outcome of the readings.
 #[derive(Drop)]
 enum Outcome {
-    /// What was read is in the digest.
+    /// All messages were read; the digest has their values.
     Read(Digest),
-    /// At the message of this number two walks didn't go together.
+    /// Two walks disagreed at the message of this number.
     Difference(u32),
 }
 
-/// How many words the segments have that copies are made in, in turn.
+/// The numbers of words of the segments for copies, in turn.
 const SEGMENTS: [u32; 4] = [1, 4, 64, 9000];
 
-/// What a message is copied under, unless no level may be followed at all.
+/// Returns the bounds of a message's copy, unless no level may be followed at all.
 fn bounds_of(limits: Limits, round: u32) -> Option<Bounds> {
     let words = limits.words.unwrap_or(MOST).min(MOST);
     Some(Bounds {
@@ -66,7 +66,7 @@ fn bounds_of(limits: Limits, round: u32) -> Option<Bounds> {
 }
 
 /// Copies a message whole and trimmed, and writes its canonical words, for which words are lent.
-/// Whether all of that goes together.
+/// Returns whether all of them agree.
 fn copy_message<A: ReaderArena>(
     alloc: Global,
     segments: &[Vec<u8>],
@@ -91,8 +91,8 @@ fn copy_message<A: ReaderArena>(
         )
 }
 
-/// Reads a message as each type that its pointers can be read as, and copies it. Whether the walks
-/// over it go together.
+/// Reads a message as each type that its pointers can be read as, and copies it. Returns whether
+/// the walks over the message agree.
 fn read_message(
     alloc: Global,
     limits: Limits,
@@ -115,7 +115,7 @@ fn read_message(
     }
 }
 
-/// Reads n mutated messages, or as many as go together.
+/// Reads n mutated messages, or stops at the first disagreement.
 fn read_all(alloc: Global, rounds: u32) -> Result<Outcome, AllocError> {
     let mut random = Random::new(SEED);
     let mut digest = Digest(0);
@@ -132,7 +132,7 @@ fn read_all(alloc: Global, rounds: u32) -> Result<Outcome, AllocError> {
     Ok(Outcome::Read(digest))
 }
 
-/// The number that is given to the program.
+/// Returns the number that is given to the program.
 fn rounds(rt: &HostRuntime) -> io::Result<u32> {
     let given = env::args(rt)?.nth(1);
     Ok(match given {
@@ -141,7 +141,7 @@ fn rounds(rt: &HostRuntime) -> io::Result<u32> {
     })
 }
 
-/// Reads the messages and says so. Whether all were read without a difference.
+/// Reads the messages and reports the outcome. Returns whether all were read without a difference.
 fn run(rt: &HostRuntime) -> io::Result<bool> {
     let rounds = rounds(rt)?;
     match read_all(rt.alloc(), rounds) {

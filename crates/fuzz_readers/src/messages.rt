@@ -3,10 +3,10 @@
 /// A struct with a number and a text, `(a = 7, t = "hi")`.
 const TEXT: &[&[u64]] = &[&[0x1_0001_0000_0000, 7, 0x1a_0000_0001, 0x6968]];
 
-/// A struct behind a landing pad of two words, in three segments.
+/// A struct that is reached over a landing pad of two words, in three segments.
 const DOUBLE_FAR: &[&[u64]] = &[&[0x1_0000_0006], &[0x2_0000_0002, 0x1_0000_0000], &[7]];
 
-/// A struct behind a landing pad of one word, in two segments.
+/// A struct that is reached over a landing pad of one word, in two segments.
 const FAR: &[&[u64]] = &[&[0x1_0000_0002], &[0x1_0000_0000, 99]];
 
 /// A list of two structs, each with a number and a null.
@@ -39,7 +39,7 @@ const NESTED: &[&[u64]] = &[&[
     0x2_0000_0003,
 ]];
 
-/// The message of a number below `COUNT`.
+/// Returns the message of a number below `COUNT`.
 pub fn base(number: usize) -> &'static [&'static [u64]] {
     match number {
         0 => TEXT,
@@ -51,5 +51,5 @@ pub fn base(number: usize) -> &'static [&'static [u64]] {
     }
 }
 
-/// How many messages there are.
+/// The number of messages.
 pub const COUNT: usize = 6;

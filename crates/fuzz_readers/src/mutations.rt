@@ -3,7 +3,7 @@
 use crate::random::Random;
 use std::alloc::{AllocError, Global};
 
-/// The words of each segment.
+/// Returns the words of each segment.
 fn copied(alloc: Global, base: &[&[u64]]) -> Result<Vec<Vec<u64>>, AllocError> {
     let mut segments = Vec::new(alloc);
     for words in base {
@@ -12,7 +12,7 @@ fn copied(alloc: Global, base: &[&[u64]]) -> Result<Vec<Vec<u64>>, AllocError> {
     Ok(segments)
 }
 
-/// A word of a message, or any number where the segment that is looked at has none.
+/// Returns a word of a message, or any number if the chosen segment has no words.
 fn any_word(random: &mut Random, segments: &[Vec<u64>]) -> u64 {
     if segments.is_empty() {
         return random.next();
@@ -26,8 +26,8 @@ fn any_word(random: &mut Random, segments: &[Vec<u64>]) -> u64 {
     words[at]
 }
 
-/// What takes the place of a word: the word with one bit flipped, another one of the message, or
-/// any number.
+/// Returns the replacement of a word: the word with one bit flipped, another word of the message,
+/// or any number.
 fn changed(random: &mut Random, word: u64, other: u64) -> u64 {
     match random.below(8) {
         0 => random.next(),
@@ -64,7 +64,7 @@ fn mutate(random: &mut Random, segments: &mut Vec<Vec<u64>>) -> Result<(), Alloc
     mutate_words(random, &mut segments[id], other)
 }
 
-/// The bytes of each segment, the last of which may end within a word.
+/// Returns the bytes of each segment; the last segment may end within a word.
 fn bytes_of(
     alloc: Global,
     random: &mut Random,
@@ -85,7 +85,7 @@ fn bytes_of(
     Ok(all)
 }
 
-/// A message with up to seven changes.
+/// Returns a message with up to seven changes.
 pub fn mutated(
     alloc: Global,
     random: &mut Random,

@@ -1,4 +1,4 @@
-//! Whether two pointers lead to the same tree, as readers see it.
+//! Tests whether two pointers lead to the same tree, as readers see it.
 ghost use Rattle.std.specs.Prelude.{◌≢◌};
 ghost use Rattle.capnp_units.specs.Sizes.{size_number};
 ghost use Rattle.capnp_wire.specs.Views.{seen_list};
@@ -12,7 +12,7 @@ use capnp_wire_objects::arena::ReaderArena;
 use capnp_wire_objects::follow::follow;
 use capnp_wire_objects::object::Object;
 
-/// How a copy stands to its source.
+/// The relation of a copy to its source.
 #[derive(Clone, Copy, PartialEq, Eq)]
 pub enum Form {
     /// Its structs have the same sizes.
@@ -22,7 +22,7 @@ pub enum Form {
     Trimmed,
 }
 
-/// The index of the capability that a pointer leads to.
+/// Returns the index of the capability that a pointer leads to.
 fn index_of<A: ReaderArena>(pointer: PointerReader<'_, A>) -> Option<u32> {
     let place = pointer.place()?;
     match follow(&pointer.backing(), &mut ReadLimiter::new(None), place) {
@@ -31,7 +31,7 @@ fn index_of<A: ReaderArena>(pointer: PointerReader<'_, A>) -> Option<u32> {
     }
 }
 
-/// Whether a section is the other, but for zeros behind it that the form lets go.
+/// Returns whether a section equals the other, except zeros at its end that the form drops.
 fn are_same_words(section: &[u8], copy: &[u8], form: Form) -> bool {
     let (Some(front), Some(rest)) = (section.get(..copy.len()), section.get(copy.len()..)) else {
         return false;
@@ -47,7 +47,7 @@ fn are_same_words(section: &[u8], copy: &[u8], form: Form) -> bool {
     front == copy
 }
 
-/// Whether n bits at the front of two sections are the same.
+/// Returns whether n bits at the front of two sections are the same.
 fn are_same_bits(section: &[u8], copy: &[u8], bits: usize) -> bool {
     let whole = bits / 8;
     if section.get(..whole) != copy.get(..whole) {
@@ -63,7 +63,7 @@ fn are_same_bits(section: &[u8], copy: &[u8], bits: usize) -> bool {
     }
 }
 
-/// Whether a struct is the other, its pointers followed up to n levels deep.
+/// Returns whether two structs are the same, with their pointers followed up to n levels deep.
 #[cycle(same)]
 fn are_same_structs<'a, A: ReaderArena, B: ReaderArena>(
     source: StructReader<'a, A>,
@@ -88,7 +88,7 @@ fn are_same_structs<'a, A: ReaderArena, B: ReaderArena>(
     true
 }
 
-/// The list behind a pointer, whatever its elements are.
+/// Returns the list of a pointer, with any kind of elements.
 pub fn any_list<'a, A: ReaderArena>(pointer: PointerReader<'a, A>) -> Option<ListReader<'a, A>> {
     let mut limiter = ReadLimiter::new(None);
     match pointer.get_list(&mut limiter, ElementSize::Void, None) {
@@ -97,7 +97,8 @@ pub fn any_list<'a, A: ReaderArena>(pointer: PointerReader<'a, A>) -> Option<Lis
     }
 }
 
-/// Whether the pointers of two lists of pointers lead to the same, up to n levels deep.
+/// Returns whether the pointers of two lists of pointers lead to the same trees, up to n levels
+/// deep.
 #[cycle(same)]
 fn are_same_pointers<'a, A: ReaderArena, B: ReaderArena>(
     source: ListReader<'a, A>,
@@ -115,8 +116,8 @@ fn are_same_pointers<'a, A: ReaderArena, B: ReaderArena>(
     true
 }
 
-/// Whether the structs of two lists are the same, up to n levels deep. Structs without words take
-/// no step.
+/// Returns whether the structs of two lists are the same, up to n levels deep. Structs without
+/// words take no step.
 #[cycle(same)]
 fn are_same_elements<'a, A: ReaderArena, B: ReaderArena>(
     source: ListReader<'a, A>,
@@ -140,7 +141,7 @@ fn are_same_elements<'a, A: ReaderArena, B: ReaderArena>(
     true
 }
 
-/// Whether two lists are the same, their pointers followed up to n levels deep.
+/// Returns whether two lists are the same, with their pointers followed up to n levels deep.
 #[cycle(same)]
 fn are_same_lists<'a, A: ReaderArena, B: ReaderArena>(
     source: ListReader<'a, A>,
@@ -165,7 +166,7 @@ fn are_same_lists<'a, A: ReaderArena, B: ReaderArena>(
     }
 }
 
-/// Whether two pointers lead to the same, up to n levels deep.
+/// Returns whether two pointers lead to the same tree, up to n levels deep.
 #[cycle(same)]
 pub fn are_same<'a, A: ReaderArena, B: ReaderArena>(
     source: PointerReader<'a, A>,

@@ -1,4 +1,4 @@
-//! Segments that copies are made in.
+//! Segments for copies.
 ghost use Rattle.std.specs.Prelude.{◌≡◌, []};
 ghost use Rattle.capnp_units.specs.declared.kinds.ErrorKind.TheVariants.{OutOfMemory};
 
@@ -6,7 +6,7 @@ use capnp_copy_arenas::allocator::Allocator;
 use capnp_units::errors::Result;
 use std::alloc::Global;
 
-/// Hands out segments of n words, or of more where more are asked for.
+/// Hands out segments of n words, or of more if more are requested.
 #[derive(Drop)]
 pub struct Slabs {
     pub alloc: Global,

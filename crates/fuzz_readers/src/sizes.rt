@@ -1,4 +1,4 @@
-//! Sizes of values, told in more than one way.
+//! Sizes of values, found in more than one way.
 
 use crate::elements::Digest;
 use crate::limits::Limits;
@@ -12,7 +12,7 @@ use capnp_wire_objects::arena::ReaderArena;
 /// The most words that a value is read within.
 pub const MOST: u64 = 8192;
 
-/// What a walk tells, and what it took.
+/// The answer of a walk, and the words and pointers that it used.
 #[derive(Clone, Copy)]
 pub struct Walk {
     pub size: Result<MessageSize, Error>,
@@ -20,7 +20,7 @@ pub struct Walk {
     pub followed: u64,
 }
 
-/// The size of a value, told within n words.
+/// Returns the size of a value, found within n words.
 pub fn size_within<A: ReaderArena>(root: PointerReader<'_, A>, words: Option<u64>) -> Walk {
     let mut limiter = ReadLimiter::new(words);
     let size = root.total_size(&mut limiter);
@@ -31,7 +31,8 @@ pub fn size_within<A: ReaderArena>(root: PointerReader<'_, A>, words: Option<u64
     }
 }
 
-/// Exactly the words that a walk took suffice for it, and one less doesn't.
+/// Returns whether exactly the words that a walk used suffice for the walk, and one word less
+/// doesn't.
 fn takes_just_that<A: ReaderArena>(root: PointerReader<'_, A>, free: Walk) -> bool {
     let just = size_within(root, Some(free.granted));
     if just.size != free.size || just.granted != free.granted || just.followed != free.followed {
@@ -46,14 +47,14 @@ fn takes_just_that<A: ReaderArena>(root: PointerReader<'_, A>, free: Walk) -> bo
         && less.followed <= free.followed
 }
 
-/// A limit that a walk doesn't reach changes nothing.
+/// Returns whether a limit that a walk doesn't reach changes nothing.
 fn is_same_within_more<A: ReaderArena>(root: PointerReader<'_, A>, free: Walk) -> bool {
     let more = size_within(root, Some(free.granted.max(MOST)));
     more.size == free.size && more.granted == free.granted && more.followed == free.followed
 }
 
-/// The size of the root's value within the limits, without a limit, within what it takes, and
-/// within more.
+/// Compares the sizes of the root's value within the limits, without a limit, within the words that
+/// the walk uses, and within more.
 pub fn go_together<A: ReaderArena>(
     root: PointerReader<'_, A>,
     limits: Limits,

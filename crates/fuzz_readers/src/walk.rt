@@ -1,5 +1,5 @@
-//! Reads all that a pointer leads to, as every type that it can be read as, with and without a
-//! default.
+//! Reads everything that a pointer leads to, as every type that it can be read as, with and without
+//! a default.
 ghost use Rattle.std.specs.Prelude.{◌≢◌, IfSome};
 ghost use Rattle.capnp_units.specs.Sizes.{size_number};
 ghost use Rattle.capnp_wire.specs.Views.{seen_list};
@@ -63,7 +63,7 @@ fn walk_fields<A: ReaderArena>(value: StructReader<'_, A>, digest: &mut Digest) 
     }
 }
 
-/// The pointers of a struct, up to n levels deep.
+/// Reads the pointers of a struct, up to n levels deep.
 #[cycle(walk)]
 fn walk_struct<A: ReaderArena>(
     value: StructReader<'_, A>,
@@ -78,7 +78,7 @@ fn walk_struct<A: ReaderArena>(
     }
 }
 
-/// The list as one of structs, where it can be read so.
+/// Returns the list as a list of structs, if it can be read so.
 fn structs_of<'a, A: ReaderArena>(
     pointer: PointerReader<'a, A>,
     limiter: &mut ReadLimiter,
@@ -90,7 +90,7 @@ fn structs_of<'a, A: ReaderArena>(
         .ok()
 }
 
-/// The elements of a list, up to n levels deep.
+/// Reads the elements of a list, up to n levels deep.
 #[cycle(walk)]
 fn walk_list<A: ReaderArena>(
     pointer: PointerReader<'_, A>,
@@ -110,7 +110,7 @@ fn walk_list<A: ReaderArena>(
     }
 }
 
-/// All that a pointer leads to, up to n levels deep.
+/// Reads everything that a pointer leads to, up to n levels deep.
 #[cycle(walk)]
 pub fn walk<A: ReaderArena>(
     pointer: PointerReader<'_, A>,
