@@ -1,4 +1,4 @@
-//! Whether message and tree go together.
+//! Tests whether a message and its tree agree.
 
 use crate::covered::is_covered;
 use crate::readers::is_value;
@@ -11,7 +11,7 @@ use std::alloc::{AllocError, Global};
 /// The most levels of pointers of a message.
 const LEVELS: u32 = 64;
 
-/// Whether what the readers see of a message is the tree, in words of its own, and every other word
+/// Returns whether the readers see the tree in a message, in words of its own, and every other word
 /// is zero.
 pub fn agrees<A: ReaderArena>(alloc: Global, arena: &A, tree: &Tree) -> Result<bool, AllocError> {
     let Ok(root) = PointerReader::get_root_from_arena(arena) else {

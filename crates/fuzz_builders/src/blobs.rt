@@ -1,4 +1,4 @@
-//! Texts and data: made, got and written, on both sides.
+//! Texts and data: made, read and written, on both sides.
 ghost use Rattle.std.specs.Prelude.{◌≡◌};
 
 use crate::handles::{FAR, handle};
@@ -14,10 +14,10 @@ use capnp_units::sizes::ElementSize;
 use capnp_wire_objects::place::{Place, has_words};
 use std::alloc::{AllocError, Global};
 
-/// The most bytes, and one.
+/// One more than the most bytes.
 const BYTES: usize = 20;
 
-/// n bytes by chance.
+/// Returns n random bytes.
 pub fn any_bytes(alloc: Global, random: &mut Random, count: usize) -> Result<Vec<u8>, AllocError> {
     let mut bytes = Vec::new(alloc);
     for _ in 0..count {
@@ -50,7 +50,7 @@ fn set_bytes<A: BuilderArena>(
     }
 }
 
-/// Where the data lie that are made at a pointer, of n zeros.
+/// Makes data of n zeros at a pointer, and returns their place.
 fn data_made<A: BuilderArena>(
     memory: &mut Memory<A>,
     place: Place,
@@ -67,7 +67,7 @@ fn data_made<A: BuilderArena>(
     }
 }
 
-/// Where the text lies that is made at a pointer, of n zeros.
+/// Makes a text of n zeros at a pointer, and returns its place.
 fn text_made<A: BuilderArena>(
     memory: &mut Memory<A>,
     place: Place,
@@ -85,7 +85,7 @@ fn text_made<A: BuilderArena>(
     }
 }
 
-/// Where the data lie that are got at a pointer.
+/// Gets the data at a pointer, and returns their place.
 fn data_got<A: BuilderArena>(memory: &mut Memory<A>, place: Place) -> Result<BlobPlace, ErrorKind>
     ensures { A.books memory.new.arena ≡ A.books memory.old.arena }
 {
@@ -98,7 +98,7 @@ fn data_got<A: BuilderArena>(memory: &mut Memory<A>, place: Place) -> Result<Blo
     }
 }
 
-/// Where the text lies that is got at a pointer.
+/// Gets the text at a pointer, and returns its place.
 fn text_got<A: BuilderArena>(memory: &mut Memory<A>, place: Place) -> Result<BlobPlace, ErrorKind>
     ensures { A.books memory.new.arena ≡ A.books memory.old.arena }
 {
@@ -112,7 +112,7 @@ fn text_got<A: BuilderArena>(memory: &mut Memory<A>, place: Place) -> Result<Blo
     }
 }
 
-/// A list of bytes: these, and a zero behind them where it is a text.
+/// Makes a list of bytes: these, followed by a zero if it is a text.
 fn node_of(alloc: Global, bytes: &[u8], is_text: bool) -> Result<Node, AllocError> {
     let count = bytes.len().saturating_add(usize::from(is_text));
     let shape = Shape::Numbers {
@@ -180,8 +180,8 @@ pub fn init_blob<A: BuilderArena>(
     }
 }
 
-/// How many bytes the text or the data have that a pointer leads to, without the zero at a text's
-/// end; none of null.
+/// Returns the number of bytes of the text or the data that a pointer leads to, without the zero at
+/// a text's end; 0 for null.
 fn blob_wanted(tree: &Tree, slot: Slot, is_text: bool) -> Result<u32, ErrorKind> {
     let count = match tree.shape_at(slot) {
         Shape::Null => return Ok(0),

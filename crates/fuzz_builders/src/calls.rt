@@ -1,4 +1,4 @@
-//! Builder calls by chance, each made on the message and on the tree.
+//! Random builder calls, each made on the message and on the tree.
 ghost use Rattle.std.specs.Prelude.{◌≡◌};
 
 use crate::blobs::{get_blob, init_blob, set_blob};
@@ -15,13 +15,13 @@ use capnp_units::sizes::{ElementSize, StructSize};
 use capnp_wire_objects::arena::ReaderArena;
 use std::alloc::{AllocError, Global};
 
-/// The most elements of a list, and one.
+/// One more than the most elements of a list.
 const ELEMENTS: usize = 20;
 
-/// The most structs of a list, and one.
+/// One more than the most structs of a list.
 const STRUCTS: usize = 5;
 
-/// What is done at a pointer.
+/// The action at a pointer.
 #[derive(Clone, Copy)]
 enum Task {
     Clear,
@@ -40,7 +40,7 @@ enum Task {
     CopyContentFrom,
 }
 
-/// Every task as likely as another, but for clearing.
+/// Chooses a task; all are equally likely, except clearing.
 fn any_task(random: &mut Random) -> Task {
     match random.below(27) {
         0 => Task::Clear,
@@ -60,7 +60,7 @@ fn any_task(random: &mut Random) -> Task {
     }
 }
 
-/// Mostly what the value is there for, else any task.
+/// Chooses a task: mostly one that suits the value, otherwise any.
 fn task_for(shape: Shape, random: &mut Random) -> Task {
     let is_other = random.below(2) == 0;
     match (random.below(3), shape) {
@@ -82,7 +82,7 @@ fn task_for(shape: Shape, random: &mut Random) -> Task {
     }
 }
 
-/// A size of structs.
+/// Chooses a size of structs.
 fn any_size(random: &mut Random) -> StructSize {
     StructSize {
         data_words: random.below(4) as u16,
@@ -90,7 +90,7 @@ fn any_size(random: &mut Random) -> StructSize {
     }
 }
 
-/// A size of elements that aren't structs.
+/// Chooses a size of elements that aren't structs.
 fn any_plain(random: &mut Random) -> ElementSize {
     match random.below(7) {
         0 => ElementSize::Void,
@@ -103,7 +103,7 @@ fn any_plain(random: &mut Random) -> ElementSize {
     }
 }
 
-/// A size of elements to ask for: mostly that of the list that is there.
+/// Chooses a size of elements to ask for: mostly the size of the list that is there.
 fn any_expected(shape: Shape, random: &mut Random) -> ElementSize {
     match (random.below(4), shape) {
         (0, _) => ElementSize::InlineComposite,
@@ -114,7 +114,7 @@ fn any_expected(shape: Shape, random: &mut Random) -> ElementSize {
     }
 }
 
-/// Makes a new value, gets what is there, or clears it, on the message and on the tree.
+/// Makes a new value, gets the value that is there, or clears it, on the message and on the tree.
 fn make<A: BuilderArena>(
     alloc: Global,
     memory: &mut Memory<A>,
@@ -179,7 +179,7 @@ fn copy<A: BuilderArena, B: ReaderArena>(
     }
 }
 
-/// Makes a call at a pointer by chance, on the message and on the tree; what is copied comes from
+/// Makes a call at a random pointer, on the message and on the tree; a copied value comes from
 /// another message with its tree.
 pub fn call<A: BuilderArena, B: ReaderArena>(
     alloc: Global,

@@ -19,10 +19,10 @@ use capnp_wire_objects::place::has_words;
 /// four and eight bytes.
 const MASKS: [u64; 5] = [1, 0xff, 0xffff, 0xffff_ffff, u64::MAX];
 
-/// How many kinds of fields there are.
+/// The number of kinds of fields.
 const KINDS: usize = 5;
 
-/// The first bit in its word of a field of a kind that has a bit.
+/// Returns the first bit in its word of a field of a kind that has a bit.
 fn shift(kind: usize, bit: usize) -> usize
     ensures { result < 64 }
 {
@@ -36,7 +36,7 @@ fn shift(kind: usize, bit: usize) -> usize
     }
 }
 
-/// A word with a number in the field of a kind that has a bit.
+/// Returns a word with a number in the field of a kind that has a bit.
 fn changed(word: u64, kind: usize, bit: usize, number: u64) -> u64
     requires { kind < 5 }
 {
@@ -45,7 +45,7 @@ fn changed(word: u64, kind: usize, bit: usize, number: u64) -> u64
     (word & !(mask << shift)) | ((number & mask) << shift)
 }
 
-/// Writes the field of a kind that has a bit. Whether it then is what was written.
+/// Writes the field of a kind that has a bit. Returns whether the field reads back as the number.
 fn set_field<A: BuilderArena>(
     object: &mut StructBuilder<'_, A>,
     kind: usize,
@@ -90,13 +90,14 @@ fn set_field<A: BuilderArena>(
     }
 }
 
-/// The number that a field of a kind has in its word once a value was set: numbers of two bytes
-/// have a default.
+/// Returns the number that a field of a kind has in its word once a value was set: numbers of two
+/// bytes have a default.
 fn stored(kind: usize, number: u64) -> u64 {
     if kind == 2 { number ^ 7 } else { number }
 }
 
-/// Of how many kinds of fields an element of a size can be written: as numbers that are no wider.
+/// Returns the number of kinds of fields as which an element of a size can be written: as numbers
+/// that are no wider.
 fn kinds_of(size: ElementSize) -> usize
     ensures { result ≤ 5 }
 {
@@ -110,8 +111,8 @@ fn kinds_of(size: ElementSize) -> usize
     }
 }
 
-/// Writes an element of a list of numbers as the field of a kind, at its lowest bits. Whether these
-/// then are what was written.
+/// Writes an element of a list of numbers as the field of a kind, at its lowest bits. Returns
+/// whether these bits read back as the number.
 #[tactic(auto, using(capnp_layout_builders::proofs::lemmas::Fronts::plain_front))]
 fn set_element<A: BuilderArena>(
     list: &mut ListBuilder<'_, A>,
@@ -155,7 +156,7 @@ fn set_element<A: BuilderArena>(
     }
 }
 
-/// Whether the structs at a node, or its elements, have a struct's sizes.
+/// Returns whether the structs at a node, or its elements, have a struct's sizes.
 fn has_sizes(tree: &Tree, id: usize, place: StructPlace) -> bool {
     match row_of(tree.shape_of(id)) {
         Some(row) => row.data_words == place.data_words && row.pointers == place.pointers,
@@ -163,8 +164,8 @@ fn has_sizes(tree: &Tree, id: usize, place: StructPlace) -> bool {
     }
 }
 
-/// Changes a field of a struct, whose words are the node's from one of its numbers on, on both
-/// sides.
+/// Changes a field of a struct, on both sides. The struct's words are the node's from one of the
+/// node's numbers on.
 pub fn change_struct<A: BuilderArena>(
     memory: &mut Memory<A>,
     tree: &mut Tree,
@@ -194,7 +195,7 @@ pub fn change_struct<A: BuilderArena>(
     Done::Made
 }
 
-/// Writes an element of a list of voids. Whether it is one.
+/// Writes an element of a list of voids. Returns whether the list is one.
 #[tactic(auto, using(capnp_layout_builders::proofs::lemmas::Fronts::plain_front))]
 fn set_nothing<A: BuilderArena>(memory: &mut Memory<A>, place: ListPlace, index: u32) -> bool
     ensures { A.books memory.new.arena ≡ A.books memory.old.arena }

@@ -1,4 +1,4 @@
-//! Contents of structs of another message that are taken over, on both sides.
+//! Contents of structs of another message that are copied, on both sides.
 ghost use Rattle.std.specs.Prelude.{◌≡◌};
 
 use crate::agreement::agrees;
@@ -20,8 +20,8 @@ use capnp_wire_objects::arena::ReaderArena;
 use capnp_wire_objects::place::has_words;
 use std::alloc::{AllocError, Global};
 
-/// A struct of the tree, where it lies in the message: the node's words and pointers from such ones
-/// on.
+/// A struct of the tree, and its place in the message: the words and pointers of a node, from given
+/// numbers on.
 #[derive(Clone, Copy)]
 struct Target {
     id: usize,
@@ -30,7 +30,8 @@ struct Target {
     place: StructPlace,
 }
 
-/// The struct that a pointer leads to, or one of a list of structs; `None` where there is none.
+/// Chooses the struct that a pointer leads to, or one of a list of structs; `None` if there is
+/// none.
 fn any_target<A: BuilderArena>(
     memory: &mut Memory<A>,
     tree: &Tree,
@@ -65,7 +66,7 @@ fn any_target<A: BuilderArena>(
     }
 }
 
-/// Puts the content of a struct to read into a struct.
+/// Sets the content of a struct to the content of a struct to read.
 fn copy_content<A: BuilderArena, B: ReaderArena>(
     memory: &mut Memory<A>,
     place: StructPlace,
@@ -85,13 +86,13 @@ fn copy_content<A: BuilderArena, B: ReaderArena>(
     }
 }
 
-/// The pointers of a struct that another has no place for are left out.
+/// Leaves out the pointers of a struct that another has no room for.
 fn cut(mut node: Node, place: StructPlace) -> Node {
     node.kids.truncate(place.pointers as usize);
     node
 }
 
-/// Puts the numbers of a node into a struct: as many as it has words, with zeros behind.
+/// Sets the numbers of a struct to those of a node: as many as it has words, followed by zeros.
 fn put_words(tree: &mut Tree, target: Target, from: usize) {
     for i in 0..target.place.data_words as usize {
         let word = tree.number(from, i);
@@ -99,7 +100,7 @@ fn put_words(tree: &mut Tree, target: Target, from: usize) {
     }
 }
 
-/// Makes a pointer of a struct lead where one of a node does, to null past its last.
+/// Makes a pointer of a struct lead to the target of a node's pointer, or to null past its last.
 fn put_pointer(tree: &mut Tree, target: Target, from: usize, index: usize) {
     let source = Slot {
         node: from,
@@ -113,8 +114,8 @@ fn put_pointer(tree: &mut Tree, target: Target, from: usize, index: usize) {
     tree.link(slot, id);
 }
 
-/// Takes over as many pointers as were copied before a refusal: the fewest with which the tree is
-/// what the readers see.
+/// Copies as many pointers as were copied before a refusal: the fewest with which the tree is the
+/// one that the readers see.
 fn put_some<A: BuilderArena>(
     alloc: Global,
     memory: &Memory<A>,
@@ -131,7 +132,7 @@ fn put_some<A: BuilderArena>(
     Ok(Done::Different)
 }
 
-/// Edits the tree by a content that was taken over, or in part.
+/// Edits the tree by a content that was copied, wholly or in part.
 fn take_over<A: BuilderArena>(
     alloc: Global,
     memory: &Memory<A>,
@@ -153,7 +154,7 @@ fn take_over<A: BuilderArena>(
     Ok(done)
 }
 
-/// Puts the content of a struct of another message into one that is there.
+/// Sets the content of a struct that is there to the content of a struct of another message.
 pub fn copy_content_from<A: BuilderArena, B: ReaderArena>(
     alloc: Global,
     memory: &mut Memory<A>,

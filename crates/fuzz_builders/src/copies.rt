@@ -20,10 +20,10 @@ use capnp_wire_objects::arena::ReaderArena;
 use capnp_wire_objects::place::{Place, has_words};
 use std::alloc::{AllocError, Global};
 
-/// More words than most values cost, and one.
+/// One more than the words of most values.
 const WORDS: usize = 60;
 
-/// A limit of words, now and then.
+/// Returns a limit of words, now and then.
 pub fn any_limit(random: &mut Random) -> Option<u64> {
     if random.below(4) == 0 {
         Some(random.below(WORDS) as u64)
@@ -32,8 +32,8 @@ pub fn any_limit(random: &mut Random) -> Option<u64> {
     }
 }
 
-/// The outcome of a copy: it is paid for, with two words of pads at most for each value. It is
-/// refused where the limit hasn't as much, or where there is no room.
+/// Returns the outcome of a copy. The copy is paid for, with two words of pads at most for each
+/// value. The copy is refused if the limit hasn't as many words, or if there is no room.
 pub fn copy_judged(
     refusal: Option<ErrorKind>,
     graft: Graft,
@@ -49,7 +49,7 @@ pub fn copy_judged(
     }
 }
 
-/// Puts a copy of a pointer's value in place of a pointer's.
+/// Replaces a pointer's value with a copy of another pointer's value.
 fn copy_pointer<A: BuilderArena, B: ReaderArena>(
     memory: &mut Memory<A>,
     place: Place,
@@ -67,7 +67,7 @@ fn copy_pointer<A: BuilderArena, B: ReaderArena>(
     }
 }
 
-/// Puts a copy of a struct in place of a pointer's value.
+/// Replaces a pointer's value with a copy of a struct.
 fn copy_struct<A: BuilderArena, B: ReaderArena>(
     memory: &mut Memory<A>,
     place: Place,
@@ -85,7 +85,7 @@ fn copy_struct<A: BuilderArena, B: ReaderArena>(
     }
 }
 
-/// Puts a copy of a list in place of a pointer's value.
+/// Replaces a pointer's value with a copy of a list.
 fn copy_list<A: BuilderArena, B: ReaderArena>(
     memory: &mut Memory<A>,
     place: Place,
@@ -166,7 +166,8 @@ pub fn set_struct<A: BuilderArena, B: ReaderArena>(
     Ok(done)
 }
 
-/// Copies the list that a pointer of another message leads to, read as one of elements of a size.
+/// Copies the list that a pointer of another message leads to, read as a list of elements of a
+/// size.
 fn set_list_as<A: BuilderArena, B: ReaderArena>(
     memory: &mut Memory<A>,
     place: Place,
@@ -181,8 +182,8 @@ fn set_list_as<A: BuilderArena, B: ReaderArena>(
     copy_judged(refusal_of(&copied), graft, limit, limiter.granted())
 }
 
-/// Copies the list that a pointer of another message leads to, read as one of elements of a size by
-/// chance.
+/// Copies the list that a pointer of another message leads to, read as a list of elements of a
+/// random size.
 pub fn set_list<A: BuilderArena, B: ReaderArena>(
     alloc: Global,
     memory: &mut Memory<A>,

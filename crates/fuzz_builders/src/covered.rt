@@ -1,5 +1,5 @@
-//! Whether the objects in a message are those of the tree, apart from each other, and all other
-//! words are zero.
+//! Tests whether the objects in a message are those of the tree, don't overlap, and all other words
+//! are zero.
 
 use crate::tree::{Shape, Tree};
 use capnp_units::sizes::ElementSize;
@@ -15,17 +15,17 @@ pub const ROOT: Place = Place {
     position: 0,
 };
 
-/// More segments than a message here has.
+/// A number of segments that no message here reaches.
 const SEGMENTS: u32 = 10_000;
 
-/// Which words of each segment belong to an object or a pad.
+/// The words of each segment that belong to an object or a pad.
 #[derive(Drop)]
 pub struct Marks {
     segments: Vec<Vec<bool>>,
 }
 
 impl Marks {
-    /// No word of an arena's segments.
+    /// Marks no word of an arena's segments.
     fn none<A: ReaderArena>(alloc: Global, arena: &A) -> Result<Marks, AllocError> {
         let mut segments = Vec::new(alloc);
         for id in 0..SEGMENTS {
@@ -39,7 +39,7 @@ impl Marks {
         Ok(Marks { segments })
     }
 
-    /// Marks n words from a place on. Whether all are there and none was marked.
+    /// Marks n words from a place on. Returns whether all exist and none was marked.
     fn mark(&mut self, start: Place, count: usize) -> bool {
         let index = start.segment as usize;
         if index >= self.segments.len() {
@@ -59,7 +59,7 @@ impl Marks {
         true
     }
 
-    /// Whether each word that isn't marked is zero.
+    /// Returns whether each word that isn't marked is zero.
     fn others_are_zero<A: ReaderArena>(&self, arena: &A) -> bool {
         let mut segment = 0u32;
         for words in &self.segments {
@@ -76,7 +76,7 @@ impl Marks {
     }
 }
 
-/// The place n words on.
+/// Returns the place n words later.
 pub fn after(place: Place, words: usize) -> Place {
     Place {
         segment: place.segment,
@@ -84,8 +84,8 @@ pub fn after(place: Place, words: usize) -> Place {
     }
 }
 
-/// Where the pointer of a value lies, by its number among all the pointers of an object of this
-/// shape, which begins at a place.
+/// Returns the place of a pointer of a value, by its number among all the pointers of an object of
+/// this shape, which begins at a place.
 pub fn pointer_place(start: Place, shape: Shape, index: usize) -> Place {
     match shape {
         Shape::Struct { data_words, .. } => after(
@@ -107,7 +107,7 @@ pub fn pointer_place(start: Place, shape: Shape, index: usize) -> Place {
     }
 }
 
-/// Where an object begins and how many words it has, where it is one of a shape.
+/// Returns the beginning of an object and its number of words, if it has a shape.
 pub fn span_of(object: NamedObject, shape: Shape) -> Option<(Place, usize)> {
     match (object, shape) {
         (
@@ -161,7 +161,7 @@ pub fn span_of(object: NamedObject, shape: Shape) -> Option<(Place, usize)> {
     }
 }
 
-/// The same of a list of numbers.
+/// Returns the beginning of a list of numbers and its number of words.
 fn numbers_span(start: Place, size: ElementSize, count: u32) -> Option<(Place, usize)> {
     match size {
         ElementSize::Pointer | ElementSize::InlineComposite => None,
@@ -169,7 +169,7 @@ fn numbers_span(start: Place, size: ElementSize, count: u32) -> Option<(Place, u
     }
 }
 
-/// Whether the tag of a list of structs, where one has to be, tells their count and sizes.
+/// Returns whether the tag of a list of structs, if there must be one, has their count and sizes.
 fn tag_is<A: ReaderArena>(arena: &A, start: Place, shape: Shape) -> bool {
     let Shape::Structs {
         count,
@@ -183,8 +183,8 @@ fn tag_is<A: ReaderArena>(arena: &A, start: Place, shape: Shape) -> bool {
     word_at(arena, start) == Some((count as u64) << 2 | sizes << 32)
 }
 
-/// Marks the words of what a pointer leads to, with its pads, up to n levels deep. Whether the
-/// objects are those of the node and lie apart.
+/// Marks the words of the object of a pointer, with its pads, up to n levels deep. Returns whether
+/// the objects are those of the node and don't overlap.
 #[cycle(cover)]
 fn cover<A: ReaderArena>(
     arena: &A,
@@ -224,8 +224,8 @@ fn cover<A: ReaderArena>(
     true
 }
 
-/// Whether the objects that the root leads to are those of the tree, each in words of its own, and
-/// every other word is zero.
+/// Returns whether the objects that the root leads to are those of the tree, each in words of its
+/// own, and every other word is zero.
 pub fn is_covered<A: ReaderArena>(
     alloc: Global,
     arena: &A,

@@ -1,5 +1,5 @@
-//! Values that are got where a pointer names them, and so made and widened, on both sides, and a
-//! number of them set.
+//! Gets of values at a pointer, which make and widen them on both sides, and sets of a number in
+//! them.
 ghost use Rattle.std.specs.Prelude.{◌≡◌};
 
 use crate::changes::{change_list, change_struct};
@@ -55,7 +55,8 @@ pub fn get_struct<A: BuilderArena>(
     }
 }
 
-/// Whether a list that was got is the value of a pointer, null as the empty list of a size.
+/// Returns whether a list that `get` returned is the value of a pointer, or for null the empty list
+/// of a size.
 fn is_list(tree: &Tree, slot: Slot, list: ListPlace, expected: ElementSize) -> bool {
     match tree.shape_at(slot) {
         Shape::Null => list.count == 0 && list.size == expected,
@@ -75,7 +76,7 @@ fn is_list(tree: &Tree, slot: Slot, list: ListPlace, expected: ElementSize) -> b
     }
 }
 
-/// Gets a list with elements that can be read as ones of a size, and sets one of them.
+/// Gets a list with elements that can be read as elements of a size, and sets one of them.
 pub fn get_list<A: BuilderArena>(
     memory: &mut Memory<A>,
     tree: &mut Tree,

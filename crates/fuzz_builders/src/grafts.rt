@@ -3,24 +3,24 @@
 use crate::tree::{Node, Shape, Slot, Tree};
 use std::alloc::{AllocError, Global};
 
-/// How deep a value is at most that is copied.
+/// The most levels of a value that is copied.
 const LEVELS: u32 = 12;
 
-/// More nodes than a value has that is copied.
+/// A number of nodes that no copied value reaches.
 const NODES: usize = 100;
 
-/// A copy of a value whose pointers have copies of theirs.
+/// A copy of a value whose pointers lead to copies of their values.
 #[derive(Clone, Copy)]
 pub struct Graft {
     /// The copy, in its new tree.
     pub id: usize,
-    /// How many values were copied, with it.
+    /// The number of values that were copied, including this one.
     pub nodes: u64,
-    /// What reading it costs, in words, without pads.
+    /// The cost of reading it, in words, without pads.
     pub cost: u64,
 }
 
-/// A copy of a sequence.
+/// Returns a copy of a sequence.
 pub fn copied<T: Copy>(alloc: Global, items: &[T]) -> Result<Vec<T>, AllocError> {
     let mut all = Vec::new(alloc);
     for item in items {
@@ -29,8 +29,8 @@ pub fn copied<T: Copy>(alloc: Global, items: &[T]) -> Result<Vec<T>, AllocError>
     Ok(all)
 }
 
-/// What following a pointer to a value costs: its words, with a list's tag; a list of elements
-/// without bits costs a word for each.
+/// Returns the cost of following a pointer to a value: its words, with a list's tag; a list of
+/// elements without bits costs a word for each.
 fn cost_of(shape: Shape, numbers: usize) -> u64 {
     match shape {
         Shape::Null => 0,
@@ -59,7 +59,7 @@ fn cost_of(shape: Shape, numbers: usize) -> u64 {
 }
 
 impl Tree {
-    /// A copy of a node, whose pointers lead to the same nodes.
+    /// Returns a copy of a node, whose pointers lead to the same nodes.
     pub fn node_copied(&self, alloc: Global, id: usize) -> Result<Node, AllocError> {
         match self.nodes.get(id) {
             Some(node) => Ok(Node {
@@ -75,8 +75,8 @@ impl Tree {
         }
     }
 
-    /// Puts copies in place of the values of another tree that a node's pointers lead to. What they
-    /// cost.
+    /// Replaces the values of another tree that a node's pointers lead to with copies. Returns
+    /// their cost.
     fn adopt_kids(&mut self, alloc: Global, from: &Tree, id: usize) -> Result<u64, AllocError> {
         let mut cost: u64 = 0;
         for kid in 0..self.kids_of(id) {
@@ -90,8 +90,8 @@ impl Tree {
         Ok(cost)
     }
 
-    /// Adds a node whose pointers lead to values of another tree, and copies of them. It stands
-    /// alone, and costs nothing itself; `None` where it is too large.
+    /// Adds a node whose pointers lead to values of another tree, and copies of them. No pointer
+    /// leads to the node, and it costs nothing itself; `None` if it is too large.
     pub fn adopt(
         &mut self,
         alloc: Global,
@@ -119,7 +119,7 @@ impl Tree {
         Ok(None)
     }
 
-    /// A copy of a value of another tree, which costs its words; `None` where it is too large.
+    /// Returns a copy of a value of another tree, which costs its words; `None` if it is too large.
     pub fn adopt_value(
         &mut self,
         alloc: Global,

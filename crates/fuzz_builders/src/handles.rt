@@ -1,4 +1,4 @@
-//! Handles, made where a pointer lies, and the places that they give.
+//! Handles, made at the place of a pointer, and the places that they give.
 ghost use Rattle.std.specs.Prelude.{◌≡◌, ◌+◌, ◌*◌, ◌<◌, ◌≤◌, ◌^◌};
 ghost use Rattle.capnp_units.specs.Sizes.{size_number};
 
@@ -15,7 +15,7 @@ use capnp_wire_objects::place::{Place, has_words};
 /// Positions that are too far for a handle.
 pub const FAR: usize = 1 << 60;
 
-/// The handle of a pointer that is there.
+/// Returns the handle of a pointer that is there.
 pub fn handle<'a, A: BuilderArena>(memory: &'a mut Memory<A>, place: Place) -> PointerBuilder<'a, A>
     ensures same { result.memory.ghost_name ≡ memory.entry.ghost_name }
     ensures now { result.memory.now ≡ memory.old }
@@ -24,7 +24,7 @@ pub fn handle<'a, A: BuilderArena>(memory: &'a mut Memory<A>, place: Place) -> P
     PointerBuilder { memory, place }
 }
 
-/// Where the struct lies that is got at a pointer.
+/// Gets the struct at a pointer, and returns its place.
 pub fn struct_got<A: BuilderArena>(
     memory: &mut Memory<A>,
     place: Place,
@@ -41,7 +41,7 @@ pub fn struct_got<A: BuilderArena>(
     }
 }
 
-/// Where the list lies that is got at a pointer.
+/// Gets the list at a pointer, and returns its place.
 pub fn list_got<A: BuilderArena>(
     memory: &mut Memory<A>,
     place: Place,
@@ -58,7 +58,7 @@ pub fn list_got<A: BuilderArena>(
     }
 }
 
-/// Where the list of structs lies that is got at a pointer.
+/// Gets the list of structs at a pointer, and returns its place.
 pub fn structs_got<A: BuilderArena>(
     memory: &mut Memory<A>,
     place: Place,
@@ -75,7 +75,7 @@ pub fn structs_got<A: BuilderArena>(
     }
 }
 
-/// A pointer of a struct.
+/// Returns a pointer of a struct.
 fn field_of<'a, A: BuilderArena>(
     memory: &'a mut Memory<A>,
     place: StructPlace,
@@ -89,7 +89,7 @@ fn field_of<'a, A: BuilderArena>(
     StructBuilder { memory, place }.get_pointer_field(index)
 }
 
-/// A pointer of a list of pointers.
+/// Returns a pointer of a list of pointers.
 fn item_of<'a, A: BuilderArena>(
     memory: &'a mut Memory<A>,
     place: ListPlace,
@@ -104,7 +104,7 @@ fn item_of<'a, A: BuilderArena>(
     ListBuilder { memory, place }.get_pointer_element(index)
 }
 
-/// A struct of a list of structs.
+/// Returns a struct of a list of structs.
 fn element_of<'a, A: BuilderArena>(
     memory: &'a mut Memory<A>,
     place: ListPlace,
@@ -120,7 +120,7 @@ fn element_of<'a, A: BuilderArena>(
     ListBuilder { memory, place }.get_struct_element(index)
 }
 
-/// Where a pointer of a struct lies.
+/// Returns the place of a pointer of a struct.
 pub fn pointer_in<A: BuilderArena>(
     memory: &mut Memory<A>,
     place: StructPlace,
@@ -134,7 +134,7 @@ pub fn pointer_in<A: BuilderArena>(
     Some(field_of(memory, place, index).place)
 }
 
-/// Where a pointer of a list of pointers lies.
+/// Returns the place of a pointer of a list of pointers.
 pub fn pointer_of<A: BuilderArena>(
     memory: &mut Memory<A>,
     place: ListPlace,
@@ -148,7 +148,7 @@ pub fn pointer_of<A: BuilderArena>(
     Some(item_of(memory, place, index).place)
 }
 
-/// Where a struct of a list of structs lies.
+/// Returns the place of a struct of a list of structs.
 pub fn struct_of<A: BuilderArena>(
     memory: &mut Memory<A>,
     place: ListPlace,

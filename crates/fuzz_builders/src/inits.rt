@@ -16,7 +16,7 @@ use capnp_units::sizes::{ElementSize, StructSize};
 use capnp_wire_objects::place::{Place, has_words};
 use std::alloc::{AllocError, Global};
 
-/// Where the struct lies that is made at a pointer.
+/// Makes a struct at a pointer, and returns its place.
 fn struct_made<A: BuilderArena>(
     memory: &mut Memory<A>,
     place: Place,
@@ -33,7 +33,7 @@ fn struct_made<A: BuilderArena>(
     }
 }
 
-/// Where the list lies that is made at a pointer, of numbers or of pointers.
+/// Makes a list of numbers or of pointers at a pointer, and returns its place.
 fn list_made<A: BuilderArena>(
     memory: &mut Memory<A>,
     place: Place,
@@ -54,7 +54,7 @@ fn list_made<A: BuilderArena>(
     }
 }
 
-/// Where the list of structs lies that is made at a pointer.
+/// Makes a list of structs at a pointer, and returns its place.
 fn structs_made<A: BuilderArena>(
     memory: &mut Memory<A>,
     place: Place,

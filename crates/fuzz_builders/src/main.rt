@@ -1,8 +1,8 @@
-//! Builds messages by chance in small segments, and a tree beside each. It ends with a status other
-//! than 0 where what is read isn't the tree, or a word that belongs to no value isn't zero.
+//! Builds random messages in small segments, and a tree beside each. Ends with a status other than
+//! 0 if the values that are read aren't the tree, or a word that belongs to no value isn't zero.
 //!
-//! The number that is given to the program is that of the calls. What became of each is in the
-//! digest, which is printed on standard output.
+//! The number that is given to the program is the number of calls. The digest of their outcomes is
+//! printed on standard output.
 #![tactic(auto)]
 
 ghost use Rattle.std.specs.Prelude.{◌≡◌, ◌≤◌, length};
@@ -41,14 +41,14 @@ use std::process::ExitCode;
 use std::{env, io};
 use tree::Tree;
 
-/// How many calls are made where no number is given.
+/// The number of calls that are made if no number is given.
 const CALLS: u32 = 1000;
 
-/// How many calls are made on two messages that copy from each other.
+/// The number of calls that are made on two messages that copy from each other.
 const CALLS_A_PAIR: u32 = 100;
 
-/// Makes a call, which may copy from another message, and tells whether message and tree then go
-/// together.
+/// Makes a call, which may copy from another message, and returns whether message and tree agree
+/// after it.
 fn step<A: BuilderArena, B: BuilderArena>(
     alloc: Global,
     memory: &mut Memory<A>,
@@ -66,7 +66,7 @@ fn step<A: BuilderArena, B: BuilderArena>(
     Ok(done != Done::Different && agrees(alloc, &memory.arena, tree)?)
 }
 
-/// Makes the word of a message's root pointer. Whether it is the first.
+/// Makes the word of a message's root pointer. Returns whether it is the first.
 fn begin<A: BuilderArena>(memory: &mut Memory<A>) -> bool
     ensures { A.books memory.new.arena ≡ A.books memory.old.arena }
 {
@@ -76,7 +76,7 @@ fn begin<A: BuilderArena>(memory: &mut Memory<A>) -> bool
     }
 }
 
-/// Builds two messages by n calls. Whether they went together with their trees after each.
+/// Builds two messages by n calls. Returns whether they agreed with their trees after each call.
 fn build<A: BuilderArena, B: BuilderArena>(
     alloc: Global,
     memory: &mut Memory<A>,
@@ -102,7 +102,7 @@ fn build<A: BuilderArena, B: BuilderArena>(
     Ok(true)
 }
 
-/// Builds two messages in segments of allocators, which are handed back.
+/// Builds two messages in segments of allocators, which are returned.
 fn build_in<A: Allocator + Drop>(
     alloc: Global,
     allocators: (A, A),
@@ -124,8 +124,8 @@ fn build_in<A: Allocator + Drop>(
     (good, arena.into_allocator(), second.into_allocator())
 }
 
-/// Builds pairs of messages by n calls. The number of the first pair that differs from its trees,
-/// if there is one.
+/// Builds pairs of messages by n calls. Returns the number of the first pair that differs from its
+/// trees, if there is one.
 fn build_all(alloc: Global, calls: u32, digest: &mut Digest) -> Result<Option<u32>, AllocError> {
     for pair in 0..calls / CALLS_A_PAIR {
         let seed = 2 * pair as u64;
@@ -139,7 +139,7 @@ fn build_all(alloc: Global, calls: u32, digest: &mut Digest) -> Result<Option<u3
     Ok(None)
 }
 
-/// The number that is given to the program.
+/// Returns the number that is given to the program.
 fn calls_asked(rt: &HostRuntime) -> io::Result<u32> {
     let given = env::args(rt)?.nth(1);
     Ok(match given {
@@ -148,7 +148,7 @@ fn calls_asked(rt: &HostRuntime) -> io::Result<u32> {
     })
 }
 
-/// Builds the messages and says so. Whether none differed.
+/// Builds the messages and reports the outcome. Returns whether none differed.
 fn run(rt: &HostRuntime) -> io::Result<bool> {
     let calls = calls_asked(rt)?;
     let mut digest = Digest(0);

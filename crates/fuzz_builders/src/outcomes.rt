@@ -1,31 +1,31 @@
-//! What became of a call, and whether it is what the rules say.
+//! The outcome of a call, and whether it follows the rules.
 
 use capnp_units::kinds::ErrorKind;
 
-/// What became of a call.
+/// The outcome of a call.
 #[derive(Clone, Copy, Debug, PartialEq, Eq)]
 pub enum Done {
     /// It was made, and the tree is edited.
     Made,
-    /// It was refused, and the tree is as it was.
+    /// It was refused, and the tree is unchanged.
     Refused,
-    /// What was got isn't what the tree has, what has to be there isn't, or the call was refused
-    /// for another reason than the rules give.
+    /// The returned value isn't the tree's, a value that must be there isn't, or the call was
+    /// refused for another reason than the rules give.
     Different,
 }
 
-/// What a call has to answer.
+/// The answer that a call must give.
 #[derive(Clone, Copy, Debug, PartialEq, Eq)]
 pub enum Wanted {
     /// It takes no words, and is made.
     Made,
-    /// It takes words, and is made where the allocator has them.
+    /// It takes words, and is made if the allocator has them.
     MadeInRoom,
     /// It is refused by this kind.
     Refused(ErrorKind),
 }
 
-/// What a call has to answer that makes a value, by whether it takes words.
+/// Returns the answer that a call must give that makes a value, by whether the value takes words.
 pub fn made_in(takes_words: bool) -> Wanted {
     if takes_words {
         Wanted::MadeInRoom
@@ -34,7 +34,7 @@ pub fn made_in(takes_words: bool) -> Wanted {
     }
 }
 
-/// The outcome of a call, by the kind of its refusal, where it was refused.
+/// Returns the outcome of a call, by the kind of its refusal, if it was refused.
 pub fn judged(refusal: Option<ErrorKind>, wanted: Wanted) -> Done {
     match wanted {
         Wanted::Refused(fault) => match refusal {
@@ -53,7 +53,7 @@ pub fn judged(refusal: Option<ErrorKind>, wanted: Wanted) -> Done {
     }
 }
 
-/// The kind of a refusal, if there is one.
+/// Returns the kind of a refusal, if there is one.
 pub fn refusal_of<T>(answer: &Result<T, ErrorKind>) -> Option<ErrorKind> {
     match answer {
         Ok(_) => None,
@@ -61,7 +61,7 @@ pub fn refusal_of<T>(answer: &Result<T, ErrorKind>) -> Option<ErrorKind> {
     }
 }
 
-/// Whether what was got has to be there and is: made, or different.
+/// Returns the outcome for a condition that must hold: made, or different.
 pub fn made_where(holds: bool) -> Done {
     if holds { Done::Made } else { Done::Different }
 }

@@ -1,4 +1,4 @@
-//! Parts of the other message that are copied: structs, also a list's, and lists.
+//! Parts of the other message that are copied: structs, also in lists, and lists.
 ghost use Rattle.std.specs.Prelude.{◌≡◌, ◌<◌};
 
 use crate::grafts::copied;
@@ -12,12 +12,13 @@ use capnp_wire::structs::StructReader;
 use capnp_wire_objects::arena::ReaderArena;
 use std::alloc::{AllocError, Global};
 
-/// The struct of a row by its index, one of a greater number. `None` where there is no struct.
+/// Returns the index of a struct of a row, for any number; `None` if the row has no struct.
 fn element_of(row: Row, index: usize) -> Option<usize> {
     index.checked_rem(row.count)
 }
 
-/// A part of a sequence of parts of `each` items: the one of an index, or none past the last.
+/// Returns a part of a sequence of parts of `each` items, by its index; no items past the last
+/// part.
 fn part<T>(items: &[T], index: usize, each: u16) -> &[T] {
     let from = index.saturating_mul(each as usize);
     items
@@ -25,8 +26,9 @@ fn part<T>(items: &[T], index: usize, each: u16) -> &[T] {
         .unwrap_or(&[])
 }
 
-/// The struct that a pointer leads to, or one of a list, by its index; its pointers lead where
-/// those of the tree do. Null reads as a struct without words; `None` where there is no struct.
+/// Returns the struct that a pointer leads to, or one of a list, by its index; its pointers lead to
+/// the same nodes as in the tree. Null reads as a struct without words; `None` if there is no
+/// struct.
 pub fn struct_node(
     alloc: Global,
     tree: &Tree,
@@ -59,7 +61,7 @@ pub fn struct_node(
     }))
 }
 
-/// The same struct, to read.
+/// Returns the same struct as `struct_node`, to read.
 pub fn struct_read<'a, B: ReaderArena>(
     pointer: PointerReader<'a, B>,
     shape: Shape,
@@ -79,7 +81,7 @@ pub fn struct_read<'a, B: ReaderArena>(
     }
 }
 
-/// The list that a pointer leads to; null reads as the empty list of the size that is expected.
+/// Returns the list that a pointer leads to; null reads as the empty list of the expected size.
 pub fn list_node(
     alloc: Global,
     tree: &Tree,

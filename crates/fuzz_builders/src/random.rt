@@ -12,7 +12,7 @@ impl Random {
         Random { state: seed }
     }
 
-    /// The next number.
+    /// Returns the next number.
     pub fn next(&mut self) -> u64 {
         self.state = self.state.wrapping_add(0x9e37_79b9_7f4a_7c15);
         let mut mixed = self.state;
@@ -21,7 +21,7 @@ impl Random {
         mixed ^ (mixed >> 31)
     }
 
-    /// The next number, below a bound.
+    /// Returns the next number, below a bound.
     pub fn below(&mut self, bound: usize) -> usize
         requires { 0 < bound }
         ensures { result < bound }
@@ -30,7 +30,7 @@ impl Random {
     }
 }
 
-/// A number that depends on all that was added to it.
+/// A number that depends on all numbers that were added to it.
 #[derive(Clone, Copy)]
 pub struct Digest(pub u64);
 

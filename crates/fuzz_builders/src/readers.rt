@@ -1,4 +1,4 @@
-//! Whether what the readers see is the tree.
+//! Tests whether the readers see the tree.
 ghost use Rattle.std.specs.Prelude.{◌≢◌, ◌<◌, IfSome};
 ghost use Rattle.capnp_units.specs.Sizes.{size_number};
 ghost use Rattle.capnp_wire.specs.Views.{seen_list};
@@ -12,7 +12,7 @@ use capnp_wire::pointer::PointerReader;
 use capnp_wire::structs::StructReader;
 use capnp_wire_objects::arena::ReaderArena;
 
-/// An element of a list of numbers, as a number.
+/// Returns an element of a list of numbers, as a number.
 fn number_of<A: ReaderArena>(list: &ListReader<'_, A>, size: ElementSize, index: u32) -> u64
     requires { index < (seen_list A.segments list.now).count }
 {
@@ -26,7 +26,7 @@ fn number_of<A: ReaderArena>(list: &ListReader<'_, A>, size: ElementSize, index:
     }
 }
 
-/// Whether a list of numbers has `count` elements, those of the node.
+/// Returns whether a list of numbers has `count` elements, those of the node.
 fn numbers_are<A: ReaderArena>(
     pointer: PointerReader<'_, A>,
     limiter: &mut ReadLimiter,
@@ -49,8 +49,8 @@ fn numbers_are<A: ReaderArena>(
     true
 }
 
-/// Whether a struct's words are the node's, from one of its numbers on, and one word behind them is
-/// none.
+/// Returns whether a struct's words are the node's, from one of its numbers on, and there is no
+/// word after them.
 fn words_are<A: ReaderArena>(
     value: StructReader<'_, A>,
     tree: &Tree,
@@ -66,8 +66,8 @@ fn words_are<A: ReaderArena>(
     value.get_data_field::<u64>(data_words as usize) == 0
 }
 
-/// Whether a struct's pointers lead to what the node's do, from one of them on, and one behind them
-/// is none.
+/// Returns whether a struct's pointers lead to the values of the node's, from one of them on, and
+/// there is no pointer after them.
 #[cycle(is_value)]
 fn pointers_are<A: ReaderArena>(
     value: StructReader<'_, A>,
@@ -87,7 +87,7 @@ fn pointers_are<A: ReaderArena>(
     value.is_pointer_field_null(index)
 }
 
-/// The list as one of structs, where it can be read so.
+/// Returns the list as a list of structs, if it can be read so.
 pub fn structs_of<'a, A: ReaderArena>(
     pointer: PointerReader<'a, A>,
     limiter: &mut ReadLimiter,
@@ -99,7 +99,7 @@ pub fn structs_of<'a, A: ReaderArena>(
         .ok()
 }
 
-/// Whether a list's pointers lead to what the node's do.
+/// Returns whether a list's pointers lead to the values of the node's.
 #[cycle(is_value)]
 fn pointer_list_is<A: ReaderArena>(
     pointer: PointerReader<'_, A>,
@@ -123,8 +123,8 @@ fn pointer_list_is<A: ReaderArena>(
     true
 }
 
-/// Whether a list's structs have the words of the node, and their pointers lead to what the node's
-/// do.
+/// Returns whether a list's structs have the words of the node, and their pointers lead to the
+/// values of the node's.
 #[cycle(is_value)]
 fn structs_are<A: ReaderArena>(
     pointer: PointerReader<'_, A>,
@@ -169,7 +169,7 @@ fn structs_are<A: ReaderArena>(
     true
 }
 
-/// Whether what a pointer leads to is the node's value, up to n levels deep.
+/// Returns whether a pointer leads to the node's value, up to n levels deep.
 #[cycle(is_value)]
 pub fn is_value<A: ReaderArena>(
     pointer: PointerReader<'_, A>,

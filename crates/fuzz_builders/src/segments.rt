@@ -1,4 +1,4 @@
-//! Segments that are small, and now and then none.
+//! Small segments, of which some are refused.
 ghost use Rattle.std.specs.Prelude.{◌≡◌, []};
 ghost use Rattle.capnp_units.specs.declared.kinds.ErrorKind.TheVariants.{OutOfMemory};
 
@@ -8,7 +8,7 @@ use capnp_units::errors::{Error, Result};
 use capnp_units::kinds::ErrorKind;
 use std::alloc::Global;
 
-/// Hands out segments of a few words more than are asked for, and refuses one of six, but not the
+/// Hands out segments of a few words more than requested, and refuses one in six, but not the
 /// first.
 #[derive(Drop)]
 pub struct Small {
@@ -27,7 +27,7 @@ impl Small {
     }
 }
 
-/// The most words of a segment behind those that are asked for.
+/// The most words of a segment after the requested ones.
 const MORE: usize = 12;
 
 impl Allocator for Small {

@@ -1,9 +1,9 @@
-//! The tree that a message is to have, edited beside it.
+//! The tree that a message should have, edited beside it.
 
 use capnp_units::sizes::ElementSize;
 use std::alloc::{AllocError, Global};
 
-/// What lies behind a pointer, but for its numbers and pointers.
+/// The kind and sizes of a pointer's value, except its numbers and pointers.
 #[derive(Clone, Copy, Debug, PartialEq, Eq)]
 pub enum Shape {
     Null,
@@ -25,8 +25,8 @@ pub enum Shape {
     },
 }
 
-/// A value: its shape; its numbers, which are the words of data sections, or elements; and which
-/// nodes its pointers lead to, 0 for nulls.
+/// A value: its shape; its numbers, which are the words of data sections, or elements; and the
+/// nodes that its pointers lead to, 0 for nulls.
 #[derive(Drop)]
 pub struct Node {
     pub shape: Shape,
@@ -34,23 +34,23 @@ pub struct Node {
     pub kids: Vec<usize>,
 }
 
-/// A pointer: which one of which node.
+/// A pointer of a node, by the numbers of both.
 #[derive(Clone, Copy)]
 pub struct Slot {
     pub node: usize,
     pub kid: usize,
 }
 
-/// The root pointer: the one of the first node, which is no value itself.
+/// The root pointer: the pointer of the first node, which isn't a value itself.
 pub const ROOT: Slot = Slot { node: 0, kid: 0 };
 
-/// The values of a message. Nodes that nothing leads to any more are there still.
+/// The values of a message. Nodes that nothing leads to any more remain.
 #[derive(Drop)]
 pub struct Tree {
     pub nodes: Vec<Node>,
 }
 
-/// n times a number.
+/// Returns a value n times.
 fn repeated<T: Copy>(alloc: Global, value: T, count: usize) -> Result<Vec<T>, AllocError> {
     let mut all = Vec::new(alloc);
     for _ in 0..count {
@@ -59,7 +59,7 @@ fn repeated<T: Copy>(alloc: Global, value: T, count: usize) -> Result<Vec<T>, Al
     Ok(all)
 }
 
-/// A value whose numbers are zero and whose pointers are null.
+/// Makes a value whose numbers are zero and whose pointers are null.
 pub fn zeros(alloc: Global, shape: Shape) -> Result<Node, AllocError> {
     let (numbers, kids) = match shape {
         Shape::Null => (0, 0),
@@ -86,7 +86,7 @@ pub fn zeros(alloc: Global, shape: Shape) -> Result<Node, AllocError> {
 }
 
 impl Tree {
-    /// The tree whose root is null.
+    /// Makes the tree whose root is null.
     pub fn new(alloc: Global) -> Result<Tree, AllocError> {
         let holder = Node {
             shape: Shape::Null,
@@ -98,7 +98,7 @@ impl Tree {
         Ok(Tree { nodes })
     }
 
-    /// The node that a pointer leads to, none where it is null.
+    /// Returns the node that a pointer leads to; `None` if it is null.
     pub fn at(&self, slot: Slot) -> Option<usize> {
         let node = self.nodes.get(slot.node)?;
         match node.kids.get(slot.kid) {
@@ -107,7 +107,7 @@ impl Tree {
         }
     }
 
-    /// How many pointers a node has.
+    /// Returns the number of pointers of a node.
     pub fn kids_of(&self, id: usize) -> usize {
         match self.nodes.get(id) {
             Some(node) => node.kids.len(),
@@ -115,7 +115,7 @@ impl Tree {
         }
     }
 
-    /// The shape of a node.
+    /// Returns the shape of a node.
     pub fn shape_of(&self, id: usize) -> Shape {
         match self.nodes.get(id) {
             Some(node) => node.shape,
@@ -123,7 +123,7 @@ impl Tree {
         }
     }
 
-    /// A number of a node, 0 past the last.
+    /// Returns a number of a node, 0 past the last.
     pub fn number(&self, id: usize, index: usize) -> u64 {
         match self.nodes.get(id) {
             Some(node) => match node.numbers.get(index) {
@@ -144,14 +144,14 @@ impl Tree {
         }
     }
 
-    /// Puts another node in place of one.
+    /// Replaces a node with another.
     pub fn replace(&mut self, id: usize, node: Node) {
         if id < self.nodes.len() {
             self.nodes[id] = node;
         }
     }
 
-    /// Makes a pointer lead to a node that is there, or null by 0.
+    /// Makes a pointer lead to a node that is there; 0 makes it null.
     pub fn link(&mut self, slot: Slot, id: usize) {
         if slot.node < self.nodes.len() {
             let holder = &mut self.nodes[slot.node];
@@ -161,7 +161,7 @@ impl Tree {
         }
     }
 
-    /// Makes a pointer lead to a new node. Its number.
+    /// Makes a pointer lead to a new node. Returns the number of the node.
     pub fn put_new(&mut self, slot: Slot, node: Node) -> Result<usize, AllocError> {
         let id = self.nodes.len();
         self.nodes.push(node)?;
@@ -169,7 +169,7 @@ impl Tree {
         Ok(id)
     }
 
-    /// The shape of the value that a pointer leads to.
+    /// Returns the shape of the value that a pointer leads to.
     pub fn shape_at(&self, slot: Slot) -> Shape {
         match self.at(slot) {
             Some(id) => self.shape_of(id),

@@ -1,5 +1,5 @@
-//! Ways down from the root: by handles in the message that is changed, by readers in the one that
-//! is copied from.
+//! Paths down from the root: by handles in the message that is changed, by readers in the message
+//! that is copied from.
 ghost use Rattle.std.specs.Prelude.{◌≡◌, ◌<◌};
 
 use crate::handles::{list_got, pointer_in, pointer_of, struct_got, struct_of, structs_got};
@@ -13,23 +13,23 @@ use capnp_wire::pointer::PointerReader;
 use capnp_wire_objects::arena::ReaderArena;
 use capnp_wire_objects::place::Place;
 
-/// How deep a pointer lies at most that a call is made at.
+/// The most levels above a pointer that is used for a call.
 const DEEP: usize = 6;
 
-/// No words: what is there is wide enough.
+/// The size without words, for which every value is wide enough.
 pub const NONE: StructSize = StructSize {
     data_words: 0,
     pointers: 0,
 };
 
-/// A pointer of the tree, where it lies in the message.
+/// A pointer of the tree, and its place in the message.
 #[derive(Clone, Copy)]
 pub struct Spot {
     pub slot: Slot,
     pub place: Place,
 }
 
-/// A pointer of another tree, as its message shows it.
+/// A pointer of another tree, as its message shows the pointer.
 #[derive(Drop)]
 pub struct Source<'a, B> {
     pub slot: Slot,
@@ -42,7 +42,7 @@ const ROOT_SPOT: Spot = Spot {
     place: crate::covered::ROOT,
 };
 
-/// How many levels are gone down: now and then none.
+/// Chooses a number of levels to go down: now and then 0.
 fn any_depth(random: &mut Random) -> usize {
     if random.below(10) == 0 {
         return 0;
@@ -50,14 +50,14 @@ fn any_depth(random: &mut Random) -> usize {
     random.below(DEEP).saturating_add(1)
 }
 
-/// Which struct of a list has a pointer, by its number among all pointers, and which of the
-/// struct's it is.
+/// Returns the struct of a list that has a pointer, by its number among all pointers, and the
+/// number of the pointer in the struct.
 pub fn element_and_pointer(kid: usize, pointers: u16) -> (u32, usize) {
     let each = (pointers as usize).max(1);
     (u32::try_from(kid / each).unwrap_or(u32::MAX), kid % each)
 }
 
-/// Where a pointer of the value that a pointer leads to lies, by its number.
+/// Returns the place of a pointer of the value that a pointer leads to, by its number.
 fn place_below<A: BuilderArena>(
     memory: &mut Memory<A>,
     place: Place,
@@ -85,8 +85,8 @@ fn place_below<A: BuilderArena>(
     }
 }
 
-/// A pointer that is there, some way down from the root; `None` where the handles don't give one
-/// that is there.
+/// Chooses a pointer that is there, some way down from the root; `None` if the handles don't give
+/// one that is there.
 pub fn any_spot<A: BuilderArena>(
     memory: &mut Memory<A>,
     tree: &Tree,
@@ -112,7 +112,7 @@ pub fn any_spot<A: BuilderArena>(
     Some(spot)
 }
 
-/// A pointer of the value that a pointer leads to, by its number, to read.
+/// Returns a pointer of the value that a pointer leads to, by its number, to read.
 fn pointer_below<'a, B: ReaderArena>(
     pointer: PointerReader<'a, B>,
     limiter: &mut ReadLimiter,
@@ -144,8 +144,8 @@ fn pointer_below<'a, B: ReaderArena>(
     }
 }
 
-/// A pointer of a message to read, some way down from the root; `None` where the readers don't give
-/// one that is there.
+/// Chooses a pointer of a message to read, some way down from the root; `None` if the readers don't
+/// give one that is there.
 pub fn any_source<'a, B: ReaderArena>(
     arena: &'a B,
     tree: &Tree,

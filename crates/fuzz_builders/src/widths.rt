@@ -1,4 +1,4 @@
-//! How values of the tree are read as others, and widened.
+//! Values of the tree, read as other types, and widened.
 
 use crate::outcomes::{Wanted, made_in};
 use crate::tree::{Node, Shape, Tree, zeros};
@@ -6,7 +6,7 @@ use capnp_units::kinds::ErrorKind;
 use capnp_units::sizes::{ElementSize, StructSize};
 use std::alloc::{AllocError, Global};
 
-/// How many structs a value is when it is read as structs, and the data words and pointers of each.
+/// A value read as structs: the number of structs, and the data words and pointers of each.
 #[derive(Clone, Copy)]
 pub struct Row {
     pub count: usize,
@@ -14,7 +14,7 @@ pub struct Row {
     pub pointers: u16,
 }
 
-/// A row of n structs.
+/// Makes a row of n structs.
 fn structs(count: u32, data_words: u16, pointers: u16) -> Row {
     Row {
         count: count as usize,
@@ -23,8 +23,8 @@ fn structs(count: u32, data_words: u16, pointers: u16) -> Row {
     }
 }
 
-/// A list as structs: what a number holds is in the first data word, a pointer is the first
-/// pointer. Single bits are none.
+/// Returns a list as structs: the first data word has an element's number, and the first pointer an
+/// element's pointer. `None` for single bits.
 pub fn row_of(shape: Shape) -> Option<Row> {
     match shape {
         Shape::Null => None,
@@ -46,7 +46,7 @@ pub fn row_of(shape: Shape) -> Option<Row> {
     }
 }
 
-/// The greater of the sizes of a row's structs and another.
+/// Returns the greater of the sizes of a row's structs and another.
 fn widened(row: Row, size: StructSize) -> Row {
     Row {
         count: row.count,
@@ -55,12 +55,12 @@ fn widened(row: Row, size: StructSize) -> Row {
     }
 }
 
-/// Whether a row's structs are no narrower than others.
+/// Returns whether a row's structs are no narrower than others.
 fn is_wide(row: Row, size: StructSize) -> bool {
     row.data_words >= size.data_words && row.pointers >= size.pointers
 }
 
-/// What a call has to answer that gets a struct with at least these sizes.
+/// Returns the answer that a call must give that gets a struct with at least these sizes.
 pub fn struct_wanted(shape: Shape, size: StructSize) -> Wanted {
     match shape {
         Shape::Null => made_in(size.total() > 0),
@@ -78,7 +78,7 @@ pub fn struct_wanted(shape: Shape, size: StructSize) -> Wanted {
     }
 }
 
-/// What a call has to answer that gets a list of structs with at least these sizes.
+/// Returns the answer that a call must give that gets a list of structs with at least these sizes.
 pub fn structs_wanted(shape: Shape, size: StructSize) -> Wanted {
     match shape {
         Shape::Null => Wanted::Made,
@@ -95,7 +95,7 @@ pub fn structs_wanted(shape: Shape, size: StructSize) -> Wanted {
     }
 }
 
-/// The bits of an element that isn't a struct.
+/// Returns the bits of an element that isn't a struct.
 pub fn bits_of(size: ElementSize) -> usize {
     match size {
         ElementSize::Void | ElementSize::Pointer | ElementSize::InlineComposite => 0,
@@ -107,14 +107,15 @@ pub fn bits_of(size: ElementSize) -> usize {
     }
 }
 
-/// Whether elements with n bits and pointers at least are there where ones of a size are expected.
+/// Returns whether elements with at least n bits and pointers suffice for expected elements of a
+/// size.
 fn holds(bits: usize, pointers: u16, expected: ElementSize) -> bool {
     let wanted = u16::from(expected == ElementSize::Pointer);
     bits_of(expected) <= bits && wanted <= pointers
 }
 
-/// What a reader has to answer that gets a list of elements that can be read as ones of a size.
-/// Single bits are read only as such, and no structs as single bits.
+/// Returns the answer that a reader must give that gets a list of elements that can be read as
+/// elements of a size. Single bits are read only as single bits, and structs never as single bits.
 pub fn list_read(shape: Shape, expected: ElementSize) -> Wanted {
     let single = expected == ElementSize::Bit;
     let is_fit = match shape {
@@ -141,8 +142,8 @@ pub fn list_read(shape: Shape, expected: ElementSize) -> Wanted {
     }
 }
 
-/// What a builder has to answer that gets a list of elements as ones of a size: what a reader does,
-/// but single bits are taken as voids too.
+/// Returns the answer that a builder must give that gets a list of elements as elements of a size:
+/// the answer of a reader, except that single bits are also taken as voids.
 pub fn list_taken(shape: Shape, expected: ElementSize) -> Wanted {
     let are_bits = matches!(
         shape,
@@ -157,8 +158,8 @@ pub fn list_taken(shape: Shape, expected: ElementSize) -> Wanted {
     list_read(shape, expected)
 }
 
-/// The items of a row of elements that have n each, as those of elements that have more: what is
-/// new is a given one.
+/// Returns the items of a row of elements that have n each, as those of elements that have more;
+/// the new items have a given value.
 fn spread<T: Copy>(
     alloc: Global,
     items: &[T],
@@ -182,8 +183,8 @@ fn spread<T: Copy>(
     Ok(all)
 }
 
-/// The shape of a row's structs with at least these sizes: a struct stays one, else they are a
-/// list.
+/// Returns the shape of a row's structs with at least these sizes: a struct remains a struct,
+/// otherwise the row is a list.
 fn wider_shape(shape: Shape, row: Row) -> Shape {
     match shape {
         Shape::Struct { .. } => Shape::Struct {
@@ -198,7 +199,7 @@ fn wider_shape(shape: Shape, row: Row) -> Shape {
     }
 }
 
-/// The same value with structs of at least these sizes; nothing where it is null or has single
+/// Returns the same value with structs of at least these sizes; `None` if it is null or has single
 /// bits.
 fn widened_node(alloc: Global, node: &Node, size: StructSize) -> Result<Option<Node>, AllocError> {
     let Some(old) = row_of(node.shape) else {

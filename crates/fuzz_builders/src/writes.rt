@@ -11,7 +11,7 @@ use capnp_layout_builders::data_builder::DataBuilder;
 use capnp_layout_builders::text_builder::TextBuilder;
 use std::alloc::{AllocError, Global};
 
-/// What is pushed as a `str`.
+/// The word that is pushed as a `str`.
 const WORD: &str = "Wört";
 
 /// Writes bytes over the numbers of a node from one on.
@@ -28,7 +28,7 @@ fn put_zeros(tree: &mut Tree, id: usize, count: usize) {
     }
 }
 
-/// Whether bytes are the first numbers of a node.
+/// Returns whether bytes are the first numbers of a node.
 fn are_bytes(tree: &Tree, id: usize, bytes: &[u8]) -> bool {
     for (i, byte) in bytes.iter().enumerate() {
         if tree.number(id, i) != *byte as u64 {
@@ -38,7 +38,7 @@ fn are_bytes(tree: &Tree, id: usize, bytes: &[u8]) -> bool {
     true
 }
 
-/// Some bytes to write behind n others, and where they begin.
+/// Chooses some bytes to write within n bytes, and their beginning.
 fn any_piece(
     alloc: Global,
     random: &mut Random,
@@ -50,7 +50,7 @@ fn any_piece(
     Ok((at, any_bytes(alloc, random, bytes)?))
 }
 
-/// Writes a piece of data through a handle. Whether it lies there.
+/// Writes a piece of data through a handle. Returns whether the data has the piece.
 fn write_piece<A: BuilderArena>(
     memory: &mut Memory<A>,
     place: BlobPlace,
@@ -68,7 +68,7 @@ fn write_piece<A: BuilderArena>(
     data.len() == count
 }
 
-/// Writes one byte of data through a handle. Whether it is there.
+/// Writes one byte of data through a handle. Returns whether the data has the byte.
 fn set_byte<A: BuilderArena>(
     memory: &mut Memory<A>,
     place: BlobPlace,
@@ -85,7 +85,7 @@ fn set_byte<A: BuilderArena>(
     !data.is_empty()
 }
 
-/// Whether the bytes of data, by a handle, are the first numbers of a node.
+/// Returns whether the bytes of data, by a handle, are the first numbers of a node.
 fn has_data<A: BuilderArena>(
     memory: &mut Memory<A>,
     tree: &Tree,
@@ -99,7 +99,7 @@ fn has_data<A: BuilderArena>(
     bytes.len() == place.count as usize && are_bytes(tree, id, bytes)
 }
 
-/// Writes some data, on both sides. Whether they are then the same.
+/// Writes some data, on both sides. Returns whether both are the same after it.
 pub fn write_data<A: BuilderArena>(
     alloc: Global,
     memory: &mut Memory<A>,
@@ -119,7 +119,7 @@ pub fn write_data<A: BuilderArena>(
     Ok(is_written && has_data(memory, tree, id, place))
 }
 
-/// Whether the bytes of a text, by a handle, are the first numbers of a node.
+/// Returns whether the bytes of a text, by a handle, are the first numbers of a node.
 fn has_text<A: BuilderArena>(
     memory: &mut Memory<A>,
     tree: &Tree,
@@ -137,7 +137,8 @@ fn has_text<A: BuilderArena>(
     bytes.len() == text.len() && are_bytes(tree, id, bytes)
 }
 
-/// Writes a piece of a text through a handle. Whether the handle then stands where it has to.
+/// Writes a piece of a text through a handle. Returns whether the handle has the expected position
+/// after it.
 fn write_at<A: BuilderArena>(
     memory: &mut Memory<A>,
     place: BlobPlace,
@@ -159,8 +160,8 @@ fn write_at<A: BuilderArena>(
     text.position == 0
 }
 
-/// Pushes a character of ASCII at a position of a text, and clears the text where it is asked.
-/// Whether the handle then stands where it has to.
+/// Pushes a character of ASCII at a position of a text, and clears the text if requested. Returns
+/// whether the handle has the expected position after it.
 fn push_at<A: BuilderArena>(memory: &mut Memory<A>, place: BlobPlace, at: usize, ascii: u8) -> bool
     ensures { A.books memory.new.arena ≡ A.books memory.old.arena }
 {
@@ -176,7 +177,8 @@ fn push_at<A: BuilderArena>(memory: &mut Memory<A>, place: BlobPlace, at: usize,
     text.position == at + 1
 }
 
-/// Pushes a word at a position of a text. Whether the handle then stands where it has to.
+/// Pushes a word at a position of a text. Returns whether the handle has the expected position
+/// after it.
 fn push_word_at<A: BuilderArena>(memory: &mut Memory<A>, place: BlobPlace, at: usize) -> bool
     ensures { A.books memory.new.arena ≡ A.books memory.old.arena }
 {
@@ -193,7 +195,7 @@ fn push_word_at<A: BuilderArena>(memory: &mut Memory<A>, place: BlobPlace, at: u
     text.position == at + WORD.len()
 }
 
-/// Clears a text through a handle. Whether the handle then stands at its first byte.
+/// Clears a text through a handle. Returns whether the handle is at its first byte after it.
 fn clear_text<A: BuilderArena>(memory: &mut Memory<A>, place: BlobPlace) -> bool
     ensures { A.books memory.new.arena ≡ A.books memory.old.arena }
 {
@@ -209,7 +211,7 @@ fn clear_text<A: BuilderArena>(memory: &mut Memory<A>, place: BlobPlace) -> bool
     text.position == 0
 }
 
-/// Writes some bytes of a text at a position, on both sides. Whether the handle takes them.
+/// Writes some bytes of a text at a position, on both sides. Returns whether the handle takes them.
 fn write_some<A: BuilderArena>(
     memory: &mut Memory<A>,
     tree: &mut Tree,
@@ -236,7 +238,8 @@ fn write_some<A: BuilderArena>(
     }
 }
 
-/// Writes some bytes of a text, on both sides, or clears it. Whether both are then the same.
+/// Writes some bytes of a text, on both sides, or clears it. Returns whether both are the same
+/// after it.
 pub fn write_text<A: BuilderArena>(
     alloc: Global,
     memory: &mut Memory<A>,
