@@ -28,19 +28,19 @@ pub struct Call<'a> {
 }
 
 impl<'a> Call<'a> {
-    /// The call of a name.
+    /// Parses the call of a name.
     pub fn new(name: &'a str) -> std::result::Result<Call<'a>, Fault> {
         let (verb, field) = name.split_once('.').ok_or(Fault::NoCase)?;
         Ok(Call { verb, field })
     }
 }
 
-/// The field of a source that has the value for a field; an untyped one is set to a text.
+/// Returns the field of a source that has the value for a field; an untyped field is set to a text.
 fn source_of(field: &str) -> &str {
     if field == "untyped" { "text" } else { field }
 }
 
-/// Whether a call takes a value.
+/// Returns whether a call takes a value.
 fn takes_a_value(call: Call<'_>) -> bool {
     matches!(call.verb, "set" | "set_named")
 }
@@ -100,7 +100,7 @@ fn edit<A: BuilderArena>(memory: &mut Memory<A>, part: Part<'_>, call: Call<'_>)
     Ok(())
 }
 
-/// The record at the root of a source.
+/// Returns the record at the root of a source.
 pub fn record<'a>(
     arena: &'a Segments<'a>,
     schema: StructSchema<'a>,
@@ -111,7 +111,7 @@ pub fn record<'a>(
     Ok(dynamic_struct::Reader::new(reader, schema))
 }
 
-/// Makes a call at the root. A value is that which the field has in a source.
+/// Makes a call at the root. A value comes from the same field of a source.
 fn called<A: BuilderArena>(
     rt: &HostRuntime,
     memory: &mut Memory<A>,
@@ -133,7 +133,7 @@ fn called<A: BuilderArena>(
     set(rt, memory, part, call, value)
 }
 
-/// What a call at a message tells.
+/// Makes a call at a message, and returns its line.
 fn told_of<A: BuilderArena>(
     rt: &HostRuntime,
     memory: &mut Memory<A>,
@@ -155,7 +155,7 @@ fn told_of<A: BuilderArena>(
     )
 }
 
-/// What a case tells, at a record of the struct of an id.
+/// Makes a case, at a record of the struct of an id, and returns its line.
 fn told_at(rt: &HostRuntime, call: &str, id: u64, old: &str) -> std::result::Result<String, Fault> {
     let call = Call::new(call)?;
     let set = set_of(rt.alloc())?;
@@ -166,12 +166,12 @@ fn told_at(rt: &HostRuntime, call: &str, id: u64, old: &str) -> std::result::Res
     told
 }
 
-/// What a case tells.
+/// Makes a case, and returns its line.
 pub fn told(rt: &HostRuntime, call: &str) -> std::result::Result<String, Fault> {
     told_at(rt, call, 1, OLD)
 }
 
-/// The same at a record whose fields have defaults, and are null.
+/// Makes a case at a record whose fields have defaults, and are null, and returns its line.
 pub fn told_of_defaults(rt: &HostRuntime, call: &str) -> std::result::Result<String, Fault> {
     told_at(rt, call, 5, DEFAULTS)
 }

@@ -30,12 +30,12 @@ use capnp_values::dynamic_value::Reader;
 use capnp_values_queries::structs::StructSchema;
 use capnp_wire_objects::arena::{ReaderArena, ReaderArenaImpl};
 
-/// What is answered to a call that there isn't.
+/// The answer to a call that doesn't exist.
 const NO_CALL: Error = Error {
     kind: ErrorKind::FieldNotFound,
 };
 
-/// A list that is there, to write.
+/// Returns a list that is there, to write.
 fn list_at<'a, A: BuilderArena>(
     memory: &'a mut Memory<A>,
     list: ListPart<'a>,
@@ -54,7 +54,7 @@ fn list_at<'a, A: BuilderArena>(
     dynamic_list::Builder::new(ListBuilder { memory, place }, set, element_type)
 }
 
-/// Where a field of a struct lies.
+/// Returns the place of a field of a struct.
 fn field_of<'a, A: BuilderArena>(
     memory: &mut Memory<A>,
     part: Part<'a>,
@@ -101,7 +101,7 @@ fn edit_element<A: BuilderArena, B: ReaderArena>(
     }
 }
 
-/// The untyped pointer that a value is.
+/// Returns the untyped pointer that a value is.
 fn untyped_of<'a, A: BuilderArena>(value: Builder<'a, A>) -> any_pointer::Builder<'a, A>
     requires is { is_some (built_untyped value) ≡ true }
     requires ready { IsReadyValue A.segments value }
@@ -113,14 +113,14 @@ fn untyped_of<'a, A: BuilderArena>(value: Builder<'a, A>) -> any_pointer::Builde
     inner
 }
 
-/// Whether a value is an untyped pointer.
+/// Returns whether a value is an untyped pointer.
 fn is_untyped<A: BuilderArena>(value: &Builder<'_, A>) -> bool
     ensures { result ≡ is_some (built_untyped value.now) }
 {
     matches!(value, Builder::AnyPointer(_))
 }
 
-/// Sets an untyped pointer to a struct or a list, or to what another such pointer names.
+/// Sets an untyped pointer to a struct or a list, or to the value of another such pointer.
 fn set_untyped<A: BuilderArena, B: ReaderArena>(
     pointer: &mut any_pointer::Builder<'_, A>,
     value: Reader<'_, B>,
@@ -135,7 +135,7 @@ fn set_untyped<A: BuilderArena, B: ReaderArena>(
     }
 }
 
-/// A call at an untyped pointer.
+/// Makes a call at an untyped pointer.
 fn edit_untyped<A: BuilderArena, B: ReaderArena>(
     memory: &mut Memory<A>,
     placed: Placed<'_>,
@@ -174,7 +174,7 @@ fn edit_untyped<A: BuilderArena, B: ReaderArena>(
     }
 }
 
-/// The field of a source that has the value for a call.
+/// Returns the field of a source that has the value for a call.
 fn source_of(call: Call<'_>) -> &'static str {
     match (call.verb, call.field) {
         ("set_as_list", _) => "list",
@@ -204,7 +204,7 @@ fn called<A: BuilderArena, B: ReaderArena>(
     done
 }
 
-/// What a call at a message tells.
+/// Makes a call at a message, and returns its line.
 fn told_of<A: BuilderArena, B: ReaderArena>(
     rt: &HostRuntime,
     memory: &mut Memory<A>,
@@ -224,7 +224,7 @@ fn told_of<A: BuilderArena, B: ReaderArena>(
     outcome(alloc, done, is_standing, read.as_str())
 }
 
-/// The struct that has the field of a call, by its id, and the record that stands.
+/// Returns the struct that has the field of a call, by its id, and the record before the call.
 fn record_of(call: Call<'_>) -> (u64, &'static str) {
     match call.field {
         "lists" | "numbers" => (5, DEFAULTS),
@@ -232,7 +232,7 @@ fn record_of(call: Call<'_>) -> (u64, &'static str) {
     }
 }
 
-/// What a case tells.
+/// Makes a case, and returns its line.
 pub fn told(rt: &HostRuntime, call: &str) -> std::result::Result<String, Fault> {
     let alloc = rt.alloc();
     let call = Call::new(call)?;

@@ -1,11 +1,12 @@
-//! Why a case can't be made.
+//! Reasons why a case can't be made.
 
 use capnp_relay_files::fault::FileFault;
 use capnp_units::errors::Error;
 use hex::FromHexError;
 use std::alloc::{AllocError, AllocFailed};
 
-/// Why a case can't be made: what comes before its call, or behind it, isn't refused memory.
+/// The reason why a case can't be made. The steps before its call, and after it, aren't refused
+/// memory.
 #[derive(Clone, Copy, Debug, thiserror::Error)]
 pub enum Fault {
     #[error("no such case")]

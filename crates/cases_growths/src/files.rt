@@ -1,4 +1,4 @@
-//! Files that are read, and what is made of what they say.
+//! Files that are read, and the values made from their contents.
 
 use crate::fault::Fault;
 use crate::marks;
@@ -18,10 +18,10 @@ const FRAME: [u8; 24] = [
     0, 0, 0, 0, 2, 0, 0, 0, 0, 0, 0, 0, 1, 0, 0, 0, 5, 0, 0, 0, 0, 0, 0, 0,
 ];
 
-/// How a call ends: what it counts, or that memory is wanting.
+/// The result of a call: its count, or a lack of memory.
 type End = Result<usize, Ended>;
 
-/// Why a call counts nothing.
+/// The reason why a call counts nothing.
 #[derive(Clone, Copy)]
 enum Ended {
     Memory,
@@ -64,14 +64,14 @@ impl From<RenamingFault> for Ended {
     }
 }
 
-/// A path of one name.
+/// Makes a path of one name.
 fn path(alloc: Global) -> Result<Vec<Step>, Fault> {
     let mut path = Vec::new(alloc);
     path.push(Step::Name(String::from_str(alloc, "t")?))?;
     Ok(path)
 }
 
-/// A call that sets a message, which is made canonical.
+/// Makes a call that sets a message, which is made canonical.
 fn made_call(rt: &HostRuntime) -> Result<End, Fault> {
     let alloc = rt.alloc();
     let path = path(alloc)?;
@@ -85,7 +85,7 @@ fn made_call(rt: &HostRuntime) -> Result<End, Fault> {
     })
 }
 
-/// The set of a file's nodes.
+/// Makes the set of a file's nodes.
 fn made_set(rt: &HostRuntime) -> Result<End, Fault> {
     let nodes = schema_file(rt.alloc(), SCHEMA.as_bytes())?;
     marks::begin(rt);
@@ -97,7 +97,7 @@ fn made_set(rt: &HostRuntime) -> Result<End, Fault> {
     })
 }
 
-/// The renamings of a file.
+/// Makes the renamings of a file.
 fn made_renamings(rt: &HostRuntime) -> Result<End, Fault> {
     let list = renames_file(rt.alloc(), RENAMES.as_bytes())?;
     marks::begin(rt);
@@ -109,7 +109,7 @@ fn made_renamings(rt: &HostRuntime) -> Result<End, Fault> {
     })
 }
 
-/// The nodes, the calls or the renamings of a file.
+/// Reads the nodes, the calls or the renamings of a file.
 fn read(alloc: Global, call: &str) -> End {
     match call {
         "schema_file" => Ok(schema_file(alloc, SCHEMA.as_bytes())?.len()),
@@ -119,7 +119,7 @@ fn read(alloc: Global, call: &str) -> End {
     }
 }
 
-/// How the call of a name ends, of which the growths between the marks are counted.
+/// Makes the named call, whose allocations between the marks are counted, and returns its result.
 fn called(rt: &HostRuntime, call: &str) -> Result<End, Fault> {
     match call {
         "call" => made_call(rt),
@@ -134,7 +134,7 @@ fn called(rt: &HostRuntime, call: &str) -> Result<End, Fault> {
     }
 }
 
-/// What a case tells.
+/// Makes a case, and returns its line.
 pub fn told(rt: &HostRuntime, call: &str) -> Result<String, Fault> {
     match called(rt, call)? {
         Ok(count) => Ok(format!(in rt.alloc(); "done; {count}")?),

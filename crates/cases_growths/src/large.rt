@@ -1,4 +1,4 @@
-//! Calls at what is large: a mebibyte of data, and thousands of fields.
+//! Calls on large values: a mebibyte of data, and thousands of fields.
 
 use crate::fault::Fault;
 use crate::marks;
@@ -21,7 +21,7 @@ const SIZE: usize = 1 << 20;
 
 const FIELDS: usize = 5000;
 
-/// How many bytes or words a large message has.
+/// The numbers of bytes or words of a large message.
 #[derive(Clone, Copy, Debug)]
 struct Sizes {
     framed: usize,
@@ -54,7 +54,7 @@ fn build(alloc: Global, bytes: &[u8], message: &mut Builder<HeapAllocator>) -> R
     })
 }
 
-/// What a message of data tells.
+/// Builds a message of data, and returns its line.
 fn told_of_message(rt: &HostRuntime) -> std::result::Result<String, Fault> {
     let alloc = rt.alloc();
     let bytes = vec![in alloc; b'a'; SIZE]?;
@@ -70,7 +70,7 @@ fn told_of_message(rt: &HostRuntime) -> std::result::Result<String, Fault> {
     }
 }
 
-/// What the printing of a text tells.
+/// Prints a text, and returns its line.
 fn told_of_text(rt: &HostRuntime) -> std::result::Result<String, Fault> {
     let alloc = rt.alloc();
     let bytes = vec![in alloc; b'a'; SIZE]?;
@@ -85,7 +85,7 @@ fn told_of_text(rt: &HostRuntime) -> std::result::Result<String, Fault> {
     }
 }
 
-/// A schema file of one struct, whose fields are bits.
+/// Makes a schema file of one struct, whose fields are bits.
 fn schema(alloc: Global) -> std::result::Result<String, Fault> {
     let mut file = String::new(alloc);
     file.push_str(r#"[{"id":1,"name":"S","data":80,"pointers":0,"fields":["#)?;
@@ -100,7 +100,7 @@ fn schema(alloc: Global) -> std::result::Result<String, Fault> {
     Ok(file)
 }
 
-/// What a set of a large struct tells.
+/// Makes the set of a large struct, and returns its line.
 fn told_of_set(rt: &HostRuntime) -> std::result::Result<String, Fault> {
     let alloc = rt.alloc();
     let nodes = schema_file(alloc, schema(alloc)?.as_bytes())?;
@@ -114,7 +114,7 @@ fn told_of_set(rt: &HostRuntime) -> std::result::Result<String, Fault> {
     }
 }
 
-/// What a case tells.
+/// Makes a case, and returns its line.
 pub fn told(rt: &HostRuntime, call: &str) -> std::result::Result<String, Fault> {
     match call {
         "message" => told_of_message(rt),

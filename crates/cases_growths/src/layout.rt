@@ -25,7 +25,7 @@ const SIZE: StructSize = StructSize {
     pointers: 1,
 };
 
-/// What the root is before a call.
+/// Returns the root before a call.
 fn old(call: &str) -> &'static str {
     match call {
         "copy_content_from" => OLD_STRUCT,
@@ -33,7 +33,7 @@ fn old(call: &str) -> &'static str {
     }
 }
 
-/// What is copied.
+/// Returns the source of a copy.
 fn source(call: &str) -> &'static str {
     match call {
         "set_list" | "set_list_canonical" => LIST,
@@ -53,7 +53,7 @@ fn copy_text<A: BuilderArena>(alloc: Global, memory: &mut Memory<A>) -> Result<(
     }
 }
 
-/// A call that makes a value.
+/// Makes a call that makes a value.
 fn make<A: BuilderArena>(memory: &mut Memory<A>, call: &str) -> Result<()> {
     if !has_words(&memory.arena, ROOT, 1) {
         return Err(Error::from(ErrorKind::OutOfBounds));
@@ -85,7 +85,7 @@ fn make<A: BuilderArena>(memory: &mut Memory<A>, call: &str) -> Result<()> {
     }
 }
 
-/// Where the struct at the root lies.
+/// Returns the place of the struct at the root.
 fn struct_at_root<A: BuilderArena>(memory: &mut Memory<A>) -> Result<StructPlace> {
     if !has_words(&memory.arena, ROOT, 1) {
         return Err(Error::from(ErrorKind::OutOfBounds));
@@ -96,7 +96,7 @@ fn struct_at_root<A: BuilderArena>(memory: &mut Memory<A>) -> Result<StructPlace
     }
 }
 
-/// Copies the content of a struct into that at the root.
+/// Copies the content of a struct into the struct at the root.
 fn copy_content<A: BuilderArena, B: ReaderArena>(
     memory: &mut Memory<A>,
     source: PointerReader<'_, B>,
@@ -112,7 +112,7 @@ fn copy_content<A: BuilderArena, B: ReaderArena>(
     object.copy_content_from(&mut unlimited, other)
 }
 
-/// A call that copies a value.
+/// Makes a call that copies a value.
 fn copy<A: BuilderArena, B: ReaderArena>(
     memory: &mut Memory<A>,
     call: &str,
@@ -138,7 +138,7 @@ fn copy<A: BuilderArena, B: ReaderArena>(
     }
 }
 
-/// A call that copies a value canonically by way of another message.
+/// Makes a call that copies a value canonically through another message.
 fn copy_by_way<A: BuilderArena, B: ReaderArena, C: BuilderArena>(
     memory: &mut Memory<A>,
     call: &str,
@@ -160,7 +160,7 @@ fn copy_by_way<A: BuilderArena, B: ReaderArena, C: BuilderArena>(
     set_list_canonical(&mut pointer, &mut unlimited, other, &mut way, lent)
 }
 
-/// The call of a name.
+/// Makes the named call.
 fn call_of<A: BuilderArena, B: ReaderArena, C: BuilderArena>(
     alloc: Global,
     memory: &mut Memory<A>,
@@ -189,7 +189,7 @@ fn call_of<A: BuilderArena, B: ReaderArena, C: BuilderArena>(
     }
 }
 
-/// The same between the marks, with a source in these bytes.
+/// Makes the named call between the marks, with a source in these bytes.
 fn called<A: BuilderArena, C: BuilderArena>(
     rt: &HostRuntime,
     memory: &mut Memory<A>,
@@ -207,7 +207,7 @@ fn called<A: BuilderArena, C: BuilderArena>(
     done
 }
 
-/// What a call at a message tells.
+/// Makes a call at a message, and returns its line.
 fn told_of<A: BuilderArena, C: BuilderArena>(
     rt: &HostRuntime,
     memory: &mut Memory<A>,
@@ -229,7 +229,7 @@ fn told_of<A: BuilderArena, C: BuilderArena>(
     )
 }
 
-/// What a case tells.
+/// Makes a case, and returns its line.
 pub fn told(rt: &HostRuntime, call: &str) -> std::result::Result<String, Fault> {
     let mut message = small(rt.alloc());
     let mut scratch = small(rt.alloc());

@@ -1,4 +1,4 @@
-//! Gets of builders at the root of a message that write a default, or widen what is there.
+//! Gets of builders at the root of a message that write a default, or widen the value there.
 
 use crate::fault::Fault;
 use crate::marks;
@@ -23,7 +23,7 @@ const WIDE: StructSize = StructSize {
     pointers: 2,
 };
 
-/// What the root is before a call.
+/// Returns the root before a call.
 fn old(call: &str) -> &'static str {
     match call {
         "wider_struct" => OLD_STRUCT,
@@ -32,7 +32,7 @@ fn old(call: &str) -> &'static str {
     }
 }
 
-/// The call of a name.
+/// Makes the named call.
 fn get<A: BuilderArena>(memory: &mut Memory<A>, call: &str) -> Result<()> {
     if !has_words(&memory.arena, ROOT, 1) {
         return Err(Error::from(ErrorKind::OutOfBounds));
@@ -65,7 +65,7 @@ fn get<A: BuilderArena>(memory: &mut Memory<A>, call: &str) -> Result<()> {
     Ok(())
 }
 
-/// What a call at a message tells.
+/// Makes a call at a message, and returns its line.
 fn told_of<A: BuilderArena>(
     rt: &HostRuntime,
     memory: &mut Memory<A>,
@@ -86,7 +86,7 @@ fn told_of<A: BuilderArena>(
     )
 }
 
-/// What a case tells.
+/// Makes a case, and returns its line.
 pub fn told(rt: &HostRuntime, call: &str) -> std::result::Result<String, Fault> {
     let mut message = small(rt.alloc());
     let told = told_of(rt, &mut message.memory, call);

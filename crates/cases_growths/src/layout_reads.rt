@@ -16,7 +16,7 @@ use capnp_wire::pointer::PointerReader;
 use capnp_wire_objects::arena::{ReaderArena, ReaderArenaImpl};
 use capnp_wire_objects::place::{Place, ROOT, has_words};
 
-/// What is read of a struct of the number 7 and the text `hi`.
+/// The values read of a struct of the number 7 and the text `hi`.
 #[derive(Clone, Copy, Debug)]
 struct Seen {
     is_struct: bool,
@@ -31,7 +31,7 @@ struct Seen {
     is_canonical_from_it_on: bool,
 }
 
-/// A word of the first segment.
+/// Returns a word of the first segment.
 fn at(position: usize) -> Place {
     Place {
         segment: 0,
@@ -65,7 +65,7 @@ fn read_struct<B: ReaderArena>(root: PointerReader<'_, B>) -> Result<Seen> {
     })
 }
 
-/// Reads the bytes of a list's texts. How many there are.
+/// Reads the bytes of a list's texts. Returns their number.
 fn read_list<B: ReaderArena>(root: PointerReader<'_, B>) -> Result<usize> {
     let mut unlimited = ReadLimiter::new(None);
     let list = root.get_list(&mut unlimited, ElementSize::Pointer, None)?;
@@ -79,8 +79,8 @@ fn read_list<B: ReaderArena>(root: PointerReader<'_, B>) -> Result<usize> {
     Ok(count)
 }
 
-/// Reads a null pointer that has defaults: a struct's number, how many elements a list has, and the
-/// bytes of a text and of data.
+/// Reads a null pointer that has defaults: a struct's number, the number of elements of a list, and
+/// the bytes of a text and of data.
 fn read_defaults<B: ReaderArena>(root: PointerReader<'_, B>) -> Result<(u16, u32, usize, usize)> {
     let mut unlimited = ReadLimiter::new(None);
     let object = root.get_struct(&mut unlimited, Some(&STRUCT_WORDS))?;
@@ -91,7 +91,7 @@ fn read_defaults<B: ReaderArena>(root: PointerReader<'_, B>) -> Result<(u16, u32
     Ok((number, list.len(), text.len(), data.len()))
 }
 
-/// What is told where a struct isn't there.
+/// The error if a struct isn't there.
 const NOT_THERE: Error = Error {
     kind: ErrorKind::OutOfBounds,
 };
@@ -107,7 +107,7 @@ fn set_number<A: BuilderArena>(memory: &mut Memory<A>, place: StructPlace) -> Re
     Ok(())
 }
 
-/// Sets its lowest bit. The number then.
+/// Sets the lowest bit of the number. Returns the number after it.
 fn set_flag<A: BuilderArena>(memory: &mut Memory<A>, place: StructPlace) -> Result<u16> {
     let is_near = place.data_words > 0 && place.start.position < 1 << 60;
     if !is_near || !has_words(&memory.arena, place.start, place.data_words as usize) {
@@ -118,7 +118,8 @@ fn set_flag<A: BuilderArena>(memory: &mut Memory<A>, place: StructPlace) -> Resu
     Ok(object.get_data_field::<u16>(0))
 }
 
-/// Sets the number as that of a field with the default 1. What lies there then, and what is read.
+/// Sets the number as that of a field with the default 1. Returns the number in the message after
+/// it, and the number that is read.
 fn set_masked_number<A: BuilderArena>(
     memory: &mut Memory<A>,
     place: StructPlace,
@@ -133,7 +134,8 @@ fn set_masked_number<A: BuilderArena>(
     Ok((there, object.get_data_field_mask::<u16>(0, 1)))
 }
 
-/// The same of a bit, with the default true.
+/// Sets a bit as that of a field with the default true. Returns the bit in the message after it,
+/// and the bit that is read.
 fn set_masked_flag<A: BuilderArena>(
     memory: &mut Memory<A>,
     place: StructPlace,
@@ -148,7 +150,7 @@ fn set_masked_flag<A: BuilderArena>(
     Ok((there, object.get_bool_field_mask(16, true)))
 }
 
-/// Clears its pointer. Whether that is null then.
+/// Clears the struct's pointer. Returns whether it is null after it.
 fn clear<A: BuilderArena>(memory: &mut Memory<A>, place: StructPlace) -> Result<bool> {
     if place.pointers == 0 || place.start.position >= 1 << 60 {
         return Err(NOT_THERE);
@@ -158,7 +160,7 @@ fn clear<A: BuilderArena>(memory: &mut Memory<A>, place: StructPlace) -> Result<
     Ok(pointer.is_null())
 }
 
-/// What lies in a struct, and what is read, behind changes.
+/// The contents of a struct, and the values read, after changes.
 #[derive(Clone, Copy, Debug)]
 struct Changed {
     number: u16,
@@ -181,7 +183,7 @@ fn edit<A: BuilderArena>(memory: &mut Memory<A>, place: StructPlace) -> Result<C
     })
 }
 
-/// The same of the struct at the root, which is wide enough.
+/// Edits the struct at the root, which is wide enough.
 fn edit_root<A: BuilderArena>(memory: &mut Memory<A>) -> Result<Changed> {
     if !has_words(&memory.arena, ROOT, 1) {
         return Err(Error::from(ErrorKind::OutOfBounds));
@@ -197,7 +199,7 @@ fn edit_root<A: BuilderArena>(memory: &mut Memory<A>) -> Result<Changed> {
     edit(memory, place)
 }
 
-/// What edits tell.
+/// Makes edits, and returns their line.
 fn edited(rt: &HostRuntime) -> std::result::Result<String, Fault> {
     let alloc = rt.alloc();
     let words = hex::decode(alloc, OLD_STRUCT.as_bytes())?;
@@ -211,7 +213,7 @@ fn edited(rt: &HostRuntime) -> std::result::Result<String, Fault> {
     Ok(format!(in alloc; "{:?}", edited?)?)
 }
 
-/// What reads at the root of a segment tell.
+/// Reads at the root of a segment, and returns the line.
 fn told_at<B: ReaderArena>(
     rt: &HostRuntime,
     root: PointerReader<'_, B>,
@@ -235,7 +237,7 @@ fn told_at<B: ReaderArena>(
     Ok(format!(in alloc; "{} bytes", count?)?)
 }
 
-/// What a case tells.
+/// Makes a case, and returns its line.
 pub fn told(rt: &HostRuntime, call: &str) -> std::result::Result<String, Fault> {
     let alloc = rt.alloc();
     let text = match call {

@@ -1,6 +1,7 @@
-//! Makes calls whose growths a shim may refuse, and prints what they answer and what stands then.
+//! Makes calls whose allocations a shim may refuse, and prints their answers and the state after
+//! them.
 //!
-//! Each argument names a case; README.md tells them.
+//! Each argument names a case; README.md lists the cases.
 #![tactic(auto)]
 
 mod dynamics;
@@ -29,7 +30,7 @@ use fault::Fault;
 use std::process::ExitCode;
 use std::{env, io};
 
-/// What a call of a part of the library tells that takes memory.
+/// Makes a call of a part of the library that takes memory, and returns its line.
 fn told_with_memory(rt: &HostRuntime, part: &str, call: &str) -> Result<String, Fault> {
     match part {
         "layout" => layout::told(rt, call),
@@ -52,7 +53,7 @@ fn told_with_memory(rt: &HostRuntime, part: &str, call: &str) -> Result<String, 
     }
 }
 
-/// The same of one that takes none.
+/// Makes a call of a part of the library that takes no memory, and returns its line.
 fn told_without_memory(rt: &HostRuntime, part: &str, call: &str) -> Result<String, Fault> {
     match part {
         "layout" => layout_reads::told(rt, call),
@@ -68,7 +69,7 @@ fn told_without_memory(rt: &HostRuntime, part: &str, call: &str) -> Result<Strin
     }
 }
 
-/// What a case tells, by its name: the part of the library, and the call.
+/// Makes a case by its name, the part of the library and the call, and returns its line.
 fn told(rt: &HostRuntime, name: &str) -> Result<String, Fault> {
     let (case, takes_memory) = match name.strip_prefix("no_memory.") {
         Some(case) => (case, false),
@@ -82,7 +83,7 @@ fn told(rt: &HostRuntime, name: &str) -> Result<String, Fault> {
     }
 }
 
-/// Prints what each case tells. Whether there is one, and each could be made.
+/// Prints the line of each case. Returns whether there is a case, and each could be made.
 fn run(rt: &HostRuntime) -> io::Result<bool> {
     let mut are_made = true;
     let mut count: usize = 0;

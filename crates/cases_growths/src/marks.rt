@@ -1,12 +1,12 @@
-//! Marks on standard error, between which a shim counts and refuses growths.
+//! Marks on standard error, between which a shim counts and refuses allocations.
 
-/// From here on growths are counted.
+/// Begins the count of allocations.
 pub fn begin(rt: &HostRuntime) {
     // Where standard error is closed nothing is counted, which the script sees.
     let _told = eprint!(rt; "[");
 }
 
-/// From here on they aren't.
+/// Ends the count of allocations.
 pub fn end(rt: &HostRuntime) {
     let _told = eprint!(rt; "]");
 }

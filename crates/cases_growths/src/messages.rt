@@ -1,4 +1,4 @@
-//! Messages of small segments, and what of them stands behind a call.
+//! Messages of small segments, and their state after a call.
 
 use crate::fault::Fault;
 use capnp_copy_arenas::arena::{BuilderArena, Memory};
@@ -17,7 +17,7 @@ pub type Segments<'a> = ReaderArenaImpl<&'a [&'a [u8]]>;
 /// The most segments of a message here.
 const MOST: u32 = 1 << 16;
 
-/// A message in which each object has a segment of its own.
+/// Makes a message in which each object has a segment of its own.
 pub fn small(alloc: Global) -> Builder<HeapAllocator> {
     let allocator = HeapAllocator::new(alloc)
         .first_segment_words(1)
@@ -25,17 +25,17 @@ pub fn small(alloc: Global) -> Builder<HeapAllocator> {
     Builder::new(alloc, allocator)
 }
 
-/// A message with room in its first segment.
+/// Makes a message with room in its first segment.
 pub fn roomy(alloc: Global) -> Builder<HeapAllocator> {
     Builder::new(alloc, HeapAllocator::new(alloc).first_segment_words(0x1000))
 }
 
-/// Gives back the segments of a message that ends.
+/// Ends a message, and releases its segments.
 pub fn end(builder: Builder<HeapAllocator>) {
     drop(builder.into_allocator());
 }
 
-/// Makes the root pointer, and puts a copy of a source's root behind it.
+/// Makes the root pointer, and sets it to a copy of a source's root.
 pub fn put_copy<A: BuilderArena, B: ReaderArena>(memory: &mut Memory<A>, source: &B) -> Result<()> {
     memory.arena.allocate_anywhere(1)?;
     if !has_words(&memory.arena, ROOT, 1) {
@@ -45,14 +45,14 @@ pub fn put_copy<A: BuilderArena, B: ReaderArena>(memory: &mut Memory<A>, source:
     copy_from(&mut memory.arena, ROOT, &mut unlimited, source, ROOT, 64)
 }
 
-/// The same of the words of one segment.
+/// Makes the root pointer, and sets it to a copy of the root of one segment of words.
 pub fn put_words<A: BuilderArena>(memory: &mut Memory<A>, words: &[u8]) -> Result<()> {
     let segments = [words];
     let source: Segments<'_> = ReaderArenaImpl::new(segments.as_slice(), 64);
     put_copy(memory, &source)
 }
 
-/// The bytes of a message's segments.
+/// Returns the bytes of a message's segments.
 pub fn segments_of<A: ReaderArena>(
     alloc: Global,
     arena: &A,
@@ -67,7 +67,7 @@ pub fn segments_of<A: ReaderArena>(
     Ok(segments)
 }
 
-/// Whether a message's segments begin with these, and all other words are zero.
+/// Returns whether a message's segments begin with these, and all other words are zero.
 pub fn stands<A: ReaderArena>(arena: &A, segments: &Vec<Vec<u8>>) -> bool {
     for id in 0..MOST {
         let Some(bytes) = arena.get_segment(id) else {
@@ -87,7 +87,7 @@ pub fn stands<A: ReaderArena>(arena: &A, segments: &Vec<Vec<u8>>) -> bool {
     false
 }
 
-/// The bytes of a message's first segment, in hex.
+/// Returns the bytes of a message's first segment, in hex.
 fn first_of<A: ReaderArena>(alloc: Global, arena: &A) -> std::result::Result<String, Fault> {
     match arena.get_segment(0) {
         Some(bytes) => Ok(hex::encode(alloc, bytes)?),
@@ -95,8 +95,8 @@ fn first_of<A: ReaderArena>(alloc: Global, arena: &A) -> std::result::Result<Str
     }
 }
 
-/// The words of a copy of a message's value in one segment, each object where the last one ends, in
-/// hex.
+/// Returns the words of a copy of a message's value in one segment, with each object at the end of
+/// the previous one, in hex.
 pub fn tree_of<A: ReaderArena>(alloc: Global, arena: &A) -> std::result::Result<String, Fault> {
     if !has_words(arena, ROOT, 1) {
         return Ok(String::from_str(alloc, "no root")?);
@@ -109,8 +109,8 @@ pub fn tree_of<A: ReaderArena>(alloc: Global, arena: &A) -> std::result::Result<
     words
 }
 
-/// What a call at a message answered, whether the words that stood before stand still, and what is
-/// read then.
+/// Describes the answer of a call at a message, whether the earlier words are unchanged, and the
+/// value read after the call.
 pub fn outcome(
     alloc: Global,
     done: Result<()>,
@@ -127,7 +127,7 @@ pub fn outcome(
     }
 }
 
-/// What a refused call answered that has nothing to leave.
+/// Describes the answer of a refused call that leaves nothing to compare.
 pub fn refusal(alloc: Global, error: Error) -> std::result::Result<String, Fault> {
     Ok(format!(in alloc; "refused {}", error.kind.name())?)
 }

@@ -24,12 +24,12 @@ const TWO: &[u8] = &[
 
 const PACKED: &[u8] = &[0x11, 1, 1, 1, 2, 0x11, 2, 1, 0x10, 1, 1, 7];
 
-/// What is answered to a call that there isn't.
+/// The answer to a call that doesn't exist.
 const NO_CALL: Error = Error {
     kind: ErrorKind::FieldNotFound,
 };
 
-/// Looks whether segments are those two.
+/// Checks that segments are those two.
 fn look<S: ReaderSegments>(segments: &S) -> Result<()> {
     let are_two = segments.len() == 2
         && segments.get_segment(0) == TWO.get(16..24)
@@ -41,7 +41,7 @@ fn look<S: ReaderSegments>(segments: &S) -> Result<()> {
     }
 }
 
-/// Looks at a message that was read.
+/// Checks a message that was read.
 fn looked<S: ReaderSegments + Drop>(read: Result<Reader<S>>) -> Result<()> {
     match read {
         Ok(message) => look(message.get_segments()),
@@ -49,7 +49,7 @@ fn looked<S: ReaderSegments + Drop>(read: Result<Reader<S>>) -> Result<()> {
     }
 }
 
-/// The same of one that may be none.
+/// Checks a message that was read, if there was one.
 fn tried<S: ReaderSegments + Drop>(read: Result<Option<Reader<S>>>) -> Result<()> {
     match read {
         Ok(Some(message)) => look(message.get_segments()),
@@ -87,7 +87,7 @@ fn read(alloc: Global, call: &str, source: &mut &[u8], kept: &mut MessageBuffer)
     }
 }
 
-/// Reads a message by a call that takes no memory, into a lent buffer where it needs one.
+/// Reads a message by a call that takes no memory, into a lent buffer if the call needs one.
 fn read_lent(call: &str, source: &mut &[u8]) -> Result<()> {
     let options = DEFAULT_READER_OPTIONS;
     let mut buffer = [0; 40];
@@ -115,7 +115,7 @@ fn read_lent(call: &str, source: &mut &[u8]) -> Result<()> {
     }
 }
 
-/// The bytes that a call reads.
+/// Returns the bytes that a call reads.
 fn bytes_of(call: &str) -> &'static [u8] {
     if call.starts_with("packed") {
         PACKED
@@ -124,8 +124,8 @@ fn bytes_of(call: &str) -> &'static [u8] {
     }
 }
 
-/// Whether a refusal left what it should: the slice or the whole of a lent one, else a part of the
-/// message, or a buffer that reads the next one.
+/// Returns whether a refusal left what it should: the whole slice for a call that reads a slice, a
+/// buffer that reads the next message for a kept buffer, otherwise a part of the message.
 fn stands(call: &str, left: usize, again: Result<()>) -> bool {
     match call {
         "framed_flat" | "framed_buffer" => left == TWO.len(),
@@ -134,7 +134,7 @@ fn stands(call: &str, left: usize, again: Result<()>) -> bool {
     }
 }
 
-/// What a case tells.
+/// Makes a case, and returns its line.
 pub fn told(rt: &HostRuntime, call: &str) -> std::result::Result<String, Fault> {
     let alloc = rt.alloc();
     let mut source = bytes_of(call);
@@ -148,7 +148,7 @@ pub fn told(rt: &HostRuntime, call: &str) -> std::result::Result<String, Fault> 
     outcome(alloc, done, stands(call, left, again), text.as_str())
 }
 
-/// What a case tells whose call takes no memory.
+/// Makes a case whose call takes no memory, and returns its line.
 pub fn lent(rt: &HostRuntime, call: &str) -> std::result::Result<String, Fault> {
     let mut source = bytes_of(call);
     marks::begin(rt);

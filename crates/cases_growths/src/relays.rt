@@ -1,4 +1,4 @@
-//! Runs of the relay, and then of the rest of the input.
+//! Runs of the relay, and afterwards of the rest of the input.
 ghost use Rattle.capnp_calls.specs.Roots.{IsRoot};
 
 use crate::fault::Fault;
@@ -22,20 +22,20 @@ use std::alloc::Global;
 pub const SCHEMA: &str = r#"[{"id":1,"name":"P","data":1,"pointers":1,"fields":[
     {"name":"a","type":"UInt16","offset":0},{"name":"t","type":"Text","offset":0}]}]"#;
 
-/// The same with b UInt64 and a text more.
+/// P with b UInt64 and one more text.
 pub const NEWER: &str = r#"[{"id":1,"name":"P","data":2,"pointers":2,"fields":[
     {"name":"a","type":"UInt16","offset":0},{"name":"t","type":"Text","offset":0},
     {"name":"b","type":"UInt64","offset":1},{"name":"u","type":"Text","offset":1}]}]"#;
 
-/// The newer one with another name for a.
+/// The newer schema with another name for a.
 pub const RENAMED: &str = r#"[{"id":1,"name":"P","data":2,"pointers":2,"fields":[
     {"name":"number","type":"UInt16","offset":0},{"name":"t","type":"Text","offset":0},
     {"name":"b","type":"UInt64","offset":1},{"name":"u","type":"Text","offset":1}]}]"#;
 
-/// The names that differ in it.
+/// The names that differ in the newer schema.
 pub const RENAMES: &str = r#"[{"node":1,"from":"a","to":"number"}]"#;
 
-/// Two calls: t is set to a text, and got.
+/// Two calls, which set t to a text, and get it.
 pub const CALLS: &str = r#"{"calls":[{"path":["t"],"verb":"set","value":{"text":"hi"}},
     {"path":["t"],"verb":"get"}],"words":1000}"#;
 
@@ -46,7 +46,7 @@ const FRAMED: [u8; 32] = [
 
 const PACKED: [u8; 8] = [0x10, 1, 1, 3, 0x10, 1, 0, 0];
 
-/// What the region holds before a run.
+/// The bytes of the region before a run.
 const DIRT: u8 = 0xff;
 
 /// The bytes of a region that is too short for each message here.
@@ -55,17 +55,17 @@ const SHORT: usize = 8;
 /// The bytes that the output, and the log, have room for beforehand.
 const ROOM: usize = 1000;
 
-/// What is left of a run.
+/// The results of a run.
 #[derive(Drop)]
 struct Left {
     end: std::result::Result<Counts, BetweenFault>,
     out: Vec<u8>,
     log: Vec<u8>,
-    /// The byte that the region holds everywhere, if it is one.
+    /// The byte that fills the region, if all its bytes are equal.
     region: Option<u8>,
 }
 
-/// The byte that a region holds everywhere, if it is one.
+/// Returns the byte that fills a region, if all its bytes are equal.
 fn byte_of(region: &[u8]) -> Option<u8> {
     let first = *region.first()?;
     if region.iter().all(|byte| *byte == first) {
@@ -75,7 +75,7 @@ fn byte_of(region: &[u8]) -> Option<u8> {
     }
 }
 
-/// The words of a run in a form, with a newer schema.
+/// Returns the words of a run in a form, with a newer schema.
 fn words_in(alloc: Global, form: &str) -> Result<Vec<String>, Fault> {
     let mut words = Vec::new(alloc);
     for word in ["p.json", "c.json", "1", form, "n.json"] {
@@ -84,7 +84,7 @@ fn words_in(alloc: Global, form: &str) -> Result<Vec<String>, Fault> {
     Ok(words)
 }
 
-/// The calls and the limits of a run.
+/// Returns the calls and the limits of a run.
 pub fn settings(alloc: Global, form: &str, calls: &str) -> Result<Settings, Fault> {
     let words = words_in(alloc, form)?;
     let schema = Some(SCHEMA.as_bytes());
@@ -95,13 +95,13 @@ pub fn settings(alloc: Global, form: &str, calls: &str) -> Result<Settings, Faul
     }
 }
 
-/// A field that has another name in the newer schema.
+/// Returns the renaming of a field in the newer schema.
 pub fn renamings(alloc: Global) -> Result<Renamings, Fault> {
     let list = renames_file(alloc, RENAMES.as_bytes())?;
     Renamings::new(list).ok().ok_or(Fault::Unmade)
 }
 
-/// The version of a schema file.
+/// Returns the version of a schema file.
 pub fn version(alloc: Global, file: &str) -> Result<Version, Fault> {
     match Version::new(alloc, Some(file.as_bytes()), 1) {
         Ok(version) => Ok(version),
@@ -109,20 +109,20 @@ pub fn version(alloc: Global, file: &str) -> Result<Version, Fault> {
     }
 }
 
-/// What is called.
+/// The function that is called.
 #[derive(Clone, Copy, PartialEq, Eq)]
 enum Way {
     Alone,
     Between,
-    /// Between versions of which the newer has another name for a field.
+    /// Between versions; the newer has another name for a field.
     Renamed,
-    /// Alone and between them, with a region that is too short.
+    /// Under one schema, with a region that is too short.
     Pausing,
     BetweenPausing,
 }
 
 impl Way {
-    /// The newer schema.
+    /// Returns the newer schema.
     fn newer(self) -> &'static str {
         match self {
             Way::Renamed | Way::BetweenPausing => RENAMED,
@@ -130,7 +130,7 @@ impl Way {
         }
     }
 
-    /// The call, and its form, of the name of a case.
+    /// Returns the call, and its form, of the name of a case.
     fn of(name: &str) -> (Way, &str) {
         match name.split_once('.') {
             Some(("between", form)) => (Way::Between, form),
@@ -142,7 +142,7 @@ impl Way {
     }
 }
 
-/// What a run goes by.
+/// The input of a run.
 #[derive(Clone, Copy)]
 struct Given<'a> {
     root: StructSchema<'a>,
@@ -152,11 +152,11 @@ struct Given<'a> {
     options: RelayOptions,
 }
 
-/// How a call ended, and the byte that its region holds everywhere then, if it is one.
+/// The end of a call, and the byte that fills its region after it, if all its bytes are equal.
 type Ended = (std::result::Result<Counts, BetweenFault>, Option<u8>);
 
-/// How a run of the relay ends that has a region which is too short, of which the growths between
-/// the marks are counted.
+/// Runs the relay with a region that is too short, and returns how the run ends. The allocations
+/// between the marks are counted.
 fn paused(
     rt: &HostRuntime,
     way: Way,
@@ -209,7 +209,7 @@ fn paused(
     Ok((end, byte_of(&region)))
 }
 
-/// The same of a run with the whole region.
+/// Runs the relay with the whole region, and returns how the run ends.
 fn relayed(
     rt: &HostRuntime,
     way: Way,
@@ -247,7 +247,7 @@ fn relayed(
     Ok((end, byte_of(&region)))
 }
 
-/// A run of the relay on messages.
+/// Runs the relay on messages.
 fn ran(rt: &HostRuntime, form: &str, way: Way, mut source: &[u8]) -> Result<Left, Fault> {
     let alloc = rt.alloc();
     let settings = settings(alloc, form, CALLS)?;
@@ -276,8 +276,8 @@ fn ran(rt: &HostRuntime, form: &str, way: Way, mut source: &[u8]) -> Result<Left
     })
 }
 
-/// How many messages a run has answered, and how it ended. Its region is clean, or as it was where
-/// the run didn't begin.
+/// Returns the number of messages that a run has answered, and describes its end. The region is
+/// clean, or unchanged if the run didn't begin.
 fn end_of(alloc: Global, left: &Left) -> Result<(usize, String), Fault> {
     let (counts, text, byte) = match &left.end {
         Ok(counts) => (*counts, String::from_str(alloc, "done")?, 0),
@@ -302,7 +302,7 @@ fn end_of(alloc: Global, left: &Left) -> Result<(usize, String), Fault> {
     Ok((written.saturating_add(refused).min(2) as usize, told))
 }
 
-/// What a run left: its end, the output in hex and the log.
+/// Describes the results of a run: its end, the output in hex and the log.
 fn told_of(alloc: Global, left: &Left) -> Result<(usize, String), Fault> {
     let (answered, end) = end_of(alloc, left)?;
     let out = hex::encode(alloc, &left.out)?;
@@ -311,7 +311,7 @@ fn told_of(alloc: Global, left: &Left) -> Result<(usize, String), Fault> {
     Ok((answered, told))
 }
 
-/// What a case tells: a run, and a run on the messages that it didn't answer.
+/// Makes a case, and returns its line: a run, and a run on the messages that it didn't answer.
 pub fn told(rt: &HostRuntime, call: &str) -> Result<String, Fault> {
     let alloc = rt.alloc();
     let (way, form) = Way::of(call);

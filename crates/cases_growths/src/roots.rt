@@ -41,7 +41,7 @@ impl PlacedStruct for Record {
     }
 }
 
-/// The call of a name, at a message without segments.
+/// Makes the named call, at a message without segments.
 fn make<L: Allocator>(
     alloc: Global,
     builder: &mut Builder<L>,
@@ -87,7 +87,7 @@ fn make<L: Allocator>(
     }
 }
 
-/// What is seen of a message that had no segment.
+/// Describes a message that had no segment.
 pub fn seen<A: ReaderArena>(
     alloc: Global,
     arena: &A,
@@ -97,7 +97,7 @@ pub fn seen<A: ReaderArena>(
     outcome(alloc, done, is_standing, tree_of(alloc, arena)?.as_str())
 }
 
-/// What a call tells at a message over an allocator.
+/// Makes a call at a message over an allocator, and returns its line.
 fn told_over<L: Allocator>(
     rt: &HostRuntime,
     allocator: &mut L,
@@ -117,7 +117,8 @@ fn told_over<L: Allocator>(
     told
 }
 
-/// The same over segments of the heap, of as few words as there can be.
+/// Makes a call at a message over segments of the heap, of as few words as possible, and returns
+/// its line.
 fn told_on_heap(rt: &HostRuntime, call: &str, words: &[u8]) -> std::result::Result<String, Fault> {
     let mut heap = HeapAllocator::new(rt.alloc())
         .first_segment_words(1)
@@ -125,7 +126,8 @@ fn told_on_heap(rt: &HostRuntime, call: &str, words: &[u8]) -> std::result::Resu
     told_over(rt, &mut heap, call, words)
 }
 
-/// The same in a slice, alone or with the heap behind it. It comes back all zeros.
+/// Makes a call at a message in a slice, which the heap may follow, and returns its line. The slice
+/// comes back all zeros.
 fn told_in(
     rt: &HostRuntime,
     region: &mut [u8],
@@ -145,7 +147,7 @@ fn told_in(
     told_over(rt, &mut scratch, call, words)
 }
 
-/// What a case tells: an allocator, and the call.
+/// Makes a case of an allocator and a call, and returns its line.
 pub fn told(rt: &HostRuntime, name: &str) -> std::result::Result<String, Fault> {
     let alloc = rt.alloc();
     let (allocator, call) = name.split_once('.').ok_or(Fault::NoCase)?;
@@ -164,7 +166,7 @@ pub fn told(rt: &HostRuntime, name: &str) -> std::result::Result<String, Fault> 
     Ok(format!(in alloc; "{}; {count} bytes are zero", text.as_str())?)
 }
 
-/// What a message over the heap tells that is made of words.
+/// Makes a message over the heap from words, and returns its line.
 fn told_of_words(rt: &HostRuntime) -> std::result::Result<String, Fault> {
     let alloc = rt.alloc();
     let mut builder = Builder::new(alloc, HeapAllocator::new(alloc));
@@ -176,7 +178,7 @@ fn told_of_words(rt: &HostRuntime) -> std::result::Result<String, Fault> {
     told
 }
 
-/// What a message tells that is read where it was built, and given back, which takes no memory.
+/// Reads a message where it was built, and gives it back, which takes no memory. Returns its line.
 pub fn read_back(rt: &HostRuntime) -> std::result::Result<String, Fault> {
     let alloc = rt.alloc();
     let mut builder = roomy(alloc);

@@ -20,8 +20,8 @@ use capnp_schema_structs::init::Part;
 use capnp_units::kinds::ErrorKind;
 use capnp_values_queries::structs::StructSchema;
 
-/// The call of a name, as it stands in a file. Its messages are the texts `b` and `c`; the struct
-/// of the number 7 and the text `hi`; and a struct of the group's fields `g` and `h`.
+/// Returns the named call, as it is written in a file. Its messages are the texts `b` and `c`; the
+/// struct of the number 7 and the text `hi`; and a struct of the group's fields `g` and `h`.
 fn call_of(name: &str) -> Option<&'static str> {
     Some(match name {
         "set_text" => r#"{"path":["text"],"verb":"set","value":{"text":"hi"}}"#,
@@ -45,8 +45,7 @@ fn call_of(name: &str) -> Option<&'static str> {
     })
 }
 
-/// Runs calls at the root of a message, between the marks. What is replied to the one that there
-/// is.
+/// Runs calls at the root of a message, between the marks. Returns the reply to the only call.
 fn answered<A: BuilderArena>(
     rt: &HostRuntime,
     memory: &mut Memory<A>,
@@ -77,7 +76,7 @@ fn answered<A: BuilderArena>(
     }
 }
 
-/// What a run tells at a message, with the record that it leaves.
+/// Runs calls at a message, and returns the line with the record after them.
 fn told_of<A: BuilderArena>(
     rt: &HostRuntime,
     memory: &mut Memory<A>,
@@ -94,7 +93,7 @@ fn told_of<A: BuilderArena>(
     Ok(format!(in alloc; "{}; {}", told.as_str(), text.as_str())?)
 }
 
-/// What a case tells.
+/// Makes a case, and returns its line.
 pub fn told(rt: &HostRuntime, name: &str) -> Result<String, Fault> {
     arenas_are_deep::<HeapAllocator>();
     let alloc = rt.alloc();

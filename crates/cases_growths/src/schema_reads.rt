@@ -16,7 +16,7 @@ use capnp_values_queries::enums::EnumSchema;
 use capnp_values_queries::structs::StructSchema;
 use capnp_wire_objects::arena::{ReaderArena, ReaderArenaImpl};
 
-/// What queries of a struct and of an enum count.
+/// The counts of queries of a struct and of an enum.
 #[derive(Clone, Copy, Debug)]
 struct Queried {
     fields: u16,
@@ -28,7 +28,7 @@ struct Queried {
     annotations: u32,
 }
 
-/// Makes each query of a schema, and iterates over what it lists.
+/// Makes each query of a schema, and iterates over the lists that it returns.
 fn query(set: &SchemaSet, schema: StructSchema<'_>) -> Result<Queried> {
     let mut pointers: u16 = 0;
     for field in schema.get_fields()? {
@@ -55,8 +55,8 @@ fn query(set: &SchemaSet, schema: StructSchema<'_>) -> Result<Queried> {
     })
 }
 
-/// What look-ups by name find: fields, the most names that one compared, and enumerants of the
-/// enum.
+/// The findings of look-ups by name: fields, the most names that a look-up compared, and enumerants
+/// of the enum.
 #[derive(Clone, Copy, Debug)]
 struct Found {
     fields: u16,
@@ -65,7 +65,7 @@ struct Found {
     is_none: bool,
 }
 
-/// Looks up each field, and a name that there isn't.
+/// Looks up each field, and a name that doesn't exist.
 fn find(set: &SchemaSet, schema: StructSchema<'_>) -> Result<Found> {
     let (mut fields, mut compared): (u16, u32) = (0, 0);
     for field in schema.get_fields()? {
@@ -94,7 +94,7 @@ fn find(set: &SchemaSet, schema: StructSchema<'_>) -> Result<Found> {
     })
 }
 
-/// What is read of a record.
+/// The values read of a record.
 #[derive(Clone, Copy, Debug)]
 struct Seen {
     present: u16,
@@ -131,7 +131,7 @@ fn look<A: ReaderArena>(record: dynamic_struct::Reader<'_, A>) -> Result<Seen> {
     })
 }
 
-/// What is read of a record's lists and of its untyped pointer, which leads to the text `y`.
+/// The values read of a record's lists and of its untyped pointer, which leads to the text `y`.
 #[derive(Clone, Copy, Debug)]
 struct Listed {
     elements: u32,
@@ -156,7 +156,7 @@ impl Listed {
     }
 }
 
-/// Gets each element of a record's lists, and what the untyped pointer names.
+/// Gets each element of a record's lists, and the value of the untyped pointer.
 fn list<A: ReaderArena>(record: dynamic_struct::Reader<'_, A>) -> Result<Listed> {
     let mut listed = Listed {
         elements: 0,
@@ -183,7 +183,7 @@ fn list<A: ReaderArena>(record: dynamic_struct::Reader<'_, A>) -> Result<Listed>
     Ok(listed)
 }
 
-/// What queries tell.
+/// Makes queries, and returns their line.
 fn told_of_queries(rt: &HostRuntime, call: &str) -> std::result::Result<String, Fault> {
     let set = set_of(rt.alloc())?;
     let schema = schema_of(&set, 1)?;
@@ -198,7 +198,7 @@ fn told_of_queries(rt: &HostRuntime, call: &str) -> std::result::Result<String, 
     Ok(format!(in rt.alloc(); "{:?}", queried?)?)
 }
 
-/// What reads tell.
+/// Makes reads, and returns their line.
 fn told_of_reads(rt: &HostRuntime, call: &str) -> std::result::Result<String, Fault> {
     let alloc = rt.alloc();
     let set = set_of(alloc)?;
@@ -217,7 +217,7 @@ fn told_of_reads(rt: &HostRuntime, call: &str) -> std::result::Result<String, Fa
     Ok(format!(in alloc; "{:?}", seen?)?)
 }
 
-/// What a case tells.
+/// Makes a case, and returns its line.
 pub fn told(rt: &HostRuntime, call: &str) -> std::result::Result<String, Fault> {
     match call {
         "queries" | "names" => told_of_queries(rt, call),

@@ -38,10 +38,10 @@ const HI: [u8; 40] = [
     0, 0x68, 0x69, 0, 0, 0, 0, 0, 0,
 ];
 
-/// What is told of a call that memory was refused to.
+/// The line of a call to which memory was refused.
 const REFUSED: &str = "refused Memory";
 
-/// Returns the calls of a run at the root of a message, between the marks.
+/// Runs calls at the root of a message, between the marks.
 fn answered<A: BuilderArena>(
     rt: &HostRuntime,
     memory: &mut Memory<A>,
@@ -71,7 +71,7 @@ fn answered<A: BuilderArena>(
     }
 }
 
-/// What a run tells, with the value that it leaves.
+/// Runs calls, and returns their line, with the value after them.
 fn ran(rt: &HostRuntime) -> std::result::Result<String, Fault> {
     arenas_are_deep::<HeapAllocator>();
     let alloc = rt.alloc();
@@ -85,7 +85,7 @@ fn ran(rt: &HostRuntime) -> std::result::Result<String, Fault> {
     Ok(format!(in alloc; "{}; {}", told?.as_str(), tree?.as_str())?)
 }
 
-/// Prints a record, or a field of it, behind what a vector holds.
+/// Prints a record, or a field of it, after the contents of a vector.
 fn print_by<A: ReaderArena>(
     record: dynamic_struct::Reader<'_, A>,
     call: &str,
@@ -100,8 +100,8 @@ fn print_by<A: ReaderArena>(
     }
 }
 
-/// What the printing of a record behind what a vector holds tells: that stands where memory is
-/// refused. Lines are told in quotes.
+/// Prints a record after the contents of a vector, and returns the line. A refusal of memory leaves
+/// the contents unchanged. Lines are in quotes.
 fn printed_by<A: ReaderArena>(
     rt: &HostRuntime,
     record: dynamic_struct::Reader<'_, A>,
@@ -121,7 +121,7 @@ fn printed_by<A: ReaderArena>(
     outcome(alloc, done, is_standing, text)
 }
 
-/// The same of a record of each sort of field.
+/// Prints a record of each sort of field, and returns the line.
 fn printed(rt: &HostRuntime, call: &str) -> std::result::Result<String, Fault> {
     let alloc = rt.alloc();
     let set = set_of(alloc)?;
@@ -148,7 +148,7 @@ fn shown(rt: &HostRuntime) -> std::result::Result<String, Fault> {
     }
 }
 
-/// What is answered of two versions by a call: whether they are compatible, or the calls are
+/// Returns the answer of a call about two versions: whether they are compatible, or the calls are
 /// admitted.
 fn compared(
     alloc: Global,
@@ -168,7 +168,7 @@ fn compared(
     Ok(matches!(admission, Admission::Admitted))
 }
 
-/// What a call at two versions tells.
+/// Makes a call about two versions, and returns its line.
 fn told_of_versions(rt: &HostRuntime, call: &str) -> std::result::Result<String, Fault> {
     let alloc = rt.alloc();
     let file = if call.ends_with("_with") {
@@ -196,7 +196,7 @@ fn told_of_versions(rt: &HostRuntime, call: &str) -> std::result::Result<String,
     }
 }
 
-/// What a case tells.
+/// Makes a case, and returns its line.
 pub fn told(rt: &HostRuntime, call: &str) -> std::result::Result<String, Fault> {
     match call {
         "run" => ran(rt),

@@ -16,7 +16,7 @@ use capnp_units::kinds::ErrorKind;
 use capnp_units::sizes::words_as_bytes;
 use std::alloc::Global;
 
-/// The words that a table tells, pushed one segment behind the other.
+/// Pushes segments one after another, and returns the words that the table counts.
 fn push(alloc: Global, count: usize) -> Result<usize> {
     let mut table = SegmentLengthsBuilder::with_capacity(alloc, 1)?;
     for words in 0..count {
@@ -25,7 +25,7 @@ fn push(alloc: Global, count: usize) -> Result<usize> {
     Ok(table.total_words())
 }
 
-/// The bytes of the segments that a table makes.
+/// Returns the number of bytes of the segments that a table makes.
 fn own(alloc: Global) -> Result<usize> {
     let mut table = SegmentLengthsBuilder::with_capacity(alloc, 2)?;
     table.try_push_segment(1)?;
@@ -34,7 +34,7 @@ fn own(alloc: Global) -> Result<usize> {
     Ok(segments.as_slice().len())
 }
 
-/// The words of the second segment that a table makes.
+/// Returns the number of words of the second segment that a table makes.
 fn copy_segment(alloc: Global) -> Result<usize> {
     let mut table = SegmentLengthsBuilder::with_capacity(alloc, 2)?;
     table.try_push_segment(1)?;
@@ -45,7 +45,7 @@ fn copy_segment(alloc: Global) -> Result<usize> {
     }
 }
 
-/// The bytes of a message's canonical words.
+/// Returns the number of bytes of a message's canonical words.
 fn canonicalize(alloc: Global, words: &[u8]) -> Result<usize> {
     let segments: [&[u8]; 1] = [words];
     let source = Reader::new(SegmentArray::new(&segments), DEFAULT_READER_OPTIONS);
@@ -58,7 +58,7 @@ fn canonicalize(alloc: Global, words: &[u8]) -> Result<usize> {
     }
 }
 
-/// The bytes of a text's copy.
+/// Returns the number of bytes of a text's copy.
 fn copy(alloc: Global, is_built: bool) -> Result<usize> {
     let mut bytes = [0x68, 0x69];
     let copied = if is_built {
@@ -72,13 +72,13 @@ fn copy(alloc: Global, is_built: bool) -> Result<usize> {
     }
 }
 
-/// The bytes that a reader shows through a buffered source.
+/// Returns the number of bytes that a reader shows through a buffered source.
 fn show(alloc: Global) -> Result<usize> {
     let mut source = Source::new(alloc, b"hi".as_slice())?;
     Ok(source.fill_buf()?.len())
 }
 
-/// The words of a message that is built by a function.
+/// Returns the number of words of a message that is built by a function.
 fn build(alloc: Global) -> Result<usize> {
     with_message(alloc, |message: &mut Builder<HeapAllocator>| {
         message.set_root::<text::Owned, &str>("hi")?;
@@ -86,7 +86,7 @@ fn build(alloc: Global) -> Result<usize> {
     })
 }
 
-/// The call of a name, between the marks. How many words or bytes it answers.
+/// Makes the named call, between the marks. Returns the number of words or bytes that it answers.
 fn called(rt: &HostRuntime, call: &str, words: &[u8]) -> Result<usize> {
     let alloc = rt.alloc();
     marks::begin(rt);
@@ -106,7 +106,7 @@ fn called(rt: &HostRuntime, call: &str, words: &[u8]) -> Result<usize> {
     count
 }
 
-/// What a case tells.
+/// Makes a case, and returns its line.
 pub fn told(rt: &HostRuntime, call: &str) -> std::result::Result<String, Fault> {
     let alloc = rt.alloc();
     let words = hex::decode(alloc, STRUCT.as_bytes())?;

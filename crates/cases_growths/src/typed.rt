@@ -1,4 +1,4 @@
-//! Messages whose root's type is known, and messages that go on where words stand already.
+//! Messages whose root's type is known, and messages that continue after existing words.
 ghost use Rattle.std.specs.Prelude.{◌≡◌, ◌+◌, ◌*◌, ◌^◌, ◌<◌, ◌≤◌, length};
 ghost use Rattle.capnp_copy_arenas.specs.Memory.{AllZero, ZeroFrom};
 ghost use Rattle.capnp_message.specs.Built.{loans_held};
@@ -22,10 +22,10 @@ use capnp_units::limiter::ReadLimiter;
 /// A message whose root is a text.
 type Text = TypedBuilder<text::Owned, HeapAllocator>;
 
-/// The words of the text that stands where a message goes on.
+/// The words of the text after which a message continues.
 const USED: u32 = 2;
 
-/// The call of a name, at a message without segments.
+/// Makes the named call, at a message without segments.
 fn make(message: &mut Text, call: &str) -> Result<()> {
     match call {
         "set_root" => message.set_root("hi"),
@@ -45,7 +45,7 @@ fn make(message: &mut Text, call: &str) -> Result<()> {
     }
 }
 
-/// What a case tells.
+/// Makes a case, and returns its line.
 pub fn told(rt: &HostRuntime, call: &str) -> std::result::Result<String, Fault> {
     let alloc = rt.alloc();
     let mut message: Text = small(alloc).into_typed();
@@ -57,8 +57,8 @@ pub fn told(rt: &HostRuntime, call: &str) -> std::result::Result<String, Fault> 
     told
 }
 
-/// Sets the root of a message that goes on behind a text to another, where it isn't left as it is.
-/// What it tells.
+/// Sets the root of a message that continues after a text to another text, unless it is left
+/// unchanged. Returns the line.
 fn told_of<L: Allocator>(
     rt: &HostRuntime,
     builder: &mut Builder<L>,
@@ -82,7 +82,7 @@ fn told_of<L: Allocator>(
     outcome(alloc, done, is_standing, tree.as_str())
 }
 
-/// What a message tells that takes a segment in which words are used already.
+/// Makes a message that takes a segment with used words, and returns its line.
 fn told_of_held(
     rt: &HostRuntime,
     segment: Vec<u8>,
@@ -103,7 +103,7 @@ fn told_of_held(
     told
 }
 
-/// The same over an allocator that holds one.
+/// Makes a message over an allocator that holds a segment with used words, and returns its line.
 fn told_of_opened<L: OpensSegment>(
     rt: &HostRuntime,
     allocator: &mut L,
@@ -122,7 +122,8 @@ fn told_of_opened<L: OpensSegment>(
     told
 }
 
-/// The same in a lent slice, which comes back all zeros.
+/// Makes a message in a lent slice with used words, and returns its line. The slice comes back all
+/// zeros.
 fn told_in(rt: &HostRuntime, region: &mut [u8], is_left: bool) -> std::result::Result<String, Fault>
     requires { 8 * 2 ≤ length region.old }
     ensures { AllZero region.new }
@@ -133,8 +134,8 @@ fn told_in(rt: &HostRuntime, region: &mut [u8], is_left: bool) -> std::result::R
     told_of_opened(rt, &mut scratch, is_left)
 }
 
-/// What a case tells of a message that goes on: it takes a segment of its allocator's, or opens a
-/// lent slice, and is left so or set.
+/// Makes a case of a message that continues after existing words, and returns its line. The message
+/// takes a segment of its allocator's, or opens a lent slice, and is left unchanged or set.
 pub fn told_of_words(rt: &HostRuntime, call: &str) -> std::result::Result<String, Fault> {
     let alloc = rt.alloc();
     let mut words = hex::decode(alloc, OLD_TEXT.as_bytes())?;
@@ -153,7 +154,7 @@ pub fn told_of_words(rt: &HostRuntime, call: &str) -> std::result::Result<String
     }
 }
 
-/// What a typed message tells that is read where it was built, which takes no memory.
+/// Reads a typed message where it was built, which takes no memory. Returns its line.
 pub fn read(rt: &HostRuntime) -> std::result::Result<String, Fault> {
     let alloc = rt.alloc();
     let mut message: Text = small(alloc).into_typed();

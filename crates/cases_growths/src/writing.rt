@@ -13,12 +13,12 @@ use capnp_units::errors::{Error, Result};
 use capnp_units::kinds::ErrorKind;
 use std::alloc::Global;
 
-/// What is answered to a call that there isn't.
+/// The answer to a call that doesn't exist.
 const NO_CALL: Error = Error {
     kind: ErrorKind::FieldNotFound,
 };
 
-/// Words that are written alone.
+/// Words that are written by themselves.
 const WORDS: [u8; 24] = [
     0, 0, 0x0c, 0, 0, 0x22, 0, 0, 0, 0, 0, 0, 0, 0, 0, 0, 0, 0, 0, 0, 0, 0, 0, 0,
 ];
@@ -45,7 +45,7 @@ fn write(
     }
 }
 
-/// The bytes of a message of two segments, by a call that makes them.
+/// Returns the bytes of a message of two segments, by a call that makes them.
 fn bytes_of(alloc: Global, call: &str, message: &Builder<HeapAllocator>) -> Result<Vec<u8>> {
     if message.memory.arena.len() == 0 {
         return Err(Error::from(ErrorKind::OutOfBounds));
@@ -58,7 +58,7 @@ fn bytes_of(alloc: Global, call: &str, message: &Builder<HeapAllocator>) -> Resu
     }
 }
 
-/// The segments of a message, as a list that takes memory: how many there are.
+/// Counts the segments of a message, as a list that takes memory.
 fn count_segments(
     rt: &HostRuntime,
     message: &Builder<HeapAllocator>,
@@ -74,7 +74,7 @@ fn count_segments(
     }
 }
 
-/// What a call tells at a message.
+/// Makes a call at a message, and returns its line.
 fn told_of(
     rt: &HostRuntime,
     call: &str,
@@ -112,7 +112,7 @@ fn told_of(
     )
 }
 
-/// What a case tells.
+/// Makes a case, and returns its line.
 pub fn told(rt: &HostRuntime, call: &str) -> std::result::Result<String, Fault> {
     let mut message = small(rt.alloc());
     let told = told_of(rt, call, &mut message);
@@ -120,7 +120,7 @@ pub fn told(rt: &HostRuntime, call: &str) -> std::result::Result<String, Fault> 
     told
 }
 
-/// What a case tells that writes packed words into a slice, which takes no memory.
+/// Makes a case that writes packed words into a slice, which takes no memory, and returns its line.
 pub fn lent(rt: &HostRuntime) -> std::result::Result<String, Fault> {
     let mut room = [0; 32];
     let mut rest = room.as_mut_slice();

@@ -97,7 +97,7 @@ fn stored(kind: usize, number: u64) -> u64 {
 }
 
 /// Returns the number of kinds of fields as which an element of a size can be written: as numbers
-/// that are no wider.
+/// of at most its width.
 fn kinds_of(size: ElementSize) -> usize
     ensures { result ≤ 5 }
 {

@@ -1,4 +1,4 @@
-//! Small segments, of which some are refused.
+//! Small segments; the allocator refuses some.
 ghost use Rattle.std.specs.Prelude.{◌≡◌, []};
 ghost use Rattle.capnp_units.specs.declared.kinds.ErrorKind.TheVariants.{OutOfMemory};
 
