@@ -22,10 +22,9 @@ use capnp_wire_canonical::copy::write_canonical;
 use capnp_wire_canonical::laws::copies_as_walks;
 use capnp_wire_objects::arena::{ReaderArena, ReaderArenaImpl};
 use capnp_wire_objects::place::ROOT;
-use hagzimot_outcomes::outcomes::Outcome;
+use hagzimot_outcomes::notes::Notes;
 use hagzimot_outcomes::watched::Watched;
 use std::alloc::Global;
-use std::cell::Cell;
 
 /// How far messages are followed whose canonical form goes out.
 #[derive(Clone, Copy, Debug, PartialEq, Eq, Drop)]
@@ -133,13 +132,14 @@ pub fn canonicalize_all<
     W: Write,
     L: Write,
     P: Pause<R, W, L>,
+    N: Notes,
 >(
     alloc: Global,
     source: &mut R,
     out: &mut W,
     log: &mut L,
     limits: Canonical,
-    noted: &Cell<Option<Outcome>>,
+    notes: &N,
 ) -> Result<Counts, RelayFault>
     ensures { let seen = streams_of ⟦<R as Read>⟧ ⟦<W as Write>⟧ ⟦<L as Write>⟧ in
         RelaysPausing P.may_fail (canonical_work I.reader O.writer limits W.may_grow L.may_grow)
@@ -148,11 +148,11 @@ pub fn canonicalize_all<
     let mut region = [0u8; 8];
     let watched = Watched {
         answers: &limits,
-        noted,
+        notes,
         is_strict: false,
         skips: None,
     };
-    answer_all::<I, O, R, W, L, Watched<'_, '_, '_, '_, Canonical>, P>(
+    answer_all::<I, O, R, W, L, Watched<'_, '_, '_, '_, Canonical, N>, P>(
         alloc,
         source,
         out,

@@ -39,9 +39,12 @@ pub struct Draft<F: Files> {
 
 /// Makes a file of a name that nothing has, beside a path.
 fn create_beside<F: Files>(files: &mut F, alloc: Global, goal: &Goal) -> io::Result<F::File>
-    ensures made { IfOk result (λ f. F.calls files.new ≡ created (F.made_as f) ∷ F.calls files.old) }
-    ensures beside { IfOk result (λ f. bytes_eq (string_bytes goal.now.path) (F.made_as f) ≡ false) }
-    ensures place { IfOk result (λ f. (number : ℕ) × IsDraftOf (string_bytes goal.now.path) goal.now.process number (F.made_as f)) }
+    ensures made { IfOk result (λ f. F.calls files.new ≡ created (F.made_as f)
+        ∷ F.calls files.old) }
+    ensures beside { IfOk result (λ f. bytes_eq (string_bytes goal.now.path) (F.made_as f)
+        ≡ false) }
+    ensures place { IfOk result (λ f. (number : ℕ) × IsDraftOf
+        (string_bytes goal.now.path) goal.now.process number (F.made_as f)) }
     ensures err { OnErr result (F.calls files.new ≡ F.calls files.old) }
 {
     let path = goal.path.as_str();
@@ -68,7 +71,8 @@ fn give_up<F: Files>(files: &mut F, file: &F::File)
 
 /// Syncs the bytes of a draft if that is asked for.
 fn make_ready<F: Files>(files: &mut F, file: &F::File, sync: bool) -> io::Result<()>
-    ensures ok { OnOk result (F.calls files.new ≡ made_ready sync (F.made_as file.now) (F.calls files.old)) }
+    ensures ok { OnOk result (F.calls files.new ≡ made_ready sync (F.made_as file.now)
+        (F.calls files.old)) }
     ensures err { OnErr result (F.calls files.new ≡ F.calls files.old) }
 {
     if sync { files.sync(file) } else { Ok(()) }
@@ -76,7 +80,8 @@ fn make_ready<F: Files>(files: &mut F, file: &F::File, sync: bool) -> io::Result
 
 /// Syncs the names of a folder if there is one.
 fn sync_names<F: Files>(files: &mut F, folder: Option<F::Folder>) -> io::Result<()>
-    ensures ok { OnOk result (F.calls files.new ≡ with_synced_names (is_some folder) (F.calls files.old)) }
+    ensures ok { OnOk result (F.calls files.new ≡ with_synced_names (is_some folder)
+        (F.calls files.old)) }
     ensures err { OnErr result (F.calls files.new ≡ F.calls files.old) }
 {
     match folder {
@@ -88,8 +93,10 @@ fn sync_names<F: Files>(files: &mut F, folder: Option<F::Folder>) -> io::Result<
 impl<F: Files> Draft<F> {
     /// Makes an empty file beside a name, of a name that nothing has.
     pub fn create(files: &mut F, alloc: Global, goal: Goal) -> io::Result<Draft<F>>
-        ensures made { IfOk result (λ d. F.calls files.new ≡ created (F.made_as d.file) ∷ F.calls files.old) }
-        ensures place { IfOk result (λ d. (number : ℕ) × IsDraftOf (string_bytes goal.path) goal.process number (F.made_as d.file)) }
+        ensures made { IfOk result (λ d. F.calls files.new ≡ created (F.made_as d.file)
+            ∷ F.calls files.old) }
+        ensures place { IfOk result (λ d. (number : ℕ) × IsDraftOf
+            (string_bytes goal.path) goal.process number (F.made_as d.file)) }
         ensures path { IfOk result (λ d. string_bytes d.path ≡ string_bytes goal.path) }
         ensures sync { IfOk result (λ d. is_some d.folder ≡ goal.sync) }
         ensures err { OnErr result (MakesNoDraft (F.calls files.old) (F.calls files.new)) }
@@ -115,7 +122,8 @@ impl<F: Files> Draft<F> {
 
     /// Appends bytes to the draft, and returns how many.
     pub fn write(&self, files: &mut F, bytes: &[u8]) -> io::Result<usize>
-        ensures ok { IfOk result (λ n. F.calls files.new ≡ wrote (F.made_as self.now.file) (take n bytes.now) ∷ F.calls files.old) }
+        ensures ok { IfOk result (λ n. F.calls files.new ≡ wrote (F.made_as self.now.file)
+            (take n bytes.now) ∷ F.calls files.old) }
         ensures bound { IfOk result (λ n. n ≤ length bytes.now) }
         ensures err { OnErr result (F.calls files.new ≡ F.calls files.old) }
     {
@@ -127,9 +135,12 @@ impl<F: Files> Draft<F> {
     pub fn commit(self, files: &mut F) -> Result<(), CommitError>
         ensures replaces { OnOk result (ReplacesFile (F.made_as self.file) (string_bytes self.path)
             (is_some self.folder) (F.calls files.old) (F.calls files.new)) }
-        ensures lasts { OnOk result (IsTrue (is_some self.folder) → HasSyncedNames (F.calls files.new)) }
-        ensures kept { IfKept result (KeepsOthers (F.made_as self.file) (F.calls files.old) (F.calls files.new)) }
-        ensures unsynced { IfUnsynced result (ReplacesFile (F.made_as self.file) (string_bytes self.path)
+        ensures lasts { OnOk result (IsTrue (is_some self.folder) → HasSyncedNames
+            (F.calls files.new)) }
+        ensures kept { IfKept result (KeepsOthers (F.made_as self.file) (F.calls files.old)
+            (F.calls files.new)) }
+        ensures unsynced { IfUnsynced result (ReplacesFile (F.made_as self.file)
+            (string_bytes self.path)
             (is_some self.folder) (F.calls files.old) (F.calls files.new)) }
         ensures moments { Throughout (IsOldOrNew (F.made_as self.file) (string_bytes self.path)
             (is_some self.folder) (F.calls files.old)) (F.calls files.old) (F.calls files.new) }

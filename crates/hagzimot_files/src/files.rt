@@ -42,7 +42,8 @@ pub trait Files {
 
     /// Appends bytes to a file, and returns how many.
     fn write(&mut self, file: &Self::File, bytes: &[u8]) -> io::Result<usize>
-        ensures ok { IfOk result (λ n. calls self.new ≡ wrote (made_as file.now) (take n bytes.now) ∷ calls self.old) }
+        ensures ok { IfOk result (λ n. calls self.new ≡ wrote (made_as file.now)
+            (take n bytes.now) ∷ calls self.old) }
         ensures bound { IfOk result (λ n. n ≤ length bytes.now) }
         ensures err { OnErr result (calls self.new ≡ calls self.old) };
 
@@ -53,7 +54,8 @@ pub trait Files {
 
     /// Gives a file another name, which may be that of another file.
     fn rename(&mut self, file: &Self::File, to: &str) -> io::Result<()>
-        ensures ok { OnOk result (calls self.new ≡ renamed_to (made_as file.now) to.now ∷ calls self.old) }
+        ensures ok { OnOk result (calls self.new ≡ renamed_to (made_as file.now) to.now
+            ∷ calls self.old) }
         ensures err { OnErr result (calls self.new ≡ calls self.old) };
 
     /// Removes the name under which a file was made.

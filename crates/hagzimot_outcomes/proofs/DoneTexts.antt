@@ -1,5 +1,5 @@
 -- What lines say of calls that are done.
-use Rattle.std.proofs.Common.{◌≡◌, ℕ, zero, suc, List, ◌++◌, codes, refl, ap, sym, ◌∙◌, append_assoc}
+use Rattle.std.proofs.Common.{◌≡◌, ℕ, zero, suc, ◌++◌, codes, refl, ap, sym, ◌∙◌, append_assoc}
 use Rattle.hagzimot_outcomes.specs.Lines.{done_text, more_done}
 
 pub one_done_text : (n : ℕ) → done_text (suc n) ≡ done_text n ++ codes "; done"

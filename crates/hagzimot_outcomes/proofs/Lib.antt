@@ -1,1 +1,2 @@
 mod DoneTexts
+mod Refusals

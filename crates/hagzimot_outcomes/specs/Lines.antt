@@ -1,5 +1,5 @@
 -- The lines of the log, as text and as JSON.
-use Rattle.std.specs.Prelude.{ℕ, ◌-◌, ◌/◌, ◌%◌, ◌==◌, ◌||◌, nat_lt, false, if◌then◌else◌, List, [], ◌∷◌, ◌++◌, replicate, codes, decimal}
+use Rattle.std.specs.Prelude.{ℕ, Option, Some, None, ◌-◌, ◌/◌, ◌%◌, ◌==◌, ◌||◌, nat_lt, false, if◌then◌else◌, List, [], ◌∷◌, ◌++◌, replicate, codes, decimal}
 use Rattle.std.specs.List.{flat_map}
 use Rattle.std.specs.Fmt.{digit_glyph}
 use Rattle.capnp_model.specs.Kinds.{kind_name}
@@ -12,6 +12,7 @@ use Rattle.hagzimot_outcomes.specs.declared.outcomes.Cause.{Cause}
 use Rattle.hagzimot_outcomes.specs.declared.outcomes.Cause.TheVariants as cause
 use Rattle.hagzimot_outcomes.specs.declared.outcomes.Outcome.{Outcome}
 use Rattle.hagzimot_outcomes.specs.declared.outcomes.Outcome.TheVariants as outcome
+use Rattle.hagzimot_outcomes.specs.declared.log_lines.Explanation.{Explanation}
 
 -- ---- as text
 
@@ -72,3 +73,28 @@ more_done n = flat_map (λ u. codes "," ++ quoted u) (replicate n (codes "done")
 abbrev pub cause_members : Cause → List ℕ
 cause_members (cause.Message reason) = quoted (reason_text reason)
 cause_members (cause.Call c) = quoted (kind_name (kind_of c.kind)) ++ (codes ",\"call\":" ++ decimal c.number)
+
+-- An array of what became of calls.
+abbrev pub call_array : List CallOutcome → List ℕ
+call_array [] = codes "[]"
+call_array (c ∷ rest) = codes "[" ++ (quoted (call_text c) ++ (flat_map (λ d. codes "," ++ quoted (call_text d)) rest ++ codes "]"))
+
+-- An array that says of n calls that they are done.
+abbrev pub done_array : ℕ → List ℕ
+done_array n = if n == 0 then codes "[]" else codes "[\"done\"" ++ (more_done (n - 1) ++ codes "]")
+
+-- The members that say what became of a message.
+abbrev pub outcome_members : Outcome → List ℕ
+outcome_members (outcome.Done n) = codes "\"result\":\"written\",\"replies\":" ++ done_array n
+outcome_members (outcome.Written calls) = codes "\"result\":\"written\",\"replies\":" ++ call_array calls.items
+outcome_members (outcome.Unedited c) = codes "\"result\":\"written\",\"unedited\":" ++ cause_members c
+outcome_members (outcome.Refused c) = codes "\"result\":\"refused\",\"reason\":" ++ cause_members c
+
+-- The members that explain why a message has no answer.
+abbrev pub explained_members : Option Explanation → List ℕ
+explained_members None = []
+explained_members (Some e) = codes ",\"file\":" ++ (quoted e.file.now ++ (codes ",\"why\":" ++ quoted e.why.now))
+
+-- The line of message n as JSON, which begins after so many bytes.
+abbrev pub json_line_of : ℕ → ℕ → Outcome → Option Explanation → List ℕ
+json_line_of n start o e = codes "{\"message\":" ++ (decimal n ++ (codes ",\"byte\":" ++ (decimal start ++ (codes "," ++ (outcome_members o ++ (explained_members e ++ codes "}\n"))))))

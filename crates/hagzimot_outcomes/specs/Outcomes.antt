@@ -1,19 +1,12 @@
 -- What became of messages and calls, and the lines of the log that say so.
-use Rattle.std.specs.Prelude.{◌≡◌, ℕ, ◌+◌, ◌/◌, ◌%◌, ◌<◌, ◌==◌, ◌||◌, nat_lt, Bool, true, false, if◌then◌else◌, Option, Some, None, option_map, List, [], ◌∷◌, ◌++◌, map, filter, length, codes, decimal}
-use Rattle.std.specs.List.{flat_map, position}
-use Rattle.capnp_model.specs.Kinds.{Kind, kind_name}
-use Rattle.capnp_model.specs.Answers.{Answer, Reply as ModelReply, reply_text, reply_done, reply_refused, written, refused_value, refused_root, refused_depth}
+use Rattle.std.specs.Prelude.{ℕ, Bool, true, false, Option, Some, None, List, map, filter, length}
+use Rattle.std.specs.List.{position}
+use Rattle.capnp_model.specs.Answers.{Reply as ModelReply, reply_text, reply_done, reply_refused}
 use Rattle.capnp_units.specs.Errors.{kind_of}
 use Rattle.capnp_calls.specs.Replies.{reply_view}
 use Rattle.capnp_calls.specs.declared.reply.Reply.{Reply}
-use Rattle.capnp_relay_loop.specs.declared.answer.Reason.{Reason}
-use Rattle.capnp_relay_loop.specs.declared.answer.Reason.TheVariants as reasons
 use Rattle.hagzimot_outcomes.specs.declared.outcomes.CallOutcome.{CallOutcome}
 use Rattle.hagzimot_outcomes.specs.declared.outcomes.CallOutcome.TheVariants as call
-use Rattle.hagzimot_outcomes.specs.declared.outcomes.Cause.{Cause}
-use Rattle.hagzimot_outcomes.specs.declared.outcomes.Cause.TheVariants as cause
-use Rattle.hagzimot_outcomes.specs.declared.outcomes.Outcome.{Outcome}
-use Rattle.hagzimot_outcomes.specs.declared.outcomes.Outcome.TheVariants as outcome
 
 -- The reply of a call that ran.
 abbrev pub reply_told : CallOutcome → Option ModelReply

@@ -2,6 +2,7 @@
 #![tactic(auto)]
 
 pub mod log_lines;
+pub mod notes;
 pub mod outcomes;
 pub mod refused_calls;
 pub mod skips;

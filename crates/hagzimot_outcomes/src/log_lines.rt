@@ -4,7 +4,7 @@ ghost use Rattle.std.specs.List.{flat_map};
 ghost use Rattle.std.specs.Fmt.{digit_glyph};
 ghost use Rattle.capnp_model.specs.Runs.{answer_words};
 ghost use Rattle.capnp_relay_loop.specs.MessageAnswers.{refusal_view};
-ghost use Rattle.hagzimot_outcomes.specs.Lines.{call_text, each_call_text, done_text, reason_text, cause_text, outcome_text, text_line_of, byte_quoted, quoted, more_done, cause_members};
+ghost use Rattle.hagzimot_outcomes.specs.Lines.{call_text, each_call_text, done_text, reason_text, cause_text, outcome_text, text_line_of, byte_quoted, quoted, more_done, cause_members, call_array, done_array, outcome_members, explained_members, json_line_of};
 
 use crate::outcomes::{CallOutcome, Cause, Outcome};
 use capnp_relay_loop::answer::Reason;
@@ -191,14 +191,18 @@ fn push_others(alloc: Global, line: &mut Vec<u8>, calls: &[CallOutcome]) -> Resu
 }
 
 /// Appends an array of what became of each call.
-fn push_array(alloc: Global, line: &mut Vec<u8>, calls: &[CallOutcome]) -> Result<(), AllocError> {
-    let Some((first, others)) = calls.split_first() else {
-        return line.extend_from_slice(b"[]");
-    };
-    line.extend_from_slice(b"[")?;
-    push_quoted_call(alloc, line, first)?;
-    push_others(alloc, line, others)?;
-    line.extend_from_slice(b"]")
+fn push_array(alloc: Global, line: &mut Vec<u8>, calls: &[CallOutcome]) -> Result<(), AllocError>
+    ensures { OnOk result (line.new.items ≡ line.old.items ++ call_array calls.now) }
+{
+    match calls {
+        [] => line.extend_from_slice(b"[]"),
+        [first, others @ ..] => {
+            line.extend_from_slice(b"[")?;
+            push_quoted_call(alloc, line, first)?;
+            push_others(alloc, line, others)?;
+            line.extend_from_slice(b"]")
+        }
+    }
 }
 
 /// Appends that so many calls are done, each between double quotes and after a comma.
@@ -212,7 +216,9 @@ fn push_more_done(line: &mut Vec<u8>, count: usize) -> Result<(), AllocError>
 }
 
 /// Appends an array that says of so many calls that they are done.
-fn push_done_array(line: &mut Vec<u8>, count: usize) -> Result<(), AllocError> {
+fn push_done_array(line: &mut Vec<u8>, count: usize) -> Result<(), AllocError>
+    ensures { OnOk result (line.new.items ≡ line.old.items ++ done_array count) }
+{
     if count == 0 {
         return line.extend_from_slice(b"[]");
     }
@@ -237,7 +243,9 @@ fn push_cause_members(line: &mut Vec<u8>, cause: Cause) -> Result<(), AllocError
 }
 
 /// Appends the members of an object that say what became of a message.
-fn push_members(alloc: Global, line: &mut Vec<u8>, outcome: &Outcome) -> Result<(), AllocError> {
+fn push_members(alloc: Global, line: &mut Vec<u8>, outcome: &Outcome) -> Result<(), AllocError>
+    ensures { OnOk result (line.new.items ≡ line.old.items ++ outcome_members outcome.now) }
+{
     match outcome {
         Outcome::Done(count) => {
             line.extend_from_slice(b"\"result\":\"written\",\"replies\":")?;
@@ -258,6 +266,29 @@ fn push_members(alloc: Global, line: &mut Vec<u8>, outcome: &Outcome) -> Result<
     }
 }
 
+/// Why a message has no answer, in words, and the name of its input.
+#[derive(Clone, Copy, Debug)]
+pub struct Explanation<'a> {
+    pub file: &'a str,
+    pub why: &'a str,
+}
+
+/// Appends the members that explain why a message has no answer, if that is known.
+fn push_explanation(
+    line: &mut Vec<u8>,
+    explanation: Option<Explanation<'_>>,
+) -> Result<(), AllocError>
+    ensures { OnOk result (line.new.items ≡ line.old.items ++ explained_members explanation.entry) }
+{
+    let Some(it) = explanation else {
+        return Ok(());
+    };
+    line.extend_from_slice(b",\"file\":")?;
+    push_quoted(line, it.file.as_bytes())?;
+    line.extend_from_slice(b",\"why\":")?;
+    push_quoted(line, it.why.as_bytes())
+}
+
 /// Returns the line of message `number` as a JSON object and a line feed. The message begins after
 /// `start` bytes of its input. An error if an allocation is refused.
 pub fn json_line(
@@ -265,7 +296,11 @@ pub fn json_line(
     number: u64,
     start: u64,
     outcome: &Outcome,
-) -> Result<Vec<u8>, AllocError> {
+    explanation: Option<Explanation<'_>>,
+) -> Result<Vec<u8>, AllocError>
+    ensures { IfOk result (λ line. line.items
+        ≡ json_line_of number start outcome.now explanation.entry) }
+{
     let mut line = Vec::new(alloc);
     line.extend_from_slice(b"{\"message\":")?;
     push_number(&mut line, number)?;
@@ -273,6 +308,7 @@ pub fn json_line(
     push_number(&mut line, start)?;
     line.extend_from_slice(b",")?;
     push_members(alloc, &mut line, outcome)?;
+    push_explanation(&mut line, explanation)?;
     line.extend_from_slice(b"}\n")?;
     Ok(line)
 }

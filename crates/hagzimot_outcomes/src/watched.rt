@@ -1,5 +1,10 @@
-//! Answers of which it is noted what became of each message and its calls.
+//! Answers of which it is noted what becomes of each message and its calls.
+ghost use Rattle.std.specs.Prelude.{◌≡◌, ℕ, List};
+ghost use Rattle.capnp_relay_loop.specs.MessageAnswers.{answer_view};
+ghost use Rattle.hagzimot_outcomes.specs.Outcomes.{refused_place};
+ghost use Rattle.hagzimot_outcomes.specs.Watching.{refused_call};
 
+use crate::notes::Notes;
 use crate::outcomes::{
     CallOutcome, Cause, Outcome, RefusedCall, first_refusal, outcomes_of, refused_calls,
 };
@@ -15,7 +20,10 @@ use std::cell::Cell;
 /// The replies of an answer that were made one by one; none where each call is done, or the message
 /// has no answer.
 #[inline(always)]
-fn replies_of(answer: &MessageAnswer) -> &[Reply] {
+fn replies_of(answer: &MessageAnswer) -> &[Reply]
+    ensures { (into : List (List ℕ)) → refused_call (answer_view into answer.now)
+        ≡ refused_place result.now }
+{
     match answer {
         MessageAnswer::Written { count: _, replies } => replies.as_slice(),
         MessageAnswer::Several {
@@ -26,16 +34,17 @@ fn replies_of(answer: &MessageAnswer) -> &[Reply] {
     }
 }
 
-/// Answers as they are; how many calls are refused is counted.
+/// Answers as they are. Calls that are refused are counted, and messages without an answer looked at.
 // Measured: where each call is done nothing is counted, so a small message costs nothing more.
 #[derive(Drop)]
-pub struct Counted<'a, 'n, A> {
+pub struct Counted<'a, 'n, A, N> {
     pub answers: &'a A,
     /// How many calls were refused so far.
     pub refused: &'n Cell<u64>,
+    pub notes: &'n N,
 }
 
-impl<A: Answers> Answers for Counted<'_, '_, A> {
+impl<A: Answers, N: Notes> Answers for Counted<'_, '_, A, N> {
     ghost is_answer = { λ c. A.is_answer c.answers.now };
 
     ghost is_too_large = { λ c. A.is_too_large c.answers.now };
@@ -49,12 +58,16 @@ impl<A: Answers> Answers for Counted<'_, '_, A> {
         words: &mut Vec<Word>,
     ) -> Result<MessageAnswer, Want> {
         let answer = self.answers.answer(alloc, message, region, words);
-        if let Ok(answer) = &answer {
-            let replies = replies_of(answer);
-            if !replies.is_empty() {
-                let refused = refused_calls(replies) as u64;
-                self.refused.set(self.refused.get().saturating_add(refused));
+        match &answer {
+            Ok(MessageAnswer::Refused(_)) => self.notes.look_at_refused(alloc, message),
+            Ok(answer) => {
+                let replies = replies_of(answer);
+                if !replies.is_empty() {
+                    let refused = refused_calls(replies) as u64;
+                    self.refused.set(self.refused.get().saturating_add(refused));
+                }
             }
+            Err(_) => {}
         }
         answer
     }
@@ -63,10 +76,10 @@ impl<A: Answers> Answers for Counted<'_, '_, A> {
 /// Answers of which it is noted what became of the message. If they are strict a message with a
 /// call that is refused is refused too.
 #[derive(Drop)]
-pub struct Watched<'a, 'n, 'p, 'i, A> {
+pub struct Watched<'a, 'n, 'p, 'i, A, N> {
     pub answers: &'a A,
-    /// What became of the message that was answered last.
-    pub noted: &'n Cell<Option<Outcome>>,
+    /// Who is told what became of each message.
+    pub notes: &'n N,
     pub is_strict: bool,
     /// Which calls the answers leave out, if they leave some out.
     pub skips: Option<Skips<'p, 'i>>,
@@ -103,7 +116,7 @@ fn with_skips(
     }
 }
 
-impl<A> Watched<'_, '_, '_, '_, A> {
+impl<A, N: Notes> Watched<'_, '_, '_, '_, A, N> {
     ghost use Rattle.std.specs.Prelude.{◌≡◌, IfErr};
     ghost use Rattle.capnp_relay_loop.specs.declared.answer.Want.{Want};
 
@@ -117,7 +130,7 @@ impl<A> Watched<'_, '_, '_, '_, A> {
         };
         match outcome {
             Ok(outcome) => {
-                self.noted.set(Some(outcome));
+                self.notes.note(outcome);
                 Ok(())
             }
             Err(_) => Err(Want::Memory),
@@ -137,11 +150,11 @@ impl<A> Watched<'_, '_, '_, '_, A> {
             Some(skips) => skips.numbered(call),
             None => call,
         };
-        self.noted.set(Some(Outcome::Refused(Cause::Call(call))));
+        self.notes.note(Outcome::Refused(Cause::Call(call)));
     }
 }
 
-impl<A: Answers> Answers for Watched<'_, '_, '_, '_, A> {
+impl<A: Answers, N: Notes> Answers for Watched<'_, '_, '_, '_, A, N> {
     ghost use Rattle.hagzimot_outcomes.specs.Watching.{IsWatched};
 
     ghost is_answer = { λ w. IsWatched w.is_strict (A.is_answer w.answers.now) };
@@ -162,6 +175,9 @@ impl<A: Answers> Answers for Watched<'_, '_, '_, '_, A> {
                 self.note_refused(replies.get(place), place);
                 return Ok(MessageAnswer::Refused(Reason::Value));
             }
+        }
+        if matches!(answer, MessageAnswer::Refused(_)) {
+            self.notes.look_at_refused(alloc, message);
         }
         self.note(alloc, &answer)?;
         Ok(answer)

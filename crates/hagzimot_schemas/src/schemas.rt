@@ -259,9 +259,12 @@ pub fn read_set(alloc: Global, bytes: &[u8], floats: Floats) -> Result<CheckedSc
     }
 }
 
-/// The id of the root: that of the struct which a word names, or without a word the one struct at
-/// the top.
-fn root_of(alloc: Global, schema: &CheckedSchema, word: Option<&str>) -> Result<u64, RootTrouble>
+/// Returns the id of the struct that a word names or, without one, of the one struct at the top.
+pub fn root_of(
+    alloc: Global,
+    schema: &CheckedSchema,
+    word: Option<&str>,
+) -> Result<u64, RootTrouble>
     ensures { IfOk result (IsRootOf (option_copied word.entry)
         (names_of (nodes_of schema.now.set) (map string_bytes schema.now.files.items))
         schema.now.top_structs.items) }

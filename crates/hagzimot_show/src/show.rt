@@ -210,12 +210,9 @@ impl<O: Origin> Shower<'_, O> {
         ensures out { GrowsAtEnd (W.contents out.old) (W.contents out.new) }
         ensures log { GrowsAtEnd (L.contents log.old) (L.contents log.new) }
         ensures chosen { self.new.chosen ≡ self.old.chosen }
-        ensures count_out { self.old.chosen.is_count ≡ true
-            → Keeps (W.contents out.old) (W.contents out.new) }
-        ensures count_log { self.old.chosen.is_count ≡ true
-            → Keeps (L.contents log.old) (L.contents log.new) }
-        ensures none_fails { self.old.chosen.is_count ≡ true
-            → self.new.counts.not_shown ≡ self.old.counts.not_shown }
+        ensures count { self.old.chosen.is_count ≡ true → Keeps (W.contents out.old)
+            (W.contents out.new) × Keeps (L.contents log.old) (L.contents log.new)
+            × (self.new.counts.not_shown ≡ self.old.counts.not_shown) }
         ensures shown { self.old.chosen.is_count ≡ false
             → OnOk result (GrowsByLines self.old.counts.shown self.new.counts.shown
             (W.contents out.old) (W.contents out.new)) }

@@ -23,13 +23,13 @@ loop-number-preserved g c = record {
   chosen = c.show_next.ensures.chosen ∙ c.loop-number.invariant.chosen;
   count_out = λ only.
       let still : c.loop-number.shower.chosen.is_count ≡ true = rw c.loop-number.invariant.chosen only in
-      Keeps-trans _ _ _ (Keeps-trans _ _ _ (c.loop-number.invariant.count_out only) c.pause.ensures.out) (c.show_next.ensures.count_out still);
+      Keeps-trans _ _ _ (Keeps-trans _ _ _ (c.loop-number.invariant.count_out only) c.pause.ensures.out) (c.show_next.ensures.count still).0;
   count_log = λ only.
       let still : c.loop-number.shower.chosen.is_count ≡ true = rw c.loop-number.invariant.chosen only in
-      Keeps-trans _ _ _ (Keeps-trans _ _ _ (c.loop-number.invariant.count_log only) c.pause.ensures.log) (c.show_next.ensures.count_log still);
+      Keeps-trans _ _ _ (Keeps-trans _ _ _ (c.loop-number.invariant.count_log only) c.pause.ensures.log) (c.show_next.ensures.count still).1;
   counts = λ only.
       let still : c.loop-number.shower.chosen.is_count ≡ true = rw c.loop-number.invariant.chosen only in
-      c.show_next.ensures.none_fails still ∙ c.loop-number.invariant.counts only;
+      (c.show_next.ensures.count still).2 ∙ c.loop-number.invariant.counts only;
   shown = λ all.
       let still : c.loop-number.shower.chosen.is_count ≡ false = rw c.loop-number.invariant.chosen all in
       lines_on _ _ _ _ _ _ (lines_on _ _ _ _ _ _ (c.loop-number.invariant.shown all) (lines_kept _ _ _ c.pause.ensures.out)) (c.in-Ok-true.ensures.shown still);
