@@ -1,5 +1,8 @@
 //! Whole schema sources.
 
+ghost use Rattle.std.specs.Prelude.{◌≡◌, ◌≤◌, length, All, IfOk, IfErr};
+ghost use Rattle.capnp_source_syntax.specs.SourceFaults.{IsSourceFault};
+
 use crate::cursor::{Cursor, mistake_at};
 use crate::declarations::{note, outermost, tell};
 use crate::faults::{Mistake, SyntaxFault, Wrong};
@@ -28,15 +31,41 @@ pub enum SourceFault {
 }
 
 impl From<AllocError> for SourceFault {
+    ghost use Rattle.std.specs.Prelude.{◌≡◌};
+    ghost use Rattle.capnp_source_syntax.specs.declared.source_file.SourceFault.{SourceFault};
+
+    ghost from_gives = { λ _ fault. fault ≡ SourceFault.Memory };
+
     fn from(_e: AllocError) -> SourceFault {
         SourceFault::Memory
     }
 }
 
 impl<T: Drop> From<AllocFailed<T>> for SourceFault {
+    ghost use Rattle.std.specs.Prelude.{◌≡◌};
+    ghost use Rattle.capnp_source_syntax.specs.declared.source_file.SourceFault.{SourceFault};
+
+    ghost from_gives = { λ _ fault. fault ≡ SourceFault.Memory };
+
     fn from(_e: AllocFailed<T>) -> SourceFault {
         SourceFault::Memory
     }
+}
+
+/// The mistakes of a text, none of them behind its end.
+fn mistakes_in(alloc: Global, text: &[u8], mistakes: &[Mistake]) -> Result<Vec<Mistake>, AllocError>
+    ensures inside { IfOk result (λ v. All (λ m. m.offset ≤ length text.now) v.items) }
+    ensures count { IfOk result (λ v. length v.items ≡ length mistakes.now) }
+{
+    let mut told = Vec::new(alloc);
+    let mut left = mistakes;
+    while let [mistake, others @ ..] = left {
+        let Mistake { offset, wrong } = *mistake;
+        let offset = offset.min(text.len());
+        told.push(Mistake { offset, wrong })?;
+        left = others;
+    }
+    Ok(told)
 }
 
 /// What is wrong where no token begins.
@@ -106,13 +135,15 @@ fn declared(
 
 /// What a file declares, by its text. The mistakes of a file are told where it has some, each with an
 /// offset in the text or that of its end.
-pub fn source_file(alloc: Global, text: &[u8]) -> Result<SourceFile, SourceFault> {
+pub fn source_file(alloc: Global, text: &[u8]) -> Result<SourceFile, SourceFault>
+    ensures { IfErr result (IsSourceFault text.now) }
+{
     let tokens = match tokens(alloc, text) {
         Ok(tokens) => tokens,
         Err(TokenFault::NoToken(offset)) => {
             let mut mistakes = Vec::new(alloc);
             mistakes.push(token_mistake(text, offset))?;
-            return Err(SourceFault::Mistakes(mistakes));
+            return Err(SourceFault::Mistakes(mistakes_in(alloc, text, &mistakes)?));
         }
         Err(TokenFault::Memory) => return Err(SourceFault::Memory),
     };
@@ -121,7 +152,7 @@ pub fn source_file(alloc: Global, text: &[u8]) -> Result<SourceFile, SourceFault
             if mistakes.is_empty() {
                 return Ok(file);
             }
-            Err(SourceFault::Mistakes(mistakes))
+            Err(SourceFault::Mistakes(mistakes_in(alloc, text, &mistakes)?))
         }
         Err(_) => Err(SourceFault::Memory),
     }
