@@ -1,6 +1,6 @@
 -- Fields that are laid out one behind the other.
-use Rattle.std.proofs.Common.{◌≡◌, ℕ, zero, suc, ◌+◌, ◌/◌, ◌≤◌, Option, Some, None, List, [], ◌∷◌, ◌++◌, length, map, refl, ap, ◌∙◌, arith, append_assoc, lit≤, le-leb}
-use Rattle.std.specs.Prelude.{nat_le, if◌then◌else◌}
+use Rattle.std.proofs.Common.{◌≡◌, ℕ, zero, suc, ◌+◌, ◌/◌, ◌<◌, ◌≤◌, Option, Some, None, List, [], ◌∷◌, ◌++◌, length, map, refl, ap, subst, ◌∙◌, arith, append_assoc, get_or, length-append, lit≤, le-leb}
+use Rattle.std.specs.Prelude.{nat_le, if◌then◌else◌, Any}
 use Rattle.capnp_source_layout.specs.Holes.{first_place, place, free}
 use Rattle.capnp_source_layout.specs.Sections.{size_of, no_holes, offsets_from, words_behind, holes_behind, offsets_of, free_behind, fields_at}
 use Rattle.capnp_source_layout.specs.declared.sections.DataSize.{DataSize}
@@ -60,3 +60,17 @@ one_more made after words next_words holes next_holes size offset rest whole bef
     let placed = place size words holes in
     let pushed : after ≡ made ++ placed.offset ∷ [] = e ∙ ap (λ n. made ++ n ∷ []) o in
     (λ i. pushed i ++ offsets_from (w i) (h i) rest) ∙ append_assoc made (placed.offset ∷ []) (offsets_from placed.words placed.holes rest) ∙ before
+
+-- an element that stands between others
+between : (made rest : List ℕ) (offset other : ℕ) → get_or (made ++ offset ∷ rest) (length made) other ≡ offset
+between [] rest offset other = refl
+between (x ∷ made) rest offset other = between made rest offset other
+
+-- a large offset behind others
+pub is_large : (made rest : List ℕ) (offset : ℕ) → 9223372036854775808 ≤ offset → Any (λ o. 9223372036854775808 ≤ o) (made ++ offset ∷ rest)
+is_large made rest offset large = (length made, offset, omega (arith, length-append made (offset ∷ rest)), between made rest offset offset, large)
+
+-- the offset of the first of the fields that are left
+pub is_large_in : (made : List ℕ) (words : ℕ) (holes : List (Option ℕ)) (sizes : List DataSize) (other : DataSize) (log : ℕ) → 0 < length sizes → log ≡ size_of (get_or sizes 0 other) → 9223372036854775808 ≤ (place log words holes).offset → Any (λ o. 9223372036854775808 ≤ o) (made ++ offsets_from words holes (map size_of sizes))
+is_large_in made words holes [] other log some is_log large = absurd (omega arith)
+is_large_in made words holes (x ∷ sizes) other log some is_log large = is_large made _ _ (subst (λ n. 9223372036854775808 ≤ (place n words holes).offset) is_log large)

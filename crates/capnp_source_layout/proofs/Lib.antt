@@ -1,2 +1,3 @@
+mod Examples
 pub mod Layouts
 pub mod Places

@@ -1,8 +1,10 @@
 -- Where fields lie in a data section, one behind the other by their ordinals. (Cap'n Proto's encoding document, "Structs"; node-translator.c++ of the compiler)
-use Rattle.std.specs.Prelude.{ℕ, ◌+◌, ◌/◌, ◌^◌, ◌==◌, Option, None, List, [], ◌∷◌, map, replicate, if◌then◌else◌}
+use Rattle.std.specs.Prelude.{ℕ, ◌+◌, ◌/◌, ◌^◌, ◌≤◌, ◌==◌, Option, None, List, [], ◌∷◌, map, replicate, if◌then◌else◌, Any}
 use Rattle.capnp_source_layout.specs.Holes.{place, free}
 use Rattle.capnp_source_layout.specs.declared.sections.DataSize.{DataSize}
 use Rattle.capnp_source_layout.specs.declared.sections.DataSize.TheVariants as D
+use Rattle.capnp_source_layout.specs.declared.sections.SectionFault.{SectionFault}
+use Rattle.capnp_source_layout.specs.declared.sections.SectionFault.TheVariants as F
 
 -- The size of a field as a power of two bits.
 abbrev pub size_of : DataSize → ℕ
@@ -47,3 +49,8 @@ abbrev pub fields_at : List ℕ → List ℕ → ℕ → ℕ
 fields_at [] offsets bit = 0
 fields_at (size ∷ sizes) [] bit = 0
 fields_at (size ∷ sizes) (offset ∷ offsets) bit = (if (bit / 2 ^ size) == offset then 1 else 0) + fields_at sizes offsets bit
+
+-- Fields aren't laid out where an offset would pass 2 ^ 63, or where memory is refused.
+abbrev pub IsSectionFault : List DataSize → SectionFault → Type 0
+IsSectionFault sizes F.TooLarge = Any (λ offset. 2 ^ 63 ≤ offset) (offsets_of sizes)
+IsSectionFault sizes F.Memory = Unit {0}

@@ -1,7 +1,7 @@
 //! Data sections of structs.
 
-ghost use Rattle.std.specs.Prelude.{◌≡◌, IfOk};
-ghost use Rattle.capnp_source_layout.specs.Sections.{size_of, offsets_of, words_of};
+ghost use Rattle.std.specs.Prelude.{◌≡◌, IfOk, IfErr};
+ghost use Rattle.capnp_source_layout.specs.Sections.{size_of, offsets_of, words_of, IsSectionFault};
 
 use crate::holes::place;
 use std::alloc::{AllocError, AllocFailed, Global};
@@ -35,12 +35,22 @@ pub enum SectionFault {
 }
 
 impl From<AllocError> for SectionFault {
+    ghost use Rattle.std.specs.Prelude.{◌≡◌};
+    ghost use Rattle.capnp_source_layout.specs.declared.sections.SectionFault.{SectionFault};
+
+    ghost from_gives = { λ _ fault. fault ≡ SectionFault.Memory };
+
     fn from(_e: AllocError) -> SectionFault {
         SectionFault::Memory
     }
 }
 
 impl<T: Drop> From<AllocFailed<T>> for SectionFault {
+    ghost use Rattle.std.specs.Prelude.{◌≡◌};
+    ghost use Rattle.capnp_source_layout.specs.declared.sections.SectionFault.{SectionFault};
+
+    ghost from_gives = { λ _ fault. fault ≡ SectionFault.Memory };
+
     fn from(_e: AllocFailed<T>) -> SectionFault {
         SectionFault::Memory
     }
@@ -66,6 +76,7 @@ pub fn size_of(size: DataSize) -> usize
 pub fn data_section(alloc: Global, sizes: &[DataSize]) -> Result<DataSection, SectionFault>
     ensures offsets { IfOk result (λ s. s.offsets.items ≡ offsets_of sizes.now) }
     ensures words { IfOk result (λ s. s.words ≡ words_of sizes.now) }
+    ensures err { IfErr result (IsSectionFault sizes.now) }
 {
     let mut words = 0;
     let mut holes = [None; 6];
