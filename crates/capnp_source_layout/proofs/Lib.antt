@@ -1,0 +1,3 @@
+mod Examples
+pub mod Layouts
+pub mod Places

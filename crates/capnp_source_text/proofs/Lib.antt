@@ -1,0 +1,4 @@
+mod Examples
+pub mod Following
+pub mod Pieces
+pub mod Runs
