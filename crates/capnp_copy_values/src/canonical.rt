@@ -31,8 +31,8 @@ use capnp_wire_objects::place::{Place, ROOT};
 /// - at the first fault within n levels, with its kind;
 /// - with `CapabilityInCanonical` at a capability;
 /// - with `ReadLimitExceeded` at the first object that costs more words than are left;
-/// - with `BufferNotLargeEnough` only if its canonical words, and the granted words and one more,
-///   exceed the lent words;
+/// - with `BufferNotLargeEnough` only if fewer words were lent than its canonical words, and fewer
+///   than one more than the granted words;
 /// - otherwise like `copy_from` of the canonical words, for lack of room in the arena.
 ///
 /// After a refusal all the arena's words are unchanged, and those that were allocated are zero.
