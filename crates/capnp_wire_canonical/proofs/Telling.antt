@@ -3,6 +3,7 @@ use Rattle.std.proofs.Common.{◌≡◌, ℕ, zero, suc, ◌+◌, ◌-◌, ◌�
 use Rattle.std.specs.Bool.{OnTrue, OnFalse}
 use Rattle.std.specs.List.{slice_get}
 use Rattle.std.specs.Option.{is_some}
+use Rattle.std.specs.Prelude.{IfSome}
 use Rattle.std.proofs.lemmas.Bool.{cases_lt}
 use Rattle.std.proofs.Math.Seq.{take-length}
 use Rattle.std.proofs.lemmas.List.{append-nil}
@@ -12,6 +13,7 @@ use Rattle.capnp_model.specs.Encoding.{pointer, body, canonical_words}
 use Rattle.capnp_model.specs.Trees.{Tree, has_capability}
 use Rattle.capnp_model.specs.Traversal.{tree_at}
 use Rattle.capnp_model.specs.Trimming.{trim}
+use Rattle.capnp_model.specs.Spelling.{AreWords}
 use Rattle.capnp_model.specs.Visits.{Visit, visits}
 use Rattle.capnp_model.proofs.lemmas.CanonicalTests.{message_test, test_message}
 use Rattle.capnp_model.proofs.lemmas.Chaining.{some_is}
@@ -21,6 +23,7 @@ use Rattle.capnp_units.specs.declared.limiter.ReadLimiter.{ReadLimiter}
 use Rattle.capnp_wire_objects.specs.declared.place.Place as wire
 use Rattle.capnp_wire_objects.specs.declared.object.Object.{Object}
 use Rattle.capnp_wire_objects.specs.Places.{place_view}
+use Rattle.capnp_wire_objects.specs.Near.{IsNear}
 use Rattle.capnp_wire_objects.specs.Follow.{own_cost, Pays, levels_suffice}
 use Rattle.capnp_wire_objects.specs.Inside.{met_in}
 use Rattle.capnp_wire_objects.proofs.lemmas.Tags.{words_from, words_are}
@@ -28,10 +31,11 @@ use Rattle.capnp_wire_objects.proofs.lemmas.Walking.{object_found, link_visits, 
 use Rattle.capnp_wire_objects.proofs.lemmas.Walks.{walked_one}
 use Rattle.capnp_model.proofs.lemmas.Tests.{never_true}
 use Rattle.capnp_wire_canonical.specs.Reaches.{reach}
-use Rattle.capnp_wire_canonical.specs.Standing.{Hold, Stands}
-use Rattle.capnp_wire_canonical.specs.Checks.{Began, Agrees, Differs, Tests, Tells, TellsMessage, IsBehind, head_state, value_from}
+use Rattle.capnp_wire_canonical.specs.Standing.{Hold, Stands, HasHead, segment_words}
+use Rattle.capnp_wire_canonical.specs.Checks.{Began, Agrees, Differs, Tests, Tells, TellsMessage, IsBehind, head_state, value_test, value_from}
 use Rattle.capnp_wire_canonical.proofs.lemmas.Checking.{began_none}
 use Rattle.capnp_wire_canonical.proofs.Holding.{hold_parts, hold_both, hold_end}
+use Rattle.capnp_wire_canonical.proofs.StandingObjects.{lead_word}
 use Rattle.capnp_wire_canonical.proofs.StandingValues.{leaf_object}
 
 -- ---- tests and what they tell
@@ -196,3 +200,22 @@ message_differs n s l m alone x = (
   x.began,
   (λ second. absurd cc),
 )
+
+-- the first word is there
+pub first_head : (s : Segments) (o : Object) → IsNear s root o → AreWords (segment_words s 0) → HasHead s root 1 1
+first_head s o near whole =
+    let w = lead_word s root o (0, near.0) in
+    let none_before : 0 + 1 ≤ 1 = omega arith in
+    record { behind = none_before; there = (hold_end s root (w.0 ∷ []) (word_is s root w.0 w.1), omega arith); whole = whole }
+
+-- what is told of the value at the root, from the next word on
+pub message_ends : (n : ℕ) (s : Segments) (l m : ReadLimiter) (end : Option ℕ) (b : Bool) → is_some (words_at s (place 1 0) 0) ≡ false → HasHead s root 1 1 → IfSome end (λ i. b ≡ not (is_some (words_at s (place 0 i) 1))) → (end ≡ None → b ≡ false)
+    → Tests (value_test (reach n s) root 1) l (Ok end) m → TellsMessage n s l (Ok b) m
+message_ends n s l m (Some i) b alone given some none x =
+    let there = given.there in
+    let behind : IsBehind s root 1 (place 0 1) = (refl, omega arith, there.0) in
+    subst (λ (c : Bool). TellsMessage n s l (Ok c) m) (sym some)
+    (message_tells n s l m (place 0 i) (is_some (words_at s (place 0 i) 1)) alone refl refl (record { what = x.what; there_is = x.there_is; clean = x.clean; stand = (behind, x.stand); near = x.near; walked = x.walked }))
+message_ends n s l m None b alone given some none x =
+    subst (λ (c : Bool). TellsMessage n s l (Ok c) m) (sym (none refl))
+    (message_differs n s l m alone (record { began = x.began; apart = λ small more t end is clean stand. x.apart small more t end is clean stand.1 }))

@@ -1,20 +1,23 @@
 //! Whether values stand as their canonical words.
-ghost use Rattle.std.specs.Prelude.{◌+◌};
+ghost use Rattle.std.specs.Prelude.{◌≡◌, ◌+◌, None, IfSome, not, false};
+ghost use Rattle.std.specs.Option.{is_some};
+ghost use Rattle.capnp_model.specs.Segments.{place, words_at};
 ghost use Rattle.capnp_units.specs.Segments.{words_in};
 ghost use Rattle.capnp_wire_objects.specs.Places.{place_view};
 ghost use Rattle.capnp_wire_objects.specs.Objects.{AreThere};
 ghost use Rattle.capnp_wire_canonical.specs.Reaches.{reach};
 ghost use Rattle.capnp_wire_canonical.specs.Checks.{head_state, TellsValue, TellsRow, TellsStruct, TellsMessage};
 
+use crate::follow::follow_near_struct;
 use crate::heads::{is_behind, move_on};
 use crate::own_words::{are_words, is_least};
-use crate::value_ends::{row_end, value_end};
+use crate::value_ends::{row_end, struct_here, value_end};
 use capnp_units::errors::Result;
 use capnp_units::limiter::ReadLimiter;
 use capnp_units::sizes::StructSize;
 use capnp_wire_objects::arena::ReaderArena;
 use capnp_wire_objects::follow::follow_within;
-use capnp_wire_objects::place::{Place, ROOT, has_words};
+use capnp_wire_objects::place::{Place, ROOT, has_words, segment_bytes};
 
 /// Whether the pointer at a place and its value stand as the value's canonical words. At the place
 /// is the pointer. From the head on, a place behind it in its segment, are the words of what it
@@ -107,6 +110,23 @@ pub fn is_canonical_struct<A: ReaderArena>(
     are_canonical(arena, limiter, first, size.pointers as u32, levels, head)
 }
 
+/// Whether the words of a message's value end where its first segment does.
+#[inline(always)]
+fn is_last<A: ReaderArena>(arena: &A, end: Option<usize>) -> bool
+    ensures some { IfSome end (λ position.
+        result ≡ not (is_some (words_at (words_in (A.segments arena.now)) (place 0 position) 1))) }
+    ensures none { end ≡ None → result ≡ false }
+{
+    let Some(position) = end else {
+        return false;
+    };
+    let behind = Place {
+        segment: 0,
+        position,
+    };
+    !has_words(arena, behind, 1)
+}
+
 /// Whether a message is one segment of the canonical words of its value. Where there is a second
 /// segment it is not, no pointer is followed, and nothing is paid.
 ///
@@ -125,6 +145,12 @@ pub fn is_canonical_message<A: ReaderArena>(
     };
     if has_words(arena, second, 0) {
         return Ok(false);
+    }
+    let bytes = segment_bytes(arena, 0);
+    if let Some(near) = follow_near_struct(arena, bytes, limiter, ROOT, levels)? {
+        are_words(arena, 0);
+        let end = struct_here(arena, limiter, ROOT, near, levels - 1, 1)?;
+        return Ok(is_last(arena, end));
     }
     let mut head = Place {
         segment: 0,

@@ -146,10 +146,31 @@ fn object_end<A: ReaderArena>(
     }
 }
 
-/// Where the words of a struct end, if they stand from the head on.
+/// As `struct_here`, out of line.
 #[cycle(check)]
 #[inline(never)]
 fn struct_end<A: ReaderArena>(
+    arena: &A,
+    limiter: &mut ReadLimiter,
+    place: Place,
+    near: NearStruct,
+    levels: u32,
+    head: usize,
+) -> Result<Option<usize>>
+    requires near { IsNear (words_in (A.segments arena.now)) (place_view place)
+        (struct_object near) }
+    requires head { HasHead (words_in (A.segments arena.now)) (place_view place) 1 head }
+    ensures { let r = reach levels (words_in (A.segments arena.now)) in
+        Tests (object_test r (place_view place) head (struct_object near))
+        limiter.old result limiter.new }
+{
+    struct_here(arena, limiter, place, near, levels, head)
+}
+
+/// Where the words of a struct end, if they stand from the head on.
+#[cycle(check)]
+#[inline(always)]
+pub(crate) fn struct_here<A: ReaderArena>(
     arena: &A,
     limiter: &mut ReadLimiter,
     place: Place,

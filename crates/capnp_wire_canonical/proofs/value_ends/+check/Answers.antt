@@ -278,8 +278,8 @@ object_end-returns-in-List g t c =
     let l = c.args.limiter.now in
     subst (λ (o : Object). Tests (object_test (reach c.args.levels s) p c.args.head o) l (Ok c.list_end.result) l) (sym (c.in-List.is ∙ sym c.new-list.ensures.object)) (c.list_end.ensures c.args.levels l)
 
-pub struct_end-returns-then-near-struct_start : goal.struct_end-returns-then-near-struct_start
-struct_end-returns-then-near-struct_start g t c =
+pub struct_here-returns-then-near-struct_start : goal.struct_here-returns-then-near-struct_start
+struct_here-returns-then-near-struct_start g t c =
     let s : Segments = words_in (g.A.ReaderArena.segments c.args.arena.now) in
     let p : Place = place_view c.args.place in
     let n = c.args.levels in
@@ -294,8 +294,8 @@ struct_end-returns-then-near-struct_start g t c =
       | inr here ↦ c.if-near-struct_start.true (ap (λ (r : Place). r.position) here.0 ∙ sym (begins.empty (let d_none = here.1 in let k_none = here.2 in omega arith)))
     ])
 
-pub struct_end-returns-then-not-is_least : goal.struct_end-returns-then-not-is_least
-struct_end-returns-then-not-is_least g t c =
+pub struct_here-returns-then-not-is_least : goal.struct_here-returns-then-not-is_least
+struct_here-returns-then-not-is_least g t c =
     let s : Segments = words_in (g.A.ReaderArena.segments c.args.arena.now) in
     let p : Place = place_view c.args.place in
     let n = c.args.levels in
@@ -306,8 +306,8 @@ struct_end-returns-then-not-is_least g t c =
     let x = struct_stands (more + n) s p head c.args.near.start c.args.near.size.data_words c.args.near.size.pointers c.requires.near.1.0 c.requires.head.whole c.requires.near.0 c.requires.head.behind end u (within_reach s p 1 head small c.requires.head) e stand in
     c.if-not-is_least.ensures.less x.0)
 
-pub struct_end-row_end-requires : goal.struct_end-row_end-requires
-struct_end-row_end-requires g t c =
+pub struct_here-row_end-requires : goal.struct_here-row_end-requires
+struct_here-row_end-requires g t c =
     let s : Segments = words_in (g.A.ReaderArena.segments c.args.arena.now) in
     let p : Place = place_view c.args.place in
     let start = c.args.near.start in
@@ -318,8 +318,8 @@ struct_end-row_end-requires g t c =
     let there = struct_there c.args.levels s p c.args.head start d k c.requires.near.1.0 c.requires.head.whole c.requires.near.0 c.requires.head.behind c.struct_start.result c.if-near-struct_start.false begins.empty begins.some in
     λ κs lives. (omega arith, (lives, ((part_there s (place_view start) (d + k) c.requires.near.1.0 d k (omega arith), omega arith), struct_head c.args.levels s p c.args.head start d k c.requires.near.1 c.requires.head there.0)))
 
-pub struct_end-returns : goal.struct_end-returns
-struct_end-returns g t c =
+pub struct_here-returns : goal.struct_here-returns
+struct_here-returns g t c =
     let s : Segments = words_in (g.A.ReaderArena.segments c.args.arena.now) in
     let p : Place = place_view c.args.place in
     let n = c.args.levels in

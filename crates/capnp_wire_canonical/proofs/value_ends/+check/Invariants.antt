@@ -12,6 +12,9 @@ decreases-object_end g l = 7 * l.levels + 6
 abbrev pub decreases-struct_end : goal.decreases-struct_end
 decreases-struct_end g l = 7 * l.levels + 5
 
+abbrev pub decreases-struct_here : goal.decreases-struct_here
+decreases-struct_here g l = 7 * l.levels + 4
+
 abbrev pub decreases-pointers_end : goal.decreases-pointers_end
 decreases-pointers_end g l = 7 * l.levels + 5
 
