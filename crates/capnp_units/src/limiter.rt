@@ -1,5 +1,6 @@
 //! A budget of words for reading.
 ghost use Rattle.std.specs.Prelude.{◌≡◌, ◌≤◌, Some, None, IfSome, IfErr, OnErr, OnOk};
+ghost use Rattle.std.specs.Bool.{OnTrue, OnFalse};
 ghost use Rattle.std.specs.Option.{ForSome};
 ghost use Rattle.capnp_units.specs.declared.kinds.ErrorKind.TheVariants.{ReadLimitExceeded};
 
@@ -73,5 +74,24 @@ impl ReadLimiter {
         ensures granted { granted_of self.new ≡ granted_of self.old }
     {
         self.followed = self.followed.saturating_add(1);
+    }
+
+    /// Counts one more source pointer and grants the n words of what it leads to, where so many are
+    /// left. Else it returns false, and nothing changes.
+    #[inline(always)]
+    pub fn follow_for(&mut self, words: u64) -> bool
+        ensures granted { OnTrue result (Spends self.old self.new words) }
+        ensures followed { OnTrue result (Follows self.old self.new 1) }
+        ensures refused { OnFalse result
+            ((self.new ≡ self.old) × IsPassed (left_of self.old) words) }
+    {
+        if let Some(limit) = self.limit {
+            if limit - self.granted < words {
+                return false;
+            }
+        }
+        self.granted = self.granted.saturating_add(words);
+        self.followed = self.followed.saturating_add(1);
+        true
     }
 }

@@ -1,19 +1,25 @@
 -- Following an object that is told in one look.
-use Rattle.std.proofs.Common.{◌≡◌, ℕ, ◌+◌, ◌<◌, nat_lt, true, List, ◌∷◌, Option, Some, None, Result, Ok, Err, refl, ap, sym, ◌∙◌, subst, inr, arith}
+use Rattle.std.proofs.Common.{◌≡◌, ℕ, ◌+◌, ◌*◌, ◌<◌, nat_lt, true, List, ◌∷◌, Option, Some, None, Result, Ok, Err, refl, ap, sym, ◌∙◌, subst, inr, arith}
 use Rattle.std.proofs.lemmas.Bool.Decides.{nat_tests}
-use Rattle.capnp_model.specs.Segments.{Segments, Place}
+use Rattle.capnp_model.specs.Segments.{Segments, Place, word_at}
 use Rattle.capnp_model.specs.Pointers as model
+use Rattle.capnp_model.specs.Sections.{words_for}
 use Rattle.capnp_model.specs.Visits.{Visit}
 use Rattle.capnp_units.specs.declared.errors.Error.{Error}
 use Rattle.capnp_units.specs.declared.kinds.ErrorKind.TheVariants.{ReadLimitExceeded}
 use Rattle.capnp_units.specs.declared.limiter.ReadLimiter.{ReadLimiter}
+use Rattle.capnp_units.specs.declared.sizes.ElementSize.{ElementSize}
+use Rattle.capnp_units.specs.declared.sizes.ElementSize.TheVariants.{Byte}
+use Rattle.capnp_units.specs.Sizes.{size_number, data_bits}
 use Rattle.capnp_units.specs.Limits.{left_of, followed_of, IsPassed, Spends, Follows}
 use Rattle.capnp_units.proofs.lemmas.Spending.{spends_nothing}
+use Rattle.capnp_wire_objects.specs.declared.lists.NearList.{NearList}
 use Rattle.capnp_wire_objects.specs.declared.object.Object.{Object}
-use Rattle.capnp_wire_objects.specs.Near.{IsNear}
+use Rattle.capnp_wire_objects.specs.declared.object.Object.TheVariants as object
+use Rattle.capnp_wire_objects.specs.Near.{list_object, IsMeasured, IsNear}
 use Rattle.capnp_wire_objects.specs.Follow.{own_cost, KeepsBudget, Pays, suffice_for, object_within, FollowsWithin, levels_suffice}
 use Rattle.capnp_wire_objects.proofs.lemmas.Walks.{stopped_first}
-use Rattle.capnp_wire_objects.proofs.lemmas.Walking.{object_found, exact_within}
+use Rattle.capnp_wire_objects.proofs.lemmas.Walking.{object_found, exact_object, exact_within}
 use Rattle.capnp_wire_objects.proofs.lemmas.Paying.{same_left, spends_later, pays_later}
 use Rattle.capnp_wire_canonical.specs.Copies.{copy_visits, IsNoCapability, FollowsData, FollowsNear}
 use Rattle.capnp_wire_canonical.proofs.Following.{copy_first}
@@ -64,3 +70,26 @@ refused_near {X = X} object follows old mid new r x e is same left h =
 pub untold : {X : Type 0} (object : X → Object) (follows : ReadLimiter → Result Object Error → ReadLimiter → Type 0) (old new : ReadLimiter) (there : Option X) → ((x : X) → there ≡ Some x → ⊥) → FollowsNear object follows old (Ok there) new → new ≡ old
 untold object follows old new None h f = f
 untold object follows old new (Some x) h f = absurd (h x refl)
+
+-- nothing was told
+pub none_is : {X : Type 0} (o : Option X) → ((x : X) → o ≡ Some x → ⊥) → o ≡ None
+none_is None h = refl
+none_is (Some x) h = absurd (h x refl)
+
+-- an object that is told in one look, once it is paid for
+pub near_paid : (s : Segments) (p : Place) (o : Object) → IsNear s p o → (old new : ReadLimiter) (words : ℕ) → words ≡ own_cost o → Spends old new words → Follows old new 1 → Pays s p old o new
+near_paid s p o near old new words is spends follows = record { pads = 0; is = near.0; inside = near.1; spends = subst (λ (n : ℕ). Spends old new n) (is ∙ (let none_before : own_cost o ≡ 0 + own_cost o = omega arith in none_before)) spends; follows = follows }
+
+-- a word of zeros is null, and costs nothing
+pub null_near : (s : Segments) (p : Place) → word_at s p ≡ Some 0 → IsNear s p object.Null
+null_near s p e = (exact_object s p (record { pads = 0; object = model.nothing }) object.Null found refl, tt)
+  where
+    found : model.found_at s p ≡ Ok (record { pads = 0; object = model.nothing })
+    found = rw e refl
+
+pub null_paid : (s : Segments) (p : Place) → word_at s p ≡ Some 0 → (old new : ReadLimiter) → KeepsBudget old new → Follows old new 1 → Pays s p old object.Null new
+null_paid s p e old new kept follows = near_paid s p object.Null (null_near s p e) old new 0 refl (spends_later old new new 0 kept (spends_nothing new)) follows
+
+-- a list of bytes costs its words
+pub bytes_cost : (l : NearList) → IsMeasured l → l.size ≡ Byte → l.words ≡ own_cost (list_object l)
+bytes_cost l m e = m.1 ∙ ap words_for m.0 ∙ subst (λ (z : ElementSize). words_for (data_bits (size_number z) * l.count) ≡ own_cost (object.List l.start z l.count)) (sym e) refl

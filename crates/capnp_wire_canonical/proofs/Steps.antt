@@ -20,6 +20,7 @@ use Rattle.capnp_units.specs.declared.limiter.ReadLimiter.{ReadLimiter}
 use Rattle.capnp_wire_objects.specs.declared.object.Object.{Object}
 use Rattle.capnp_wire_objects.specs.declared.object.Object.TheVariants as object
 use Rattle.capnp_wire_objects.specs.Objects.{whole_list, whole}
+use Rattle.capnp_wire_objects.specs.Near.{IsNear}
 use Rattle.capnp_wire_objects.specs.Follow.{own_cost, Pays, levels_suffice}
 use Rattle.capnp_wire_objects.specs.Inside.{tree_in, met_in}
 use Rattle.capnp_wire_objects.proofs.lemmas.Walking.{object_found, link_tree}
@@ -173,4 +174,9 @@ short_of s p m (object.StructList q words n d k) e w = whole_short s m (object.S
 pub short_at : (s : Segments) (p : Place) (o : Object) (l k : ReadLimiter) → Pays s p l o k → IsShort o
 short_at s p o l k pay =
     let found = object_found s p (record { pads = pay.pads; object = o }) pay.is in
+    short_of s p found.0.object o (link_tree s p found.0 found.1 o found.2 0) found.2
+
+pub near_short : (s : Segments) (p : Place) (o : Object) → IsNear s p o → IsShort o
+near_short s p o near =
+    let found = object_found s p (record { pads = 0; object = o }) near.0 in
     short_of s p found.0.object o (link_tree s p found.0 found.1 o found.2 0) found.2

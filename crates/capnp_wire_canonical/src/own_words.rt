@@ -30,7 +30,7 @@ pub(crate) fn word_or_zero<A: ReaderArena>(arena: &A, place: Place) -> u64
 
 /// The word at a place in the segment of these bytes, or 0 where there is none.
 #[inline(always)]
-fn word_or_zero_in<A: ReaderArena>(arena: &A, bytes: &[u8], place: Place) -> u64
+pub(crate) fn word_or_zero_in<A: ReaderArena>(arena: &A, bytes: &[u8], place: Place) -> u64
     requires bytes { bytes.now ≡ segment_bytes (A.segments arena.now) place.segment }
     ensures word { result ≡ unwrap_or
         (word_at (words_in (A.segments arena.now)) (place_view place)) 0 }

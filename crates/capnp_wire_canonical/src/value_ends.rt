@@ -5,6 +5,7 @@
 ghost use Rattle.std.specs.Prelude.{◌≡◌, ℕ, ◌+◌, ◌*◌, ◌^◌, ◌≤◌, ◌<◌};
 ghost use Rattle.capnp_units.specs.Segments.{words_in};
 ghost use Rattle.capnp_wire_objects.specs.declared.object.Object.TheVariants as seen;
+ghost use Rattle.capnp_wire_objects.specs.Arenas.{segment_bytes};
 ghost use Rattle.capnp_wire_objects.specs.Places.{place_view};
 ghost use Rattle.capnp_wire_objects.specs.Near.{struct_object, IsNear};
 ghost use Rattle.capnp_wire_objects.specs.Objects.{AreThere, IsInside};
@@ -16,7 +17,7 @@ ghost use Rattle.capnp_wire_canonical.specs.Checks.{Tests, value_test, object_te
 use crate::cuts::cut_of;
 use crate::follow::{follow_near_list, follow_near_struct};
 use crate::heads::struct_start;
-use crate::list_ends::{REACH, list_end};
+use crate::list_ends::{REACH, common_end, list_end};
 use crate::own_words::{is_least, word_or_zero};
 use crate::words::{pointer_to_list, pointer_to_struct};
 use capnp_units::errors::Result;
@@ -51,12 +52,54 @@ pub(crate) fn value_end<A: ReaderArena>(
 {
     let bytes = segment_bytes(arena, place.segment);
     if let Some(list) = follow_near_list(arena, bytes, limiter, place, levels)? {
-        return Ok(list_end(arena, place, list, head));
+        return Ok(list_end(arena, bytes, place, list, head));
     }
     if let Some(near) = follow_near_struct(arena, bytes, limiter, place, levels)? {
         return struct_end(arena, limiter, place, near, levels - 1, head);
     }
     any_end(arena, limiter, place, levels, head)
+}
+
+/// As `value_end`, out of line: of pointers to what `common_end` doesn't tell.
+#[cycle(check)]
+#[inline(never)]
+fn other_end<A: ReaderArena>(
+    arena: &A,
+    limiter: &mut ReadLimiter,
+    place: Place,
+    levels: u32,
+    head: usize,
+) -> Result<Option<usize>>
+    requires { HasHead (words_in (A.segments arena.now)) (place_view place) 1 head }
+    ensures { Tests
+        (value_test (reach levels (words_in (A.segments arena.now))) (place_view place) head)
+        limiter.old result limiter.new }
+{
+    value_end(arena, limiter, place, levels, head)
+}
+
+/// As `value_end`, of a pointer in a row, which mostly is null or leads to bytes. The segment is the
+/// one of these bytes.
+#[cycle(check)]
+#[inline(always)]
+fn item_end<A: ReaderArena>(
+    arena: &A,
+    bytes: &[u8],
+    limiter: &mut ReadLimiter,
+    place: Place,
+    levels: u32,
+    head: usize,
+) -> Result<Option<usize>>
+    requires bytes { bytes.now ≡ segment_bytes (A.segments arena.now) place.segment }
+    requires head { HasHead (words_in (A.segments arena.now)) (place_view place) 1 head }
+    ensures { Tests
+        (value_test (reach levels (words_in (A.segments arena.now))) (place_view place) head)
+        limiter.old result limiter.new }
+{
+    if let Some(end) = common_end(arena, bytes, limiter, place, levels, head) {
+        return Ok(Some(end));
+    }
+    other_end(arena, limiter, place, levels, head)
 }
 
 /// Where the words end of whatever the pointer leads to, a near list or struct too.
@@ -123,7 +166,8 @@ fn object_end<A: ReaderArena>(
         }
         Object::List { start, size, count } => {
             let list = NearList::new(start, size, count);
-            Ok(list_end(arena, place, list, head))
+            let bytes = segment_bytes(arena, list.start.segment);
+            Ok(list_end(arena, bytes, place, list, head))
         }
         Object::PointerList { start, count } => {
             pointers_end(arena, limiter, place, start, count, levels, head)
@@ -295,13 +339,14 @@ pub(crate) fn row_end<A: ReaderArena>(
     ensures { let r = reach levels (words_in (A.segments arena.now)) in
         Tests (row_test r (place_view first) count head) limiter.old result limiter.new }
 {
+    let bytes = segment_bytes(arena, first.segment);
     let mut end = head;
     for i in 0..count {
         let place = Place {
             segment: first.segment,
             position: first.position + i as usize,
         };
-        match value_end(arena, limiter, place, levels, end)? {
+        match item_end(arena, bytes, limiter, place, levels, end)? {
             Some(next) => end = next,
             None => return Ok(None),
         }

@@ -1,5 +1,6 @@
 //! Structs, and lists of them and of plain elements, that are told in one look at their segment.
 ghost use Rattle.std.specs.Prelude.{◌≡◌, ℕ, List, IfSome};
+ghost use Rattle.capnp_units.specs.declared.sizes.ElementSize.TheVariants.{Byte};
 ghost use Rattle.capnp_units.specs.Segments.{words_in};
 ghost use Rattle.capnp_wire_objects.specs.Arenas.{segment_bytes};
 ghost use Rattle.capnp_wire_objects.specs.Places.{place_view};
@@ -13,6 +14,18 @@ use capnp_units::sizes::{ElementSize, StructSize};
 
 /// The numbers of the sizes of plain elements are below this one.
 const PLAIN_SIZES: u64 = 6;
+/// How many kinds of pointers the lowest two bits of a word have.
+const KINDS: u64 = 4;
+/// The kind of pointers to lists.
+const LIST: u64 = 1;
+/// How many offsets lead on: their thirty bits are below this one.
+const ONWARDS: u64 = 0x2000_0000;
+/// Where the highest bit of an offset stands, 31 bits up, below the three of an element's size.
+const OFFSET_END: u64 = 0x8000_0000;
+/// Those four bits of a pointer that leads on to a list of bytes.
+const ONWARDS_BYTES: u64 = 4;
+/// Where the count of a list's elements begins, 35 bits up.
+const COUNT: u64 = 0x8_0000_0000;
 
 /// The list that the pointer at a place names, where it is one of plain elements in the same
 /// segment, without a landing pad, and its words are there. It is what `object_at` tells of the
@@ -47,6 +60,36 @@ pub fn near_list_in(bytes: &[u8], place: Place) -> Option<NearList>
         return None;
     };
     let list = NearList::new(start, size, count);
+    if !reach(bytes, start.position, list.words) {
+        return None;
+    }
+    Some(list)
+}
+
+/// The list of bytes that the pointer at a place names, where it lies behind the pointer in the
+/// same segment, without a landing pad, and its words are there. It is what `object_at` tells of
+/// the place. The segment is the one of these bytes, and isn't asked for.
+///
+/// `None` has no meaning: whatever is there, such a list too, `object_at` tells it or refuses it.
+#[inline(always)]
+pub fn near_bytes_in(bytes: &[u8], place: Place) -> Option<NearList>
+    ensures near { (segments : List (List ℕ)) → bytes.now ≡ segment_bytes segments place.segment
+        → IfSome result (λ list.
+        IsNear (words_in segments) (place_view place) (list_object list)) }
+    ensures measured { IfSome result IsMeasured }
+    ensures segment { IfSome result (λ list. list.start.segment ≡ place.segment) }
+    ensures size { IfSome result (λ list. list.size ≡ Byte) }
+{
+    let word = word_in(bytes, place.position)?;
+    if word % KINDS != LIST || word / OFFSET_END % 16 != ONWARDS_BYTES {
+        return None;
+    }
+    let start = Place {
+        segment: place.segment,
+        position: place.position + 1 + (word / KINDS % ONWARDS) as usize,
+    };
+    let count = (word / COUNT) as u32;
+    let list = NearList::new(start, ElementSize::Byte, count);
     if !reach(bytes, start.position, list.words) {
         return None;
     }

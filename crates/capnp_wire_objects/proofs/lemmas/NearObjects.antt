@@ -1,5 +1,5 @@
 -- Objects that are told in one look.
-use Rattle.std.proofs.Common.{◌≡◌, ℕ, ◌+◌, ◌-◌, ◌*◌, ◌/◌, ◌^◌, ◌<◌, ◌≤◌, Bool, true, false, nat_lt, leb, eqb, if◌then◌else◌, List, [], length, Option, Some, None, Result, Ok, refl, ap, sym, ◌∙◌, subst, arith}
+use Rattle.std.proofs.Common.{◌≡◌, ℕ, ◌+◌, ◌-◌, ◌*◌, ◌/◌, ◌%◌, ◌^◌, ◌<◌, ◌≤◌, Bool, true, false, nat_lt, leb, eqb, if◌then◌else◌, List, [], length, Option, Some, None, Result, Ok, refl, ap, sym, ◌∙◌, subst, arith}
 use Rattle.std.specs.Prelude.{unwrap_or}
 use Rattle.std.specs.List.{slice_get}
 use Rattle.std.specs.Option.{ok_or, is_some}
@@ -7,9 +7,9 @@ use Rattle.std.proofs.lemmas.Bool.{ne_eqb}
 use Rattle.std.proofs.lemmas.Bool.Decides.{nat_tests}
 use Rattle.capnp_model.specs.Kinds.{Kind, OutOfBounds}
 use Rattle.capnp_model.specs.Chains.{◌>>=◌, ◌provided◌, ◌and_then◌}
-use Rattle.capnp_model.specs.Sections.{words_for}
+use Rattle.capnp_model.specs.Sections.{bits_at, words_for}
 use Rattle.capnp_model.specs.Segments.{Segments, Place, place, after, word_at, words_at}
-use Rattle.capnp_model.specs.Pointers.{to_struct, to_list, pointer_of, begins, a_struct, a_list, found_by, found_at}
+use Rattle.capnp_model.specs.Pointers.{to_struct, to_list, pointer_of, pointer_of_kind, begins, a_struct, a_list, found_by, found_at}
 use Rattle.capnp_model.specs.Pointers as model
 use Rattle.capnp_model.proofs.lemmas.Chaining.{ok_is}
 use Rattle.capnp_units.specs.declared.sizes.ElementSize.{ElementSize}
@@ -72,6 +72,20 @@ bits_of _ = 0
 abbrev pub segment_of : Object → ℕ
 segment_of (object.List p size n) = p.segment
 segment_of _ = 0
+
+-- the size of a list's elements
+abbrev pub size_of : Object → ElementSize
+size_of (object.List p size n) = size
+size_of _ = Byte
+
+-- what a word says of a list of bytes that lies behind it
+pub onwards_bytes : (w : ℕ) → w < 2 ^ 64 → w % 4 ≡ 1 → w / 2 ^ 31 % 16 ≡ 4 → to_list (w / 4 % 2 ^ 29) 2 (w / 2 ^ 35) ≡ pointer_of w
+onwards_bytes w bound kind size =
+    let k : bits_at 0 2 w ≡ 1 = omega arith in
+    let a : bits_at 2 30 w ≡ w / 4 % 2 ^ 29 = omega arith in
+    let b : bits_at 32 3 w ≡ 2 = omega arith in
+    let c : bits_at 35 29 w ≡ w / 2 ^ 35 = omega arith in
+    sym (ap (λ (m : ℕ). pointer_of_kind m w) k ∙ rw (a, b, c) refl)
 
 -- an object without a pad
 abbrev found_near : model.Object → model.Found

@@ -42,8 +42,8 @@ returns-clause-clear g c =
     let inside = subst (AreThere s q) words c.requires.inside in
     let own = own_words_are s q all inside.0 c.requires.whole in
     let some = c.if-spare-eq0.false in
-    let r = c.word_or_zero-word.result in
-    let last = last_is s q bits r (q.position + c.args.list.words - 1) inside.0 own some c.word_or_zero-word.ensures.word (omega arith) in
+    let r = c.word_or_zero_in-word.result in
+    let last = last_is s q bits r (q.position + c.args.list.words - 1) inside.0 own some c.word_or_zero_in-word.ensures.word (omega arith) in
     let shift : 1 * 2 ^ (bits % 64) % 2 ^ 64 ≡ 2 ^ (bits % 64) = shifted (bits % 64) (omega arith) in
     OnTrue_from _ _ (λ e.
     let same : r % (1 * 2 ^ (bits % 64) % 2 ^ 64) ≡ r = eqb-true _ _ e in
@@ -59,8 +59,8 @@ returns-clause-spare g c =
     let inside = subst (AreThere s q) words c.requires.inside in
     let own = own_words_are s q all inside.0 c.requires.whole in
     let some = c.if-spare-eq0.false in
-    let r = c.word_or_zero-word.result in
-    let last = last_is s q bits r (q.position + c.args.list.words - 1) inside.0 own some c.word_or_zero-word.ensures.word (omega arith) in
+    let r = c.word_or_zero_in-word.result in
+    let last = last_is s q bits r (q.position + c.args.list.words - 1) inside.0 own some c.word_or_zero_in-word.ensures.word (omega arith) in
     let shift : 1 * 2 ^ (bits % 64) % 2 ^ 64 ≡ 2 ^ (bits % 64) = shifted (bits % 64) (omega arith) in
     OnFalse_from (eqb (r % (1 * 2 ^ (bits % 64) % 2 ^ 64)) r) (EndsClear s q bits → ⊥) (λ e clear.
     eqb-false _ _ e (ap (λ (m : ℕ). r % m) shift ∙ ap (λ (v : ℕ). v % 2 ^ (bits % 64)) last ∙ last_cut_off bits (section_at s q all) some clear ∙ sym last))

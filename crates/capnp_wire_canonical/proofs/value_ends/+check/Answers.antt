@@ -12,6 +12,7 @@ use Rattle.capnp_units.specs.Segments.{words_in}
 use Rattle.capnp_wire_objects.specs.declared.object.Object.{Object}
 use Rattle.capnp_wire_objects.specs.declared.object.Object.TheVariants as object
 use Rattle.capnp_units.specs.declared.limiter.ReadLimiter.{ReadLimiter}
+use Rattle.capnp_wire_objects.specs.Arenas.{segment_bytes}
 use Rattle.capnp_wire_objects.specs.Places.{place_view}
 use Rattle.capnp_wire_objects.specs.Near.{list_object, struct_object, IsMeasured, IsNear}
 use Rattle.capnp_wire_objects.specs.Follow.{FollowsWithin}
@@ -32,7 +33,7 @@ use Rattle.capnp_wire_canonical.proofs.StandingLists.{pointers_tests, pointers_w
 use Rattle.capnp_wire_canonical.proofs.StandingPlaces.{pointers_where, structs_where}
 use Rattle.capnp_wire_canonical.proofs.StandingValues.{null_tests, capability_tests, deep_tests, null_leaf, other_leaf}
 use Rattle.capnp_wire_canonical.proofs.Steps.{short_at}
-use Rattle.capnp_wire_canonical.proofs.NearFollowed.{some_left, untold}
+use Rattle.capnp_wire_canonical.proofs.NearFollowed.{some_left, untold, none_is}
 use Rattle.capnp_wire_canonical.proofs.value_ends.+check.Goals as goal
 
 pub row_end-loop-i-init : goal.row_end-loop-i-init
@@ -49,20 +50,20 @@ row_end-returns-in_err-next g t c =
     let given = c.loop-i.invariant.there in
     let r = err_from_is_err_and c.from_residual.result c.from_residual.ensures.1 in
     let e = c.in_err-next.field-0.0 in
-    refused_is (row_test (reach n s) p count head) l c.value_end.new.limiter c.from_residual.result r.0 e r.1 r.2
-    (row_stopped n s p count head l c.loop-i.i c.loop-i.end c.loop-i-test.true given.behind c.loop-i.limiter c.value_end.new.limiter e c.in_err-next.ensures c.loop-i.invariant)
+    refused_is (row_test (reach n s) p count head) l c.item_end.new.limiter c.from_residual.result r.0 e r.1 r.2
+    (row_stopped n s p count head l c.loop-i.i c.loop-i.end c.loop-i-test.true given.behind c.loop-i.limiter c.item_end.new.limiter e c.in_err-next.ensures c.loop-i.invariant)
 
 pub row_end-returns-in-None : goal.row_end-returns-in-None
 row_end-returns-in-None g t c =
     let s : Segments = words_in (g.A.ReaderArena.segments c.args.arena.now) in
     let given = c.loop-i.invariant.there in
-    row_differs c.args.levels s (place_view c.args.first) c.args.count c.args.head c.args.limiter.now c.loop-i.i c.loop-i.end c.loop-i-test.true given.behind c.loop-i.limiter c.value_end.new.limiter (rw c.in-None.is at c.in_ok-next.ensures) c.loop-i.invariant
+    row_differs c.args.levels s (place_view c.args.first) c.args.count c.args.head c.args.limiter.now c.loop-i.i c.loop-i.end c.loop-i-test.true given.behind c.loop-i.limiter c.item_end.new.limiter (rw c.in-None.is at c.in_ok-next.ensures) c.loop-i.invariant
 
 pub row_end-loop-i-preserved : goal.row_end-loop-i-preserved
 row_end-loop-i-preserved g t c =
     let s : Segments = words_in (g.A.ReaderArena.segments c.args.arena.now) in
     let given = c.loop-i.invariant.there in
-    row_next c.args.levels s (place_view c.args.first) c.args.count c.args.head c.args.limiter.now c.loop-i.i c.loop-i.end c.loop-i-test.true given.behind c.in-Some.next c.loop-i.limiter c.value_end.new.limiter (rw c.in-Some.is at c.in_ok-next.ensures) c.loop-i.invariant
+    row_next c.args.levels s (place_view c.args.first) c.args.count c.args.head c.args.limiter.now c.loop-i.i c.loop-i.end c.loop-i-test.true given.behind c.in-Some.next c.loop-i.limiter c.item_end.new.limiter (rw c.in-Some.is at c.in_ok-next.ensures) c.loop-i.invariant
 
 pub row_end-returns : goal.row_end-returns
 row_end-returns g t c =
@@ -176,7 +177,7 @@ value_end-list_end-requires g t c =
     let followed : FollowsWithin c.args.levels s (place_view c.args.place) c.args.limiter.now (Ok (list_object c.in-Some.list)) k = rw c.in-Some.is at c.in_ok-list.ensures.walked in
     let pays = followed.0 in
     let near : IsNear s (place_view c.args.place) (list_object c.in-Some.list) × IsMeasured c.in-Some.list × (c.in-Some.list.start.segment ≡ c.args.place.segment) = rw c.in-Some.is at c.in_ok-list.ensures.near in
-    record { near = near.0; measured = near.1; short = short_at s (place_view c.args.place) (list_object c.in-Some.list) c.args.limiter.now k pays; head = c.requires }
+    record { bytes = c.segment_bytes-bytes.ensures ∙ ap (segment_bytes (g.A.ReaderArena.segments c.args.arena.now)) (sym near.2); near = near.0; measured = near.1; short = short_at s (place_view c.args.place) (list_object c.in-Some.list) c.args.limiter.now k pays; head = c.requires }
 
 pub value_end-struct_end-requires : goal.value_end-struct_end-requires
 value_end-struct_end-requires g t c =
@@ -254,7 +255,7 @@ object_end-list_end-requires g t c =
     let p : Place = place_view c.args.place in
     let near = near_leads s p c.args.object c.word_or_zero.result c.requires.leads c.word_or_zero.ensures.word c.if-word_or_zero-eq-FAR.false in
     let is : c.args.object ≡ list_object c.new-list.result = c.in-List.is ∙ sym c.new-list.ensures.object in
-    record { near = subst (IsNear s p) is (near, c.requires.inside); measured = c.new-list.ensures.measured; short = subst IsShort is c.requires.short; head = c.requires.head }
+    record { bytes = c.segment_bytes-bytes.ensures; near = subst (IsNear s p) is (near, c.requires.inside); measured = c.new-list.ensures.measured; short = subst IsShort is c.requires.short; head = c.requires.head }
 
 pub object_end-returns-in-Null : goal.object_end-returns-in-Null
 object_end-returns-in-Null g t c =
@@ -485,3 +486,12 @@ structs_end-returns g t c =
     (word ∙ ap (λ (j : ℕ). Some (list_pointer (head - p.position - 1) 7 j)) rows)
     (tag ∙ ap (λ (j : ℕ). Some (struct_pointer count j b)) (sym sizes.0) ∙ ap (λ (j : ℕ). Some (struct_pointer count d j)) (sym sizes.1))
     l m c.elements_end.result (subst (λ (j : ℕ). Tests (elements_test (reach n s) q count d k (q.position + j)) l c.elements_end.result m) own c.elements_end.ensures)
+
+pub item_end-returns-in-Some : goal.item_end-returns-in-Some
+item_end-returns-in-Some g t c = rw c.in-Some.is at c.common_end.ensures.told
+
+pub item_end-returns : goal.item_end-returns
+item_end-returns g t c =
+    let s : Segments = words_in (g.A.ReaderArena.segments c.args.arena.now) in
+    let same : c.common_end.new.limiter ≡ c.args.limiter.now = c.common_end.ensures.untold (none_is c.common_end.result c.in_default.not-Some) in
+    subst (λ (l : ReadLimiter). Tests (value_test (reach c.args.levels s) (place_view c.args.place) c.args.head) l c.other_end.result c.other_end.new.limiter) same c.other_end.ensures

@@ -7,31 +7,37 @@ use Rattle.capnp_wire_canonical.proofs.CheckedElements.{ElementsSoFar}
 use Rattle.capnp_wire_canonical.proofs.value_ends.+check.Given as goal
 
 abbrev pub decreases-object_end : goal.decreases-object_end
-decreases-object_end g l = 7 * l.levels + 6
+decreases-object_end g l = 8 * l.levels + 7
 
 abbrev pub decreases-struct_end : goal.decreases-struct_end
-decreases-struct_end g l = 7 * l.levels + 5
+decreases-struct_end g l = 8 * l.levels + 6
 
 abbrev pub decreases-struct_here : goal.decreases-struct_here
-decreases-struct_here g l = 7 * l.levels + 4
+decreases-struct_here g l = 8 * l.levels + 5
 
 abbrev pub decreases-pointers_end : goal.decreases-pointers_end
-decreases-pointers_end g l = 7 * l.levels + 5
+decreases-pointers_end g l = 8 * l.levels + 5
 
 abbrev pub decreases-structs_end : goal.decreases-structs_end
-decreases-structs_end g l = 7 * l.levels + 5
+decreases-structs_end g l = 8 * l.levels + 6
 
 abbrev pub decreases-elements_end : goal.decreases-elements_end
-decreases-elements_end g l = 7 * l.levels + 4
+decreases-elements_end g l = 8 * l.levels + 5
 
 abbrev pub decreases-row_end : goal.decreases-row_end
-decreases-row_end g l = 7 * l.levels + 2
+decreases-row_end g l = 8 * l.levels + 4
 
-abbrev pub decreases-any_end : goal.decreases-any_end
-decreases-any_end g l = 7 * l.levels
+abbrev pub decreases-item_end : goal.decreases-item_end
+decreases-item_end g l = 8 * l.levels + 3
+
+abbrev pub decreases-other_end : goal.decreases-other_end
+decreases-other_end g l = 8 * l.levels + 2
 
 abbrev pub decreases-value_end : goal.decreases-value_end
-decreases-value_end g l = 7 * l.levels + 1
+decreases-value_end g l = 8 * l.levels + 1
+
+abbrev pub decreases-any_end : goal.decreases-any_end
+decreases-any_end g l = 8 * l.levels
 
 -- the first i stand, and are paid
 abbrev pub invariant-row_end-loop-i : goal.invariant-row_end-loop-i
