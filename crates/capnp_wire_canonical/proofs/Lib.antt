@@ -25,6 +25,7 @@ mod StandingObjects
 mod NearPlaces
 mod StandingLists
 mod StandingValues
+mod Padded
 mod Telling
 mod Rowing
 mod StandingStructs

@@ -93,3 +93,12 @@ null_paid s p e old new kept follows = near_paid s p object.Null (null_near s p 
 -- a list of bytes costs its words
 pub bytes_cost : (l : NearList) → IsMeasured l → l.size ≡ Byte → l.words ≡ own_cost (list_object l)
 bytes_cost l m e = m.1 ∙ ap words_for m.0 ∙ subst (λ (z : ElementSize). words_for (data_bits (size_number z) * l.count) ≡ own_cost (object.List l.start z l.count)) (sym e) refl
+
+-- a level that is left suffices for each object
+pub levels_are : (n : ℕ) (o : Object) → 0 < n → levels_suffice n o ≡ true
+levels_are n object.Null h = refl
+levels_are n (object.Capability i) h = refl
+levels_are n (object.Struct q d k) h = some_level n h
+levels_are n (object.List q size c) h = some_level n h
+levels_are n (object.PointerList q c) h = some_level n h
+levels_are n (object.StructList q words c d k) h = some_level n h

@@ -1,8 +1,8 @@
 -- A canonical copy against a budget.
 use Rattle.std.specs.Prelude.{◌≡◌, ℕ, zero, suc, ◌+◌, ◌-◌, ◌^◌, ◌<◌, ◌≤◌, min, Bool, true, false, List, [], ◌∷◌, ◌++◌, length, drop, Option, Some, None, ◌⊎◌, Result, Ok, Err}
 use Rattle.capnp_model.specs.Kinds.{Kind, NestingLimitExceeded, CapabilityInCanonical}
-use Rattle.capnp_model.specs.Segments.{Segments, Place}
-use Rattle.capnp_model.specs.Pointers.{Object, nothing, a_struct, a_list, a_capability, found_at}
+use Rattle.capnp_model.specs.Segments.{Segments, Place, word_at}
+use Rattle.capnp_model.specs.Pointers.{to_pad, pointer_of, Object, nothing, a_struct, a_list, a_capability, found_at}
 use Rattle.capnp_model.specs.Visits.{Visit, visits_of, object_visits, leaf_visits, visits_cost}
 use Rattle.capnp_units.specs.declared.errors.Error.{Error}
 use Rattle.capnp_units.specs.declared.kinds.ErrorKind.TheVariants.{BufferNotLargeEnough}
@@ -49,6 +49,10 @@ abbrev pub FollowsNear : {X : Type 0} → (X → Seen) → (ReadLimiter → Resu
 FollowsNear object follows old (Ok (Some x)) new = follows old (Ok (object x)) new
 FollowsNear object follows old (Ok None) new = new ≡ old
 FollowsNear object follows old (Err e) new = follows old (Err e) new
+
+-- The pointer at a place leads to a landing pad of one word.
+abbrev pub LeadsToPad : Segments → Place → Place → Type 0
+LeadsToPad s p pad = (w : ℕ) × (word_at s p ≡ Some w) × (pointer_of w ≡ to_pad 1 pad)
 
 -- The words that a copy writes over, and what is left to read.
 pub record CopyState : Type 0 where

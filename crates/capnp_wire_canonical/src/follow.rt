@@ -68,7 +68,7 @@ pub(crate) fn follow_data<A: ReaderArena>(
 
 /// What following a list costs by itself, in words: a list of voids its count.
 #[inline(always)]
-fn list_cost(list: NearList) -> u64
+pub(crate) fn list_cost(list: NearList) -> u64
     requires { IsMeasured list }
     ensures { result ≡ own_cost (list_object list) }
 {

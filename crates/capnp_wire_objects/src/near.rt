@@ -1,5 +1,7 @@
 //! Structs, and lists of them and of plain elements, that are told in one look at their segment.
-ghost use Rattle.std.specs.Prelude.{◌≡◌, ℕ, List, IfSome};
+ghost use Rattle.std.specs.Prelude.{◌≡◌, ℕ, List, None, IfSome};
+ghost use Rattle.capnp_model.specs.Segments.{Place as ModelPlace};
+ghost use Rattle.capnp_model.specs.Pointers.{to_pad, pointer_of};
 ghost use Rattle.capnp_units.specs.declared.sizes.ElementSize.TheVariants.{Byte};
 ghost use Rattle.capnp_units.specs.Segments.{words_in};
 ghost use Rattle.capnp_wire_objects.specs.Arenas.{segment_bytes};
@@ -196,4 +198,17 @@ pub fn near_struct_in(bytes: &[u8], place: Place) -> Option<NearStruct>
         pointers,
     };
     Some(NearStruct { start, size })
+}
+
+/// The landing pad of one word that a pointer of this word leads to. `None` where it leads to none:
+/// to an object without a pad, to a pad of two words, or nowhere.
+#[inline(always)]
+pub fn short_pad(word: u64) -> Option<Place>
+    ensures pad { IfSome result (λ pad. pointer_of word ≡ to_pad 1 (place_view pad)) }
+    ensures others { result ≡ None → (pad : ModelPlace) → pointer_of word ≡ to_pad 1 pad → ⊥ }
+{
+    match pointer_of_word(word) {
+        WordPointer::Far { pad } => Some(pad),
+        _ => None,
+    }
 }

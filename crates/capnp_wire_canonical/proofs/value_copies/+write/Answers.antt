@@ -1,5 +1,5 @@
 -- What each step writes and pays.
-use Rattle.std.proofs.Common.{◌≡◌, ℕ, ◌+◌, ◌-◌, ◌*◌, ◌≤◌, refl, ap, sym, ◌∙◌, subst, inl, inr, arith}
+use Rattle.std.proofs.Common.{◌≡◌, ℕ, ◌+◌, ◌-◌, ◌*◌, ◌<◌, ◌≤◌, refl, ap, sym, ◌∙◌, subst, inl, inr, arith}
 use Rattle.std.proofs.Common.{Ok, Err}
 use Rattle.std.specs.Option.{is_some}
 use Rattle.std.proofs.lemmas.Result.{err_from_is_err_and}
@@ -32,14 +32,14 @@ use Rattle.capnp_wire_canonical.proofs.Rooms.{no_room_for_struct, no_room_for_po
 use Rattle.capnp_wire_canonical.proofs.Rows.{least_words, least_pointers}
 use Rattle.capnp_wire_canonical.proofs.Steps.{null_put, leaf_at, deep_at, short_at}
 use Rattle.capnp_wire_objects.proofs.lemmas.NearObjects.{segment_of}
-use Rattle.capnp_wire_canonical.proofs.NearFollowed.{some_left, untold}
+use Rattle.capnp_wire_canonical.proofs.NearFollowed.{some_left, untold, none_is}
 use Rattle.capnp_wire_canonical.proofs.Kept.{widest_one, no_wider}
 use Rattle.capnp_wire_canonical.proofs.Nulls.{kept_count}
 use Rattle.capnp_wire_canonical.proofs.Parts.{part_there, front_there, there_length, word_is}
 use Rattle.capnp_wire_canonical.proofs.Finals.{struct_gives, pointers_gives, same_words, element_halts, element_gives, structs_gives, empty_gives, cut_parts}
 use Rattle.capnp_wire_canonical.proofs.Elements.{elements_put, elements_begun, elements_stopped, elements_next, elements_ended}
 use Rattle.capnp_wire_canonical.proofs.Pointers.{trees_put, pointers_begun, pointers_stopped, pointers_next, pointers_ended}
-use Rattle.capnp_wire_canonical.proofs.copy.+write.Goals as goal
+use Rattle.capnp_wire_canonical.proofs.value_copies.+write.Goals as goal
 
 pub write_at-returns-in_err-list : goal.write_at-returns-in_err-list
 write_at-returns-in_err-list g t c =
@@ -492,3 +492,34 @@ write_object-returns-in-Null g t c =
           (λ most room. null_put c.args.at most c.args.used c.args.into.now c.put.new.into l c.requires.place (omega arith) c.put.ensures.words c.put.ensures.behind)
       | inr e ↦ absurd (subst IsNoCapability e.1 c.requires.data)
     ]
+
+pub write_other-returns-in-Some : goal.write_other-returns-in-Some
+write_other-returns-in-Some g t c =
+    let s : Segments = words_in (g.A.ReaderArena.segments c.args.arena.now) in
+    let p : Place = place_view c.args.place in
+    let n = c.args.levels in
+    let l = c.args.limiter.now in
+    let k = c.follow_landed.new.limiter in
+    let o = c.in-Some.object in
+    let deep : 0 < n = rw c.in-Some.is at c.follow_landed.ensures.deep in
+    let followed : FollowsData n s p l (Ok o) k = rw c.in-Some.is at c.follow_landed.ensures.followed in
+    deep_at n s p c.args.at c.args.used o c.args.into.now c.write_object.new.into l k c.write_object.new.limiter (n - 1) c.write_object.result (omega arith) followed.0 followed.1 followed.2 c.write_object.ensures
+
+pub write_other-write_object-requires : goal.write_other-write_object-requires
+write_other-write_object-requires g t c =
+    let s : Segments = words_in (g.A.ReaderArena.segments c.args.arena.now) in
+    let p : Place = place_view c.args.place in
+    let n = c.args.levels in
+    let l = c.args.limiter.now in
+    let k = c.follow_landed.new.limiter in
+    let o = c.in-Some.object in
+    let deep : 0 < n = rw c.in-Some.is at c.follow_landed.ensures.deep in
+    let followed : FollowsData n s p l (Ok o) k = rw c.in-Some.is at c.follow_landed.ensures.followed in
+    λ κs lives. (omega arith, (lives, (followed.0.inside, (followed.2, (short_at s p o l k followed.0, c.requires.place)))))
+
+pub write_other-returns : goal.write_other-returns
+write_other-returns g t c =
+    let s : Segments = words_in (g.A.ReaderArena.segments c.args.arena.now) in
+    let p : Place = place_view c.args.place in
+    let same = c.follow_landed.ensures.untold (none_is c.follow_landed.result c.in_default.not-Some) in
+    subst (λ (x : ReadLimiter). WritesCopy (value_copy (reach c.args.levels s) p (write_spot c.args.at c.args.used)) (copy_state c.args.into.now x) c.write_any.result (copy_state c.write_any.new.into c.write_any.new.limiter)) same c.write_any.ensures
