@@ -1,13 +1,15 @@
 //! Following pointers of values without capabilities.
-ghost use Rattle.std.specs.Prelude.{◌≡◌, Some, None, IfOk, IfSome, MatchResult};
+ghost use Rattle.std.specs.Bool.{OnTrue, OnFalse};
+ghost use Rattle.std.specs.Prelude.{◌≡◌, ◌<◌, ◌^◌, Some, None, IfOk, IfSome, MatchResult};
 ghost use Rattle.capnp_units.specs.Errors.{kind_of};
 ghost use Rattle.capnp_units.specs.Segments.{words_in};
 ghost use Rattle.capnp_units.specs.Limits.{Spends, Follows};
+ghost use Rattle.capnp_wire_objects.specs.declared.object.Object.TheVariants as seen;
 ghost use Rattle.capnp_wire_objects.specs.Arenas.{segment_bytes};
 ghost use Rattle.capnp_wire_objects.specs.Places.{place_view};
 ghost use Rattle.capnp_wire_objects.specs.Named.{named_view};
-ghost use Rattle.capnp_wire_objects.specs.Follow.{FollowsWithin, own_cost};
-ghost use Rattle.capnp_wire_objects.specs.Near.{list_object, struct_object, IsMeasured, IsNear};
+ghost use Rattle.capnp_wire_objects.specs.Follow.{FollowsWithin, Pays, own_cost};
+ghost use Rattle.capnp_wire_objects.specs.Near.{list_object, struct_object, structs_object, IsMeasured, IsNear};
 ghost use Rattle.capnp_wire_canonical.specs.Copies.{FollowsData, FollowsNear, object_fault};
 
 use capnp_units::errors::{Error, Result};
@@ -18,10 +20,12 @@ use capnp_wire_objects::arena::ReaderArena;
 use capnp_wire_objects::follow::own_cost;
 use capnp_wire_objects::lists::NearList;
 use capnp_wire_objects::named::{NamedObject, found_at};
-use capnp_wire_objects::near::{near_list_in, near_struct_in};
+use capnp_wire_objects::near::{
+    NearPointers, near_list_in, near_pointers_in, near_struct_in, near_structs_in,
+};
 use capnp_wire_objects::object::{Object, whole};
-use capnp_wire_objects::place::Place;
-use capnp_wire_objects::structs::NearStruct;
+use capnp_wire_objects::place::{Place, word_in};
+use capnp_wire_objects::structs::{NearStruct, NearStructs};
 
 /// Refuses a capability, and an object that takes a level where none is left.
 #[inline(always)]
@@ -149,6 +153,85 @@ pub(crate) fn follow_near_struct<A: ReaderArena>(
     limiter.follow();
     limiter.charge(near.size.data_words as u64 + near.size.pointers as u64)?;
     Ok(Some(near))
+}
+
+/// Counts the pointer at a place in the segment of these bytes as followed, where it is null. Else
+/// nothing changes.
+#[inline(always)]
+pub(crate) fn follow_null<A: ReaderArena>(
+    arena: &A,
+    bytes: &[u8],
+    limiter: &mut ReadLimiter,
+    place: Place,
+) -> bool
+    requires { bytes.now ≡ segment_bytes (A.segments arena.now) place.segment }
+    ensures paid { OnTrue result (Pays (words_in (A.segments arena.now)) (place_view place)
+        limiter.old seen.Null limiter.new) }
+    ensures untold { OnFalse result (limiter.new ≡ limiter.old) }
+{
+    let Some(word) = word_in(bytes, place.position) else {
+        return false;
+    };
+    if word == 0 {
+        limiter.follow();
+        return true;
+    }
+    false
+}
+
+/// What following a list of structs costs by itself, in words: with its tag, and where an element
+/// has no word its count too.
+#[inline(always)]
+pub(crate) fn structs_cost(near: NearStructs) -> u64
+    ensures cost { result ≡ own_cost (structs_object near) }
+    ensures few { result < 2 ^ 36 }
+{
+    let width = near.size.data_words as u64 + near.size.pointers as u64;
+    let empty = if width == 0 { near.count as u64 } else { 0 };
+    near.words as u64 + 1 + empty
+}
+
+/// The list of structs that `near_structs_in` tells at a place in the segment of these bytes. The
+/// pointer is counted as followed, and the list's words are granted.
+///
+/// `None` says nothing of what is there, or the words pass what is left. Then nothing was counted.
+#[inline(always)]
+pub(crate) fn follow_structs<A: ReaderArena>(
+    arena: &A,
+    bytes: &[u8],
+    limiter: &mut ReadLimiter,
+    place: Place,
+) -> Option<NearStructs>
+    requires { bytes.now ≡ segment_bytes (A.segments arena.now) place.segment }
+    ensures paid { IfSome result (λ near. Pays (words_in (A.segments arena.now))
+        (place_view place) limiter.old (structs_object near) limiter.new) }
+    ensures untold { result ≡ None → limiter.new ≡ limiter.old }
+{
+    let near = near_structs_in(bytes, place)?;
+    if !limiter.follow_for(structs_cost(near)) {
+        return None;
+    }
+    Some(near)
+}
+
+/// The list of pointers that `near_pointers_in` tells, as `follow_structs` tells a list of structs.
+#[inline(always)]
+pub(crate) fn follow_pointers<A: ReaderArena>(
+    arena: &A,
+    bytes: &[u8],
+    limiter: &mut ReadLimiter,
+    place: Place,
+) -> Option<NearPointers>
+    requires { bytes.now ≡ segment_bytes (A.segments arena.now) place.segment }
+    ensures paid { IfSome result (λ near. Pays (words_in (A.segments arena.now))
+        (place_view place) limiter.old (seen.PointerList near.start near.count) limiter.new) }
+    ensures untold { result ≡ None → limiter.new ≡ limiter.old }
+{
+    let near = near_pointers_in(bytes, place)?;
+    if !limiter.follow_for(near.count as u64) {
+        return None;
+    }
+    Some(near)
 }
 
 /// Counts n nulls as followed.

@@ -1,15 +1,15 @@
-//! Following pointers to landing pads of one word: an object in the pad's segment is told in one
-//! look at it.
-ghost use Rattle.std.specs.Prelude.{◌≡◌, ◌<◌, ◌^◌, None, IfSome, Ok};
+//! Following pointers to what is neither a near struct nor a near list of plain elements: other near
+//! lists, and objects behind a landing pad of one word.
+ghost use Rattle.std.specs.Prelude.{◌≡◌, ◌<◌, None, IfSome, Ok};
 ghost use Rattle.std.specs.Option.{OnSome};
 ghost use Rattle.capnp_units.specs.Segments.{words_in};
 ghost use Rattle.capnp_wire_objects.specs.Arenas.{segment_bytes};
 ghost use Rattle.capnp_wire_objects.specs.Places.{place_view};
-ghost use Rattle.capnp_wire_objects.specs.Follow.{Pays, own_cost};
+ghost use Rattle.capnp_wire_objects.specs.Follow.{Pays};
 ghost use Rattle.capnp_wire_objects.specs.Near.{list_object, struct_object, structs_object};
 ghost use Rattle.capnp_wire_canonical.specs.Copies.{FollowsData, LeadsToPad};
 
-use crate::follow::list_cost;
+use crate::follow::{follow_null, follow_pointers, follow_structs, list_cost, structs_cost};
 use capnp_units::limiter::ReadLimiter;
 use capnp_wire_objects::arena::ReaderArena;
 use capnp_wire_objects::lists::NearList;
@@ -112,7 +112,7 @@ fn follow_landed_structs<A: ReaderArena>(
 ///
 /// `None` says nothing of what is there, or the words pass what is left. Then nothing was counted.
 #[inline(always)]
-pub(crate) fn follow_landed<A: ReaderArena>(
+fn follow_landed<A: ReaderArena>(
     arena: &A,
     bytes: &[u8],
     limiter: &mut ReadLimiter,
@@ -155,14 +155,50 @@ pub(crate) fn follow_landed<A: ReaderArena>(
     })
 }
 
-/// What following a list of structs costs by itself, in words: with its tag, and where an element
-/// has no word its count too.
+/// The object that the pointer at a place leads to, on a walk of at most n levels, where it is
+/// - null;
+/// - a list of structs or of pointers in the same segment, without a landing pad;
+/// - one that `follow_landed` tells.
+///
+/// The pointer is counted as followed, and its pad and the object's own words are granted. The
+/// pointer's segment is the one of these bytes.
+///
+/// `None` says nothing of what is there, or the words pass what is left. Then nothing was counted.
 #[inline(always)]
-fn structs_cost(near: NearStructs) -> u64
-    ensures cost { result ≡ own_cost (structs_object near) }
-    ensures few { result < 2 ^ 36 }
+pub(crate) fn follow_other<A: ReaderArena>(
+    arena: &A,
+    bytes: &[u8],
+    limiter: &mut ReadLimiter,
+    place: Place,
+    levels: u32,
+) -> Option<Object>
+    requires { bytes.now ≡ segment_bytes (A.segments arena.now) place.segment }
+    ensures followed { IfSome result (λ object. FollowsData levels
+        (words_in (A.segments arena.now)) (place_view place) limiter.old (Ok object)
+        limiter.new) }
+    ensures deep { OnSome result (0 < levels) }
+    ensures untold { result ≡ None → limiter.new ≡ limiter.old }
 {
-    let width = near.size.data_words as u64 + near.size.pointers as u64;
-    let empty = if width == 0 { near.count as u64 } else { 0 };
-    near.words as u64 + 1 + empty
+    if levels == 0 {
+        return None;
+    }
+    if follow_null(arena, bytes, limiter, place) {
+        return Some(Object::Null);
+    }
+    if let Some(near) = follow_structs(arena, bytes, limiter, place) {
+        return Some(Object::StructList {
+            start: near.start,
+            words: near.words,
+            count: near.count,
+            data_words: near.size.data_words,
+            pointers: near.size.pointers,
+        });
+    }
+    if let Some(near) = follow_pointers(arena, bytes, limiter, place) {
+        return Some(Object::PointerList {
+            start: near.start,
+            count: near.count,
+        });
+    }
+    follow_landed(arena, bytes, limiter, place, levels)
 }

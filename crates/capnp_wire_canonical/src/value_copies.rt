@@ -15,7 +15,7 @@ ghost use Rattle.capnp_wire_canonical.specs.Objects.{IsShort, WritesObject, HasP
 
 use crate::cuts::{Cut, cut_of, pointer_to_cut};
 use crate::follow::{follow_data, follow_near_list, follow_near_struct, follow_nulls};
-use crate::landed::follow_landed;
+use crate::landed::follow_other;
 use crate::list_copies::write_list;
 use crate::own_words::copy_words;
 use crate::words::{end_of, pointer_to_list, pointer_to_struct, put};
@@ -82,7 +82,7 @@ fn write_other<A: ReaderArena>(
         WritesCopy (value_copy r (place_view place) (write_spot at used))
         (copy_state into.old limiter.old) result (copy_state into.new limiter.new) }
 {
-    if let Some(object) = follow_landed(arena, bytes, limiter, place, levels) {
+    if let Some(object) = follow_other(arena, bytes, limiter, place, levels) {
         return write_object(arena, limiter, object, levels - 1, into, at, used);
     }
     write_any(arena, limiter, place, levels, into, at, used)

@@ -4,6 +4,7 @@ ghost use Rattle.capnp_model.specs.Segments.{Place as ModelPlace};
 ghost use Rattle.capnp_model.specs.Pointers.{to_pad, pointer_of};
 ghost use Rattle.capnp_units.specs.declared.sizes.ElementSize.TheVariants.{Byte};
 ghost use Rattle.capnp_units.specs.Segments.{words_in};
+ghost use Rattle.capnp_wire_objects.specs.declared.object.Object.TheVariants as seen;
 ghost use Rattle.capnp_wire_objects.specs.Arenas.{segment_bytes};
 ghost use Rattle.capnp_wire_objects.specs.Places.{place_view};
 ghost use Rattle.capnp_wire_objects.specs.Near.{list_object, struct_object, structs_object, IsMeasured, IsNear};
@@ -96,6 +97,49 @@ pub fn near_bytes_in(bytes: &[u8], place: Place) -> Option<NearList>
         return None;
     }
     Some(list)
+}
+
+/// A list of pointers in the segment of the pointer to it.
+#[derive(Clone, Copy)]
+pub struct NearPointers {
+    /// Where the first pointer stands.
+    pub start: Place,
+    /// How many pointers there are, at most 2^29 - 1.
+    pub count: u32,
+}
+
+/// The list that the pointer at a place names, where it is one of pointers in the same segment,
+/// without a landing pad, and its words are there. It is what `object_at` tells of the place. The
+/// segment is the one of these bytes, and isn't asked for.
+///
+/// `None` has no meaning: whatever is there, such a list too, `object_at` tells it or refuses it.
+#[inline(always)]
+pub fn near_pointers_in(bytes: &[u8], place: Place) -> Option<NearPointers>
+    ensures near { (segments : List (List ℕ)) → bytes.now ≡ segment_bytes segments place.segment
+        → IfSome result (λ list.
+        IsNear (words_in segments) (place_view place) (seen.PointerList list.start list.count)) }
+    ensures segment { IfSome result (λ list. list.start.segment ≡ place.segment) }
+{
+    let word = word_in(bytes, place.position)?;
+    let WordPointer::List {
+        offset,
+        size: ElementSize::Pointer,
+        count,
+    } = pointer_of_word(word)
+    else {
+        return None;
+    };
+    let end = Place {
+        segment: place.segment,
+        position: place.position + 1,
+    };
+    let Ok(start) = begins_at(end, offset) else {
+        return None;
+    };
+    if !reach(bytes, start.position, count as usize) {
+        return None;
+    }
+    Some(NearPointers { start, count })
 }
 
 /// The list that the pointer at a place names, where it is one of structs in the same segment,

@@ -117,6 +117,12 @@ module _ (segments : List (List ℕ)) (bytes : List ℕ) (p : Place) (w offset :
       let own : is_some (words_at s (place_view start) all) ≡ true = subst (λ (m : ℕ). is_some (words_at s (place_view start) m) ≡ true) few (inside words fit) in
       (exact_object s p (found_near (a_list (place_view start) (size_number size) n)) (object.List start size n) (listed (size_number size) n says) (whole_plain s start size n plain own), (plain, (own, omega arith)))
 
+  pub pointers_near : (n : ℕ) → to_list offset 6 n ≡ pointer_of w → leb (start.position + n) (length bytes / 8) ≡ true → start.position + n < 2 ^ 61 → IsNear (words_in segments) p (object.PointerList start n)
+  pointers_near n says fit bound =
+      let s : Segments = words_in segments in
+      let own = inside n fit in
+      (exact_object s p (found_near (a_list (place_view start) 6 n)) (object.PointerList start n) (listed 6 n says) (plain_of (words_at s (place_view start) n) (object.PointerList start n) own), (own, bound))
+
   -- its tag is the word where it begins
   pub structs_near : (n tag o d k : ℕ) → to_list offset 7 n ≡ pointer_of w → leb (start.position + (1 + n)) (length bytes / 8) ≡ true → start.position + (1 + n) < 2 ^ 61 → Some tag ≡ slice_get (whole_words bytes) start.position → to_struct o d k ≡ pointer_of tag → o * (d + k) ≤ n
       → IsNear (words_in segments) p (object.StructList (record { segment = start.segment; position = start.position + 1 }) n o d k)

@@ -499,10 +499,10 @@ write_other-returns-in-Some g t c =
     let p : Place = place_view c.args.place in
     let n = c.args.levels in
     let l = c.args.limiter.now in
-    let k = c.follow_landed.new.limiter in
+    let k = c.follow_other.new.limiter in
     let o = c.in-Some.object in
-    let deep : 0 < n = rw c.in-Some.is at c.follow_landed.ensures.deep in
-    let followed : FollowsData n s p l (Ok o) k = rw c.in-Some.is at c.follow_landed.ensures.followed in
+    let deep : 0 < n = rw c.in-Some.is at c.follow_other.ensures.deep in
+    let followed : FollowsData n s p l (Ok o) k = rw c.in-Some.is at c.follow_other.ensures.followed in
     deep_at n s p c.args.at c.args.used o c.args.into.now c.write_object.new.into l k c.write_object.new.limiter (n - 1) c.write_object.result (omega arith) followed.0 followed.1 followed.2 c.write_object.ensures
 
 pub write_other-write_object-requires : goal.write_other-write_object-requires
@@ -511,15 +511,15 @@ write_other-write_object-requires g t c =
     let p : Place = place_view c.args.place in
     let n = c.args.levels in
     let l = c.args.limiter.now in
-    let k = c.follow_landed.new.limiter in
+    let k = c.follow_other.new.limiter in
     let o = c.in-Some.object in
-    let deep : 0 < n = rw c.in-Some.is at c.follow_landed.ensures.deep in
-    let followed : FollowsData n s p l (Ok o) k = rw c.in-Some.is at c.follow_landed.ensures.followed in
+    let deep : 0 < n = rw c.in-Some.is at c.follow_other.ensures.deep in
+    let followed : FollowsData n s p l (Ok o) k = rw c.in-Some.is at c.follow_other.ensures.followed in
     λ κs lives. (omega arith, (lives, (followed.0.inside, (followed.2, (short_at s p o l k followed.0, c.requires.place)))))
 
 pub write_other-returns : goal.write_other-returns
 write_other-returns g t c =
     let s : Segments = words_in (g.A.ReaderArena.segments c.args.arena.now) in
     let p : Place = place_view c.args.place in
-    let same = c.follow_landed.ensures.untold (none_is c.follow_landed.result c.in_default.not-Some) in
+    let same = c.follow_other.ensures.untold (none_is c.follow_other.result c.in_default.not-Some) in
     subst (λ (x : ReadLimiter). WritesCopy (value_copy (reach c.args.levels s) p (write_spot c.args.at c.args.used)) (copy_state c.args.into.now x) c.write_any.result (copy_state c.write_any.new.into c.write_any.new.limiter)) same c.write_any.ensures
