@@ -74,5 +74,14 @@ laid_more at i row old h room =
     ∙ ap (λ (ws : List (List ℕ)). front ++ ws) (sym (append_assoc mid (w ∷ []) rest)) ∙ ap (λ (ws : List (List ℕ)). front ++ (ws ++ rest)) (sym (take_one i row h))
     ∙ ap (λ (n : ℕ). front ++ (take n row ++ rest)) one ∙ ap (λ (n : ℕ). front ++ (take (i + 1) row ++ drop n old)) next
 
+-- one by one from the first on
+pub laid_first : (at : ℕ) (row old : List (List ℕ)) → 0 < length row → at + length row ≤ length old → set old at (get_or row 0 []) ≡ laid at 1 row old
+laid_first at row old h room =
+    let here : at ≡ at + 0 = omega arith in
+    ap (λ (j : ℕ). set old j (get_or row 0 [])) here ∙ ap (λ (ws : List (List ℕ)). set ws (at + 0) (get_or row 0 [])) (laid_none at row old) ∙ laid_more at 0 row old h room
+
+pub laid_next : (at i : ℕ) (row old ws : List (List ℕ)) → ws ≡ laid at i row old → i < length row → at + length row ≤ length old → set ws (at + i) (get_or row i []) ≡ laid at (i + 1) row old
+laid_next at i row old ws is h room = ap (λ (vs : List (List ℕ)). set vs (at + i) (get_or row i [])) is ∙ laid_more at i row old h room
+
 pub laid_all : (at i : ℕ) (row old : List (List ℕ)) → i ≡ length row → laid at i row old ≡ take at old ++ (row ++ drop (at + length row) old)
 laid_all at i row old e = ap (λ (n : ℕ). laid at n row old) e ∙ ap (λ (ws : List (List ℕ)). take at old ++ (ws ++ drop (at + length row) old)) (take-length row)

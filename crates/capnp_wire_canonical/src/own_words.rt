@@ -191,7 +191,7 @@ fn row_of<'a, A: ReaderArena>(arena: &A, bytes: &'a [u8], start: Place, count: u
 }
 
 /// As many words, or fewer, are copied faster one by one than all at once.
-const FEW_WORDS: usize = 8;
+const FEW_WORDS: usize = 6;
 
 /// Puts words over those from a place on.
 #[inline(always)]
@@ -203,9 +203,30 @@ fn lay(into: &mut [Word], at: usize, row: &[Word])
         into[at..at + row.len()].copy_from_slice(row);
         return;
     }
-    for i in 0..row.len() {
-        into[at + i] = row[i];
+    if row.len() == 0 {
+        return;
     }
+    into[at] = row[0];
+    if row.len() == 1 {
+        return;
+    }
+    into[at + 1] = row[1];
+    if row.len() == 2 {
+        return;
+    }
+    into[at + 2] = row[2];
+    if row.len() == 3 {
+        return;
+    }
+    into[at + 3] = row[3];
+    if row.len() == 4 {
+        return;
+    }
+    into[at + 4] = row[4];
+    if row.len() == 5 {
+        return;
+    }
+    into[at + 5] = row[5];
 }
 
 /// Copies n words over those from a place on.
