@@ -190,6 +190,16 @@ fn row_of<'a, A: ReaderArena>(arena: &A, bytes: &'a [u8], start: Place, count: u
     &words[start.position..start.position + count]
 }
 
+/// Puts words over those from a place on, out of line: so the few that `lay` puts itself stay free
+/// of what a call keeps.
+#[inline(never)]
+fn lay_many(into: &mut [Word], at: usize, row: &[Word])
+    requires { at + length row.now ≤ length into.old }
+    ensures { into.new ≡ take at into.old ++ (row.now ++ drop (at + length row.now) into.old) }
+{
+    into[at..at + row.len()].copy_from_slice(row);
+}
+
 /// As many words, or fewer, are copied faster one by one than all at once.
 const FEW_WORDS: usize = 6;
 
@@ -200,7 +210,7 @@ fn lay(into: &mut [Word], at: usize, row: &[Word])
     ensures { into.new ≡ take at into.old ++ (row.now ++ drop (at + length row.now) into.old) }
 {
     if row.len() > FEW_WORDS {
-        into[at..at + row.len()].copy_from_slice(row);
+        lay_many(into, at, row);
         return;
     }
     if row.len() == 0 {
