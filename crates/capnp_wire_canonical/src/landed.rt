@@ -1,5 +1,5 @@
 //! Following pointers to what is neither a near struct nor a near list of plain elements: other near
-//! lists, and objects behind a landing pad of one word.
+//! lists, and objects that a landing pad of one word leads to.
 ghost use Rattle.std.specs.Prelude.{◌≡◌, ◌<◌, None, IfSome, Ok};
 ghost use Rattle.std.specs.Option.{OnSome};
 ghost use Rattle.capnp_units.specs.Segments.{words_in};
@@ -30,7 +30,7 @@ fn pad_at<A: ReaderArena>(arena: &A, bytes: &[u8], place: Place) -> Option<Place
     short_pad(word)
 }
 
-/// The list behind a pad that the pointer at a place leads to. `near_list_in` tells it at the pad,
+/// The list that the pointer at a place leads to over a pad. `near_list_in` finds it at the pad,
 /// in the segment of these bytes. The pointer is counted as followed, and the words of the pad and
 /// of the list are granted.
 ///
@@ -57,7 +57,7 @@ fn follow_landed_list<A: ReaderArena>(
     Some(list)
 }
 
-/// The struct behind a pad that the pointer at a place leads to, as `follow_landed_list` tells a
+/// The struct that the pointer at a place leads to over a pad, as `follow_landed_list` finds a
 /// list.
 #[inline(always)]
 fn follow_landed_struct<A: ReaderArena>(
@@ -81,8 +81,8 @@ fn follow_landed_struct<A: ReaderArena>(
     Some(near)
 }
 
-/// The list of structs behind a pad that the pointer at a place leads to, as `follow_landed_list`
-/// tells a list.
+/// The list of structs that the pointer at a place leads to over a pad, as `follow_landed_list`
+/// finds a list.
 #[inline(always)]
 fn follow_landed_structs<A: ReaderArena>(
     arena: &A,
@@ -158,7 +158,7 @@ fn follow_landed<A: ReaderArena>(
 /// The object that the pointer at a place leads to, on a walk of at most n levels, where it is
 /// - null;
 /// - a list of structs or of pointers in the same segment, without a landing pad;
-/// - one that `follow_landed` tells.
+/// - one that `follow_landed` finds.
 ///
 /// The pointer is counted as followed, and its pad and the object's own words are granted. The
 /// pointer's segment is the one of these bytes.

@@ -27,7 +27,7 @@ use capnp_wire_objects::lists::NearList;
 use capnp_wire_objects::object::Object;
 use capnp_wire_objects::place::{Place, segment_bytes};
 
-/// Writes the pointer at a place to what it leads to, which goes behind the words that are used. It
+/// Writes the pointer at a place to what it leads to, which goes after the words that are used. It
 /// returns where that ends.
 #[cycle(write)]
 #[inline(always)]
@@ -63,7 +63,8 @@ pub(crate) fn write_at<A: ReaderArena>(
     write_other(arena, bytes, limiter, place, levels, into, at, used)
 }
 
-/// As `write_at`, of pointers to what `follow_near_list` and `follow_near_struct` don't tell.
+/// Does the work of `write_at` for objects that `follow_near_list` and `follow_near_struct` don't
+/// find.
 #[cycle(write)]
 #[inline(never)]
 fn write_other<A: ReaderArena>(
@@ -88,7 +89,7 @@ fn write_other<A: ReaderArena>(
     write_any(arena, limiter, place, levels, into, at, used)
 }
 
-/// As `write_at`, of whatever the pointer leads to, a near list or struct too.
+/// Does the work of `write_at` for any object, a near list or struct too.
 #[cycle(write)]
 fn write_any<A: ReaderArena>(
     arena: &A,
@@ -112,7 +113,7 @@ fn write_any<A: ReaderArena>(
     write_object(arena, limiter, object, levels - 1, into, at, used)
 }
 
-/// Writes the pointer to an object, and the object with what is below it behind the words in use.
+/// Writes the pointer to an object, and the object with what is below it after the words in use.
 #[cycle(write)]
 #[inline(always)]
 fn write_object<A: ReaderArena>(
@@ -175,7 +176,7 @@ fn write_object<A: ReaderArena>(
     }
 }
 
-/// Writes the pointer to a struct, and the struct with what is below it behind the words in use.
+/// Writes the pointer to a struct, and the struct with what is below it after the words in use.
 #[cycle(write)]
 fn write_struct<A: ReaderArena>(
     arena: &A,
@@ -205,7 +206,7 @@ fn write_struct<A: ReaderArena>(
     write_element(arena, bytes, limiter, start, cut, levels, into, used, end)
 }
 
-/// Writes the pointer to a list of structs, and it with what is below it behind the words in use.
+/// Writes the pointer to a list of structs, and it with what is below it after the words in use.
 #[cycle(write)]
 fn write_structs<A: ReaderArena>(
     arena: &A,
@@ -257,7 +258,7 @@ fn write_structs<A: ReaderArena>(
     )
 }
 
-/// Writes the pointers in a row from a place on, and what they lead to behind the words in use.
+/// Writes the pointers in a row from a place on, and what they lead to after the words in use.
 #[cycle(write)]
 #[inline(always)]
 fn write_row<A: ReaderArena>(
@@ -300,7 +301,7 @@ fn write_row<A: ReaderArena>(
 }
 
 /// Writes what is kept of a struct's own words over those from a place on, and what its pointers
-/// lead to behind the words that are used.
+/// lead to after the words that are used.
 #[cycle(write)]
 #[inline(always)]
 fn write_element<A: ReaderArena>(
@@ -344,7 +345,7 @@ fn write_element<A: ReaderArena>(
 }
 
 /// Writes the elements of a list of structs over the words from a place on, and what their pointers
-/// lead to behind the words that are used. Elements without words take no step.
+/// lead to after the words that are used. Elements without words take no step.
 #[cycle(write)]
 fn write_elements<A: ReaderArena>(
     arena: &A,
