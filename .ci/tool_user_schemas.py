@@ -6,6 +6,7 @@ Each case is a command, what it has to print on standard output and on standard 
 `capnp decode --short` and `capnp convert binary:json --short` print of them, apart from the differences that docs/TOOL.md lists. The files are copied to a folder of their own, where further ones are written. A case that differs is shown, and the status is 1.
 """
 import gzip
+import json
 import pathlib
 import shlex
 import shutil
@@ -74,6 +75,29 @@ CASES = (
     ("compatible schemas_store.request schemas_store_text.request --root Holder", 'not compatible: Holder: field "b" has another interface in the newer schema', "", NO),
     ("schema schemas_store.request > store.json", "", "", 0),
     ("compatible schemas_store_sub.request store.json --root Holder", COMPATIBLE, "", 0),
+    # Without a root each struct is compared that both schemas have, by its id or else by its name.
+    ("compatible older.json newer.json --root A", COMPATIBLE, "", 0),
+    ("compatible older.json newer.json", 'not compatible: B: field "x" has another type in the newer schema', "", NO),
+    (
+        "compatible older.json newer.json --all",
+        'not compatible: B: field "x" has another type in the newer schema\nnot compatible: C: field "x" lies elsewhere in the newer schema',
+        "",
+        NO,
+    ),
+    (
+        "compatible newer.json older.json --all",
+        'not compatible: B: field "x" has another type in the newer schema\nnot compatible: C: the data section has fewer words in the newer schema',
+        "left out: D (the newer schema has no struct of its id or name)",
+        NO,
+    ),
+    ("compatible older.json lone.json", "", "left out: A (the newer schema has no struct of its id or name)\nleft out: B (the newer schema has no struct of its id or name)\nleft out: C (the newer schema has no struct of its id or name)\nhagzimot: lone.json: the two schemas have no struct in common (are they versions of one schema?)", FAULT),
+    ("compatible schemas_map_text.request schemas_map_text.request", COMPATIBLE, "", 0),
+    (
+        "compatible schemas_map_text.request schemas_map_list.request",
+        'not compatible: M(Text, Text).E (in the newer schema M(Text, List(UInt64)).E): field "v" has another type in the newer schema',
+        "",
+        NO,
+    ),
     # Untyped pointers of each kind.
     ("check schemas_caps.request", "schemas_caps.request: 1 nodes keep all rules", "", 0),
     ("show --schema schemas_caps.request schemas_caps.bin", '(name = "x")', "", 0),
@@ -97,12 +121,27 @@ CASES = (
 )
 
 
+def struct(number, name, kind, offset, words):
+    """The node record of a struct with one field x."""
+    return {"id": number, "name": name, "data": words, "pointers": 0, "fields": [{"name": "x", "type": kind, "offset": offset}]}
+
+
+# Versions of a schema: x of B gets another type, x of C another place, and C another id; D is new.
+VERSIONS = {
+    "older.json": [struct(1, "A", "UInt64", 0, 1), struct(2, "B", "UInt64", 0, 1), struct(3, "C", "UInt64", 0, 1)],
+    "newer.json": [struct(1, "A", "UInt64", 0, 1), struct(2, "B", "Int64", 0, 1), struct(7, "C", "UInt64", 1, 2), struct(8, "D", "UInt64", 0, 1)],
+    "lone.json": [struct(8, "D", "UInt64", 0, 1)],
+}
+
+
 def lay_files(folder):
     """Copies the data to a folder, with the files that no data holds."""
     for path in (*DATA.iterdir(), *(DATA / "user").iterdir()):
         if path.is_file():
             shutil.copy(path, folder)
     (folder / "empty").write_bytes(b"")
+    for name, nodes in VERSIONS.items():
+        (folder / name).write_text(json.dumps(nodes))
     (folder / "shop.gz").write_bytes(gzip.compress((DATA / "shop.request").read_bytes(), mtime=0))
     (folder / "orders.text").write_text("(number = 1, status = new)\n")
 

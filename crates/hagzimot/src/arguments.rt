@@ -161,6 +161,16 @@ pub fn root<'a>(alloc: Global) -> Arg<'a> {
         )
 }
 
+/// The struct that is compared in two schemas.
+pub fn compared_root<'a>(alloc: Global) -> Arg<'a> {
+    Arg::new(alloc, "root")
+        .long("root")
+        .value_name("NAME|ID")
+        .help(
+            "The struct that is compared, with all that it leads to; each struct that both schemas have if it is left out",
+        )
+}
+
 /// An argument that is a file.
 pub fn file<'a>(alloc: Global, id: &'a str, value_name: &'a str, help: &'a str) -> Arg<'a> {
     Arg::new(alloc, id)

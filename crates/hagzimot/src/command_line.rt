@@ -1,9 +1,9 @@
 //! The words that the command takes.
 
 use crate::arguments::{
-    SCHEMA_HELP, allow_refused_calls, call, file, files, floats_as_bits, form, limit_of_words, log,
-    nesting, no_sync, number, on_refused, output, refused, renames, root, schema, stats, strict,
-    style,
+    SCHEMA_HELP, allow_refused_calls, call, compared_root, file, files, floats_as_bits, form,
+    limit_of_words, log, nesting, no_sync, number, on_refused, output, refused, renames, root,
+    schema, stats, strict, style,
 };
 use crate::options::{Options, Taken};
 use crate::proof_statement::VERSION;
@@ -54,6 +54,29 @@ fn slice<'a, 'w>(alloc: Global, taken: Taken<'w>) -> Result<Options<'a, 'w>, All
     .arg(form(alloc, "out", "The form of the output"))?
     .arg(limit_of_words(alloc))?
     .arg(output(alloc))?
+    .arg(no_sync(alloc))?
+    .arg(files(alloc))
+}
+
+fn split<'a, 'w>(alloc: Global, taken: Taken<'w>) -> Result<Options<'a, 'w>, AllocError> {
+    Options::new(
+        alloc,
+        taken,
+        "split",
+        "Writes the messages of the inputs to files of so many each, each with the same segments",
+    )
+    .arg(number(alloc, "every", "How many messages a file has").required(true))?
+    .arg(
+        Arg::new(alloc, "output")
+            .short('o')
+            .long("output")
+            .value_name("PATTERN")
+            .required(true)
+            .help("The names of the files, as part-%04d.bin; no file may be there"),
+    )?
+    .arg(form(alloc, "in", "The form of the input"))?
+    .arg(form(alloc, "out", "The form of the output"))?
+    .arg(limit_of_words(alloc))?
     .arg(no_sync(alloc))?
     .arg(files(alloc))
 }
@@ -157,7 +180,7 @@ fn compatible<'a, 'w>(alloc: Global, taken: Taken<'w>) -> Result<Options<'a, 'w>
     .arg(file(alloc, "older", "OLD", "The older schema"))?
     .arg(file(alloc, "newer", "NEW", "The newer schema"))?
     .arg(floats_as_bits(alloc))?
-    .arg(root(alloc))?
+    .arg(compared_root(alloc))?
     .arg(
         Arg::new(alloc, "all")
             .long("all")
@@ -319,6 +342,7 @@ fn subcommand<'a>(
         "convert" => convert(alloc, taken)?,
         "count" => count(alloc, taken)?,
         "slice" => slice(alloc, taken)?,
+        "split" => split(alloc, taken)?,
         "version" => version(alloc, taken)?,
         _ => return Ok(None),
     };
@@ -326,7 +350,7 @@ fn subcommand<'a>(
 }
 
 /// The names of the subcommands.
-static SUBCOMMANDS: [&str; 10] = [
+static SUBCOMMANDS: [&str; 11] = [
     "show",
     "relay",
     "check",
@@ -336,6 +360,7 @@ static SUBCOMMANDS: [&str; 10] = [
     "convert",
     "count",
     "slice",
+    "split",
     "version",
 ];
 

@@ -6,6 +6,8 @@ ghost use Rattle.capnp_stream_io.specs.Counting.{Rose};
 ghost use Rattle.capnp_relay_program.specs.Flushing.{HoldsNothing};
 ghost use Rattle.capnp_units.specs.declared.kinds.ErrorKind.{ErrorKind};
 
+mod lines;
+
 use crate::faults::Failure;
 use crate::files::{Input, OutSink, Output, open_sink};
 pub use crate::log_words::{Lines, Refusals};
@@ -23,8 +25,7 @@ use capnp_stream_io::traits::Write;
 use capnp_units::errors::Error;
 use capnp_units::kinds::ErrorKind;
 use hagzimot_commands::float_replies::FloatReplies;
-use hagzimot_outcomes::log_lines::{json_line, text_line};
-use hagzimot_outcomes::outcomes::{CallOutcome, Outcome};
+use hagzimot_outcomes::outcomes::Outcome;
 use std::alloc::{AllocError, Global};
 use std::marker::PhantomData;
 use std::rc::Rc;
@@ -45,6 +46,8 @@ pub struct Log {
     floats: Option<FloatReplies>,
     stats: Option<Stats>,
     allows_refused_calls: bool,
+    /// The name of that input.
+    name: String,
     /// How many messages of the input had a line.
     number: u64,
     /// Whether the last line was that of a message that is refused.
@@ -70,6 +73,7 @@ impl Log {
             floats: None,
             stats: None,
             allows_refused_calls: false,
+            name: String::new(alloc),
             number: 0,
             at_refusal: false,
             has_refusals: false,
@@ -78,8 +82,9 @@ impl Log {
         })
     }
 
-    /// Begins with another input, and returns its tape.
-    pub fn begin_input(&mut self) -> Result<Rc<Tape>, Failure> {
+    /// Begins with the input of this name, and returns its tape.
+    pub fn begin_input(&mut self, name: &str) -> Result<Rc<Tape>, Failure> {
+        self.name = String::from_str(self.alloc, name)?;
         if let Some(stats) = &mut self.stats {
             stats.pass_over(self.tape.start());
         }
@@ -164,35 +169,6 @@ impl Log {
         if let Some(stats) = &mut self.stats {
             stats.count(outcome);
         }
-    }
-
-    /// Puts decimal numbers for the bits of floats into the replies of calls.
-    fn put_floats(&self, calls: &mut [CallOutcome]) -> Result<(), AllocError> {
-        let Some(floats) = &self.floats else {
-            return Ok(());
-        };
-        for (number, call) in calls.iter_mut().enumerate() {
-            let told = match call {
-                CallOutcome::Text(bytes) => match str::from_utf8(bytes) {
-                    Ok(text) => floats.reply(self.alloc, number, text)?,
-                    Err(_) => continue,
-                },
-                _ => continue,
-            };
-            *call = CallOutcome::Text(told.into_bytes());
-        }
-        Ok(())
-    }
-
-    /// The line of a message, in the form that is asked for.
-    fn line(&self, mut outcome: Outcome) -> Result<Vec<u8>, AllocError> {
-        if let Outcome::Written(calls) = &mut outcome {
-            self.put_floats(calls)?;
-        }
-        if self.lines == Lines::Json {
-            return json_line(self.alloc, self.number, self.tape.start(), &outcome);
-        }
-        text_line(self.alloc, self.number, &outcome)
     }
 
     /// Writes the line of a message, in the form that is asked for.
@@ -317,8 +293,8 @@ impl RunLog for Log {
         Ok(log)
     }
 
-    fn begin(&mut self) -> Result<Rc<Tape>, Failure> {
-        self.begin_input()
+    fn begin(&mut self, name: &str) -> Result<Rc<Tape>, Failure> {
+        self.begin_input(name)
     }
 
     fn turn_and_flush<F: BoundedForm>(

@@ -74,6 +74,13 @@ pub struct Watch {
     pub unedited: Rc<Cell<Option<Reason>>>,
     /// How many calls were refused, if nothing else is noted.
     pub refused_calls: Rc<Cell<u64>>,
+    /// Whether it is explained why a message has no answer.
+    pub explains: bool,
+    /// Why the message that was answered last has no answer, with the path to the first fault.
+    pub why: Rc<Cell<Option<String>>>,
+    /// Whether that is noted.
+    // Measured: looking at the text itself costs a small message more.
+    pub has_why: Rc<Cell<bool>>,
     /// Whether messages without an answer are passed on.
     pub passes: bool,
     /// Whether a message with a refused call has no answer.
@@ -87,6 +94,9 @@ impl Watch {
             noted: Rc::new(alloc, Cell::new(None))?,
             unedited: Rc::new(alloc, Cell::new(None))?,
             refused_calls: Rc::new(alloc, Cell::new(0))?,
+            explains: false,
+            why: Rc::new(alloc, Cell::new(None))?,
+            has_why: Rc::new(alloc, Cell::new(false))?,
             passes: false,
             is_strict: false,
         })
@@ -98,9 +108,23 @@ impl Watch {
             noted: Rc::clone(&self.noted)?,
             unedited: Rc::clone(&self.unedited)?,
             refused_calls: Rc::clone(&self.refused_calls)?,
+            explains: self.explains,
+            why: Rc::clone(&self.why)?,
+            has_why: Rc::clone(&self.has_why)?,
             passes: self.passes,
             is_strict: self.is_strict,
         })
+    }
+
+    /// Takes why the message that was answered last has no answer; `None` if it has one, or no
+    /// reason was found.
+    #[inline(always)]
+    pub fn take_why(&self) -> Option<String> {
+        if !self.has_why.get() {
+            return None;
+        }
+        self.has_why.set(false);
+        self.why.take()
     }
 
     /// Takes what is noted of the message that was answered last; `None` if nothing is.

@@ -16,8 +16,11 @@ mod files;
 mod hints;
 mod log;
 mod log_words;
+mod message_notes;
 mod options;
 mod outputs;
+mod pairs;
+mod part_names;
 mod passes;
 mod pieces;
 mod plain_log;
@@ -29,8 +32,10 @@ mod relay_task;
 mod reports;
 mod run_log;
 mod shows;
+mod split;
 mod stats;
 mod tape;
+mod tasks;
 mod versions;
 mod words;
 
@@ -49,6 +54,7 @@ fn run_subcommand(rt: &HostRuntime, matches: &ArgMatches<'_>) -> Result<u8, Fail
         Some(("canonical", words)) => passes::canonical(rt, words),
         Some(("count", words)) => pieces::count(rt, words),
         Some(("slice", words)) => pieces::slice(rt, words),
+        Some(("split", words)) => split::split(rt, words),
         Some(("relay", words)) => passes::relay(rt, words),
         Some(("show", words)) => shows::show(rt, words),
         Some(("check", words)) => reports::check(rt, words),

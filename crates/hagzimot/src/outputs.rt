@@ -160,6 +160,16 @@ impl<'a> Named<'a> {
     }
 }
 
+/// Opens an output under a name that nothing has: a draft, which gets the name once it is written.
+pub fn open_new(rt: &HostRuntime, name: &str, sync: bool) -> Result<Rc<OutFile>, Failure> {
+    let named = Named::new(rt, "-o", name)?;
+    if matches!(named.place, Some(Place::Free { .. })) {
+        return named.open(rt, sync);
+    }
+    let why = "it is there already (remove it, or name other files)";
+    Err(Failure::output_words(rt.alloc(), "-o", name, &why))
+}
+
 /// The outputs of a run: of messages, and of those that are refused, as they came.
 #[derive(Drop)]
 pub struct Outputs {

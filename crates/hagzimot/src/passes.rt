@@ -2,25 +2,23 @@
 
 use crate::faults::Failure;
 use crate::files::{Input, OutSink};
-use crate::log::{Log, TurnAndFlush};
+use crate::log::Log;
 use crate::log_words::{Lines, LogWords, OnRefused, Watch};
 use crate::outputs::Outputs;
 use crate::plain_log::PlainLog;
-use crate::relay_task::{RelayTask, Seen, watch_all};
+use crate::relay_task::RelayTask;
 use crate::run_log::{LogEnd, RunLog};
 use crate::tape::Tape;
+use crate::tasks::{CanonicalTask, Conversion, PlainRelay, Task, WatchedRelay};
 use crate::{files, words};
-use capnp_relay_answers::bounds::Bounds;
 use capnp_relay_loop::ends::{Counts, Fault};
-use capnp_relay_program::ahead::BoundedForm;
 use capnp_relay_streams::between::BetweenFault;
 use capnp_relay_streams::options::Form;
-use capnp_stream::forms::{Framed, MessageForm};
+use capnp_stream::forms::Framed;
 use capnp_stream_io::adapters::Source;
 use capnp_stream_packed::form::Packed;
 use clap::ArgMatches;
-use hagzimot_commands::canonical::{Canonical, canonicalize_all};
-use hagzimot_commands::convert::convert_all;
+use hagzimot_commands::canonical::Canonical;
 use std::alloc::Global;
 
 /// The status where all was done and written.
@@ -28,116 +26,6 @@ const DONE: u8 = 0;
 
 /// The status if messages were skipped or passed on unedited, or calls were refused.
 const SKIPPED: u8 = 3;
-
-/// What is done with each message of an input.
-trait Task {
-    /// Passes the messages of a source on, from one form to another.
-    fn run_in<I: BoundedForm, O: MessageForm, L: RunLog>(
-        &self,
-        alloc: Global,
-        source: &mut Source<Input>,
-        out: &mut OutSink,
-        log: &mut L,
-    ) -> Result<Counts, BetweenFault>;
-}
-
-/// Each message is written in another form.
-#[derive(Drop)]
-struct Conversion {
-    words: u32,
-}
-
-impl Task for Conversion {
-    fn run_in<I: BoundedForm, O: MessageForm, L: RunLog>(
-        &self,
-        alloc: Global,
-        source: &mut Source<Input>,
-        out: &mut OutSink,
-        log: &mut L,
-    ) -> Result<Counts, BetweenFault> {
-        let words = self.words as usize;
-        let end = convert_all::<I, O, Source<Input>, OutSink, L, TurnAndFlush<I>>(
-            alloc, source, out, log, words,
-        );
-        end.map_err(BetweenFault::Relay)
-    }
-}
-
-/// Each message is written in canonical form, and what becomes of it is noted.
-#[derive(Drop)]
-struct CanonicalTask {
-    limits: Canonical,
-    watch: Watch,
-}
-
-impl Task for CanonicalTask {
-    fn run_in<I: BoundedForm, O: MessageForm, L: RunLog>(
-        &self,
-        alloc: Global,
-        source: &mut Source<Input>,
-        out: &mut OutSink,
-        log: &mut L,
-    ) -> Result<Counts, BetweenFault> {
-        let limits = self.limits;
-        if self.watch.passes {
-            let bounds = Bounds {
-                words: limits.words,
-                nesting: limits.nesting,
-            };
-            let seen = Seen {
-                watch: &self.watch,
-                bounds,
-                skips: None,
-            };
-            return watch_all::<I, O, L, Canonical>(alloc, source, out, log, &limits, seen);
-        }
-        let noted = &*self.watch.noted;
-        let end = canonicalize_all::<I, O, Source<Input>, OutSink, L, TurnAndFlush<I>>(
-            alloc, source, out, log, limits, noted,
-        );
-        end.map_err(BetweenFault::Relay)
-    }
-}
-
-/// A relay whose calls that are refused are counted.
-#[derive(Drop)]
-struct PlainRelay<'a> {
-    task: &'a RelayTask,
-    watch: Watch,
-}
-
-impl Task for PlainRelay<'_> {
-    fn run_in<I: BoundedForm, O: MessageForm, L: RunLog>(
-        &self,
-        alloc: Global,
-        source: &mut Source<Input>,
-        out: &mut OutSink,
-        log: &mut L,
-    ) -> Result<Counts, BetweenFault> {
-        self.task
-            .run::<I, O, L>(alloc, source, out, log, &self.watch)
-    }
-}
-
-/// A relay of which it is noted what becomes of each message.
-#[derive(Drop)]
-struct WatchedRelay<'a> {
-    task: &'a RelayTask,
-    watch: Watch,
-}
-
-impl Task for WatchedRelay<'_> {
-    fn run_in<I: BoundedForm, O: MessageForm, L: RunLog>(
-        &self,
-        alloc: Global,
-        source: &mut Source<Input>,
-        out: &mut OutSink,
-        log: &mut L,
-    ) -> Result<Counts, BetweenFault> {
-        self.task
-            .run_watched::<I, O, L>(alloc, source, out, log, &self.watch)
-    }
-}
 
 /// Passes the messages of a source on in these forms.
 fn run<T: Task, L: RunLog>(
@@ -220,7 +108,7 @@ fn pass_one<T: Task, L: RunLog>(
     log: &mut L,
 ) -> Result<Ended, Failure> {
     let alloc = rt.alloc();
-    let tape = log.begin()?;
+    let tape = log.begin(name)?;
     let mut source = files::open_source(rt, name, &tape)?;
     let end = run::<T, L>(task, alloc, forms, &mut source, out, log);
     let flushed = out.flush();
@@ -342,6 +230,7 @@ fn shared_watch(
     let mut watch = Watch::new(rt.alloc())?;
     watch.passes = asked.on_refused == OnRefused::Pass;
     watch.is_strict = words::has_flag(matches, "strict");
+    watch.explains = asked.lines != Lines::None;
     asked.watch = Some(watch.share()?);
     Ok(watch)
 }

@@ -1,10 +1,13 @@
 //! The log that writes each line as it is.
+ghost use Rattle.std.specs.Prelude.{◌≡◌};
 ghost use Rattle.std.specs.Io.Buffered.{writer_buffer};
-ghost use Rattle.capnp_stream_io.specs.Adapters.{sink_inner, sink_failures};
+ghost use Rattle.capnp_stream_io.specs.Adapters.{sink_inner};
+ghost use Rattle.capnp_stream_io.specs.Counting.{Rose};
+ghost use Rattle.capnp_units.specs.declared.kinds.ErrorKind.{ErrorKind};
 
 use crate::faults::Failure;
 use crate::files::{Input, OutSink, Output, open_sink};
-use crate::log_words::LogWords;
+use crate::log_words::{LogWords, Watch};
 use crate::run_log::{LogEnd, RunLog};
 use crate::tape::Tape;
 use capnp_relay_loop::ends::Fault;
@@ -14,8 +17,9 @@ use capnp_relay_program::sources::flush_before_wait;
 use capnp_stream_io::adapters::Source;
 use capnp_stream_io::traits::Write;
 use capnp_units::errors::Error;
+use capnp_units::kinds::ErrorKind;
+use hagzimot_show::explain::{MessageOrigin, message_line};
 use std::alloc::Global;
-use std::cell::Cell;
 use std::rc::Rc;
 
 /// A log on standard error of each line as it is, by which nothing else is done.
@@ -26,21 +30,70 @@ pub struct PlainLog {
     inner: OutSink,
     /// The tape of the input that is read.
     tape: Rc<Tape>,
-    /// How many calls were refused.
-    refused_calls: Rc<Cell<u64>>,
+    /// The name of that input.
+    name: String,
+    /// How many messages of it had a line.
+    number: u64,
+    watch: Watch,
     allows_refused_calls: bool,
+    failures: u64,
+}
+
+impl PlainLog {
+    /// Counts a failure.
+    #[inline(never)]
+    fn failure(&mut self) -> Error
+        ensures kind { result.kind ≡ ErrorKind.Device }
+        ensures count { Rose self.old.failures self.new.failures }
+    {
+        self.failures = self.failures.saturating_add(1);
+        Error::from(ErrorKind::Device)
+    }
+
+    /// Writes a line, and after it why its message has no answer, if that is noted.
+    #[inline(always)]
+    fn put(&mut self, line: &[u8]) -> Result<(), Error>
+        ensures { self.new.failures ≡ self.old.failures }
+    {
+        self.number = self.number.wrapping_add(1);
+        self.inner.write_all(line)?;
+        match self.watch.take_why() {
+            Some(why) => self.put_why(why.as_str()),
+            None => Ok(()),
+        }
+    }
+
+    /// Writes why the message that was answered last has no answer.
+    #[inline(never)]
+    fn put_why(&mut self, why: &str) -> Result<(), Error>
+        ensures { self.new.failures ≡ self.old.failures }
+    {
+        let origin = MessageOrigin {
+            file: self.name.as_str(),
+            number: self.number,
+            byte: self.tape.start(),
+        };
+        let Ok(line) = message_line(self.alloc, origin, "refused", why) else {
+            return Ok(());
+        };
+        self.inner.write_all(line.as_bytes())?;
+        self.inner.write_all(b"\n")
+    }
 }
 
 impl Write for PlainLog {
-    ghost failures = { λ l. sink_failures l.inner };
+    ghost failures = { λ l. l.failures };
 
     #[inline(always)]
     fn write_all(&mut self, buf: &[u8]) -> Result<(), Error> {
-        self.inner.write_all(buf)
+        match self.put(buf) {
+            Ok(()) => Ok(()),
+            Err(_) => Err(self.failure()),
+        }
     }
 
     fn failures(&self) -> u64 {
-        self.inner.failures()
+        self.failures
     }
 }
 
@@ -48,27 +101,45 @@ impl Flush for PlainLog {
     ghost held = { λ l. writer_buffer (sink_inner l.inner) };
 
     fn flush(&mut self) -> Result<(), Error> {
-        self.inner.flush()
+        match self.inner.flush() {
+            Ok(()) => Ok(()),
+            Err(_) => Err(self.failure()),
+        }
     }
 }
 
 impl RunLog for PlainLog {
     fn open(rt: &HostRuntime, words: LogWords<'_>) -> Result<PlainLog, Failure> {
         let alloc = rt.alloc();
-        let refused_calls = match &words.watch {
-            Some(watch) => Rc::clone(&watch.refused_calls)?,
-            None => Rc::new(alloc, Cell::new(0))?,
+        let LogWords {
+            lines: _lines,
+            on_refused: _on_refused,
+            refused: _name,
+            refused_out: _refused_out,
+            stats: _stats,
+            allows_refused_calls,
+            watch,
+            floats: _floats,
+        } = words;
+        let watch = match watch {
+            Some(watch) => watch,
+            None => Watch::new(alloc)?,
         };
         Ok(PlainLog {
             alloc,
             inner: open_sink(alloc, Output::Error(rt.stderr()))?,
             tape: Rc::new(alloc, Tape::new(alloc, false))?,
-            refused_calls,
-            allows_refused_calls: words.allows_refused_calls,
+            name: String::new(alloc),
+            number: 0,
+            watch,
+            allows_refused_calls,
+            failures: 0,
         })
     }
 
-    fn begin(&mut self) -> Result<Rc<Tape>, Failure> {
+    fn begin(&mut self, name: &str) -> Result<Rc<Tape>, Failure> {
+        self.name = String::from_str(self.alloc, name)?;
+        self.number = 0;
         self.tape = Rc::new(self.alloc, Tape::new(self.alloc, false))?;
         Ok(Rc::clone(&self.tape)?)
     }
@@ -94,7 +165,7 @@ impl RunLog for PlainLog {
     }
 
     fn has_refusals(&self) -> bool {
-        !self.allows_refused_calls && self.refused_calls.get() > 0
+        !self.allows_refused_calls && self.watch.refused_calls.get() > 0
     }
 
     fn sum_up(&mut self) {}

@@ -1,10 +1,12 @@
 //! What `hagzimot relay` is asked to do.
 ghost use Rattle.std.specs.Prelude.{◌≡◌, length, replicate, IfOk};
+ghost use Rattle.capnp_calls.specs.Roots.{IsRoot};
 
 use crate::faults::Failure;
 use crate::files::{Input, OutSink};
 use crate::log::TurnAndFlush;
 use crate::log_words::{Lines, Watch};
+use crate::message_notes::MessageNotes;
 use crate::relay_calls::{AllCalls, all_calls, named_calls};
 use crate::relay_checks::{Versions, check_names};
 use crate::relay_plan::Plan;
@@ -16,9 +18,8 @@ use capnp_relay_answers::root_calls::RootCalls;
 use capnp_relay_files::calls_file::CallsFile;
 use capnp_relay_loop::answers::Answers;
 use capnp_relay_loop::ends::Counts;
-use capnp_relay_loop::run::answer_all;
 use capnp_relay_program::ahead::BoundedForm;
-use capnp_relay_streams::at_root::{CallsAtRoot, PlainCallsAtRoot};
+use capnp_relay_streams::at_root::CallsAtRoot;
 use capnp_relay_streams::between::BetweenFault;
 use capnp_relay_streams::options::{Form, ReaderOptions, RelayOptions};
 use capnp_stream::forms::MessageForm;
@@ -26,9 +27,9 @@ use capnp_stream_io::adapters::Source;
 use clap::ArgMatches;
 use hagzimot_clears::active::ActiveClears;
 use hagzimot_commands::float_replies::FloatReplies;
-use hagzimot_commands::passing::pass_on_all;
 use hagzimot_outcomes::skips::Skips;
-use hagzimot_outcomes::watched::{Counted, Watched};
+use hagzimot_runs::asked::Asked;
+use hagzimot_runs::run::{answer_watched, relay_counted, relay_watched};
 use hagzimot_schemas::schemas::RootedSchema;
 use std::alloc::Global;
 use std::cell::Cell;
@@ -121,6 +122,15 @@ impl RelayTask {
         })
     }
 
+    /// The notes of messages on a watch.
+    fn notes<'a>(&'a self, watch: &'a Watch) -> MessageNotes<'a> {
+        MessageNotes {
+            watch,
+            root: Some(self.schema.root()),
+            bounds: self.bounds,
+        }
+    }
+
     /// Whether each call runs at every message.
     pub fn runs_all(&self) -> bool {
         self.plan.is_none()
@@ -154,6 +164,18 @@ impl RelayTask {
         Ok(floats)
     }
 
+    /// What is done with each message.
+    fn asked(&self) -> Asked<'_>
+        ensures { IsRoot result.root }
+    {
+        Asked {
+            root: self.schema.root(),
+            calls: &self.calls,
+            bounds: self.bounds,
+            is_plain: self.is_plain,
+        }
+    }
+
     /// Relays the messages of a source from one form to another, and counts calls that are refused.
     pub fn run<I: BoundedForm, O: MessageForm, L: RunLog>(
         &self,
@@ -163,18 +185,28 @@ impl RelayTask {
         log: &mut L,
         watch: &Watch,
     ) -> Result<Counts, BetweenFault> {
-        let bounds = self.bounds;
-        let Ok(calls) = RootCalls::new(alloc, self.schema.root(), &self.calls) else {
-            return Err(BetweenFault::Memory);
-        };
-        if self.is_plain {
-            let answers = PlainCallsAtRoot { calls, bounds };
-            return count_all::<I, O, L, PlainCallsAtRoot<'_>>(
-                alloc, source, out, log, &answers, bounds, watch,
-            );
-        }
-        let answers = CallsAtRoot { calls, bounds };
-        count_all::<I, O, L, CallsAtRoot<'_>>(alloc, source, out, log, &answers, bounds, watch)
+        let mut region = region(alloc, REGION_LEN)?;
+        let notes = self.notes(watch);
+        let refused = &*watch.refused_calls;
+        let end = relay_counted::<
+            I,
+            O,
+            Source<Input>,
+            OutSink,
+            L,
+            TurnAndFlush<I>,
+            MessageNotes<'_>,
+        >(
+            alloc,
+            source,
+            out,
+            log,
+            self.asked(),
+            refused,
+            &notes,
+            &mut region,
+        );
+        end.map_err(BetweenFault::Relay)
     }
 
     /// As `run`, and notes what becomes of each message.
@@ -189,23 +221,26 @@ impl RelayTask {
         if let Some(plan) = &self.plan {
             return self.run_planned::<I, O, L>(alloc, source, out, log, watch, plan);
         }
-        let bounds = self.bounds;
-        let Ok(calls) = RootCalls::new(alloc, self.schema.root(), &self.calls) else {
-            return Err(BetweenFault::Memory);
-        };
-        let seen = Seen {
-            watch,
-            bounds,
-            skips: None,
-        };
-        if self.is_plain {
-            let answers = PlainCallsAtRoot { calls, bounds };
-            return watch_all::<I, O, L, PlainCallsAtRoot<'_>>(
-                alloc, source, out, log, &answers, seen,
-            );
-        }
-        let answers = CallsAtRoot { calls, bounds };
-        watch_all::<I, O, L, CallsAtRoot<'_>>(alloc, source, out, log, &answers, seen)
+        let mut region = region(alloc, REGION_LEN)?;
+        let notes = self.notes(watch);
+        let end = relay_watched::<
+            I,
+            O,
+            Source<Input>,
+            OutSink,
+            L,
+            TurnAndFlush<I>,
+            MessageNotes<'_>,
+        >(
+            alloc,
+            source,
+            out,
+            log,
+            self.asked(),
+            notes.watching(None),
+            &mut region,
+        );
+        end.map_err(BetweenFault::Relay)
     }
 
     /// As `run_watched`, where some calls run only where a member is active.
@@ -236,22 +271,17 @@ impl RelayTask {
             probes: &plan.numbers,
             inactive: &inactive,
         };
-        let seen = Seen {
-            watch,
-            bounds,
-            skips: Some(skips),
-        };
-        watch_all::<I, O, L, ActiveClears<'_, '_>>(alloc, source, out, log, &answers, seen)
+        let notes = self.notes(watch);
+        watch_all::<I, O, L, ActiveClears<'_, '_>>(
+            alloc,
+            source,
+            out,
+            log,
+            &answers,
+            notes,
+            Some(skips),
+        )
     }
-}
-
-/// How messages are followed, and what is noted of them.
-#[derive(Clone, Copy)]
-pub struct Seen<'a, 'p, 'i> {
-    pub watch: &'a Watch,
-    pub bounds: Bounds,
-    /// Which calls the answers leave out, if they leave some out.
-    pub skips: Option<Skips<'p, 'i>>,
 }
 
 /// Returns `len` zeros, in which messages are edited.
@@ -264,74 +294,37 @@ fn region(alloc: Global, len: usize) -> Result<Vec<u8>, BetweenFault>
     }
 }
 
-/// Answers the messages of a source, and counts calls that are refused.
-fn count_all<I: BoundedForm, O: MessageForm, L: RunLog, A: Answers>(
-    alloc: Global,
-    source: &mut Source<Input>,
-    out: &mut OutSink,
-    log: &mut L,
-    answers: &A,
-    bounds: Bounds,
-    watch: &Watch,
-) -> Result<Counts, BetweenFault> {
-    let mut region = region(alloc, REGION_LEN)?;
-    let counted = Counted {
-        answers,
-        refused: &*watch.refused_calls,
-    };
-    let end = answer_all::<I, O, Source<Input>, OutSink, L, Counted<'_, '_, A>, TurnAndFlush<I>>(
-        alloc,
-        source,
-        out,
-        log,
-        &counted,
-        bounds.words as usize,
-        &mut region,
-    );
-    end.map_err(BetweenFault::Relay)
-}
-
-/// Answers the messages of a source, and notes what becomes of each. One that would be skipped is
-/// passed on, if that is asked for.
+/// Answers the messages of a source, and notes what becomes of each. The skips are the calls that
+/// the answers leave out, if they leave some out.
 pub fn watch_all<I: BoundedForm, O: MessageForm, L: RunLog, A: Answers>(
     alloc: Global,
     source: &mut Source<Input>,
     out: &mut OutSink,
     log: &mut L,
     answers: &A,
-    seen: Seen<'_, '_, '_>,
+    notes: MessageNotes<'_>,
+    skips: Option<Skips<'_, '_>>,
 ) -> Result<Counts, BetweenFault> {
     let mut region = region(alloc, REGION_LEN)?;
-    let watch = seen.watch;
-    let limit = seen.bounds.words as usize;
-    let watched = Watched {
+    let limit = notes.bounds.words as usize;
+    let end = answer_watched::<
+        I,
+        O,
+        Source<Input>,
+        OutSink,
+        L,
+        TurnAndFlush<I>,
+        A,
+        MessageNotes<'_>,
+    >(
+        alloc,
+        source,
+        out,
+        log,
         answers,
-        noted: &*watch.noted,
-        is_strict: watch.is_strict,
-        skips: seen.skips,
-    };
-    let end = if watch.passes {
-        let noted = &*watch.unedited;
-        pass_on_all::<I, O, Source<Input>, OutSink, L, Watched<'_, '_, '_, '_, A>, TurnAndFlush<I>>(
-            alloc,
-            source,
-            out,
-            log,
-            &watched,
-            noted,
-            limit,
-            &mut region,
-        )
-    } else {
-        answer_all::<I, O, Source<Input>, OutSink, L, Watched<'_, '_, '_, '_, A>, TurnAndFlush<I>>(
-            alloc,
-            source,
-            out,
-            log,
-            &watched,
-            limit,
-            &mut region,
-        )
-    };
+        limit,
+        notes.watching(skips),
+        &mut region,
+    );
     end.map_err(BetweenFault::Relay)
 }

@@ -31,8 +31,8 @@ pub trait RunLog: Flush + Drop {
     /// The log on standard error.
     fn open(rt: &HostRuntime, words: LogWords<'_>) -> Result<Self, Failure>;
 
-    /// Begins with another input, and returns its tape.
-    fn begin(&mut self) -> Result<Rc<Tape>, Failure>;
+    /// Begins with the input of this name, and returns its tape.
+    fn begin(&mut self, name: &str) -> Result<Rc<Tape>, Failure>;
 
     /// Sees to the message that was read last, before the next one, and flushes both sinks where
     /// the source may wait. `Out`, `Log`: the sink's device failed. `Log` too: the run has to end,

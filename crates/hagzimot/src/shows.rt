@@ -101,7 +101,7 @@ impl Showing<'_> {
         log: &mut Log,
     ) -> Result<ShownCounts, Failure> {
         let alloc = rt.alloc();
-        let tape = log.begin_input()?;
+        let tape = log.begin_input(name)?;
         let mut source = open_source(rt, name, &tape)?;
         let beginning = beginning_of(&mut source);
         let input = NamedInput { name, tape };

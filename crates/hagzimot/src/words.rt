@@ -146,7 +146,7 @@ pub fn schema_failure(alloc: Global, name: &str, why: &SchemaTrouble) -> Failure
 }
 
 /// The word that names the root, if there is one.
-fn root_word<'a>(words: &ArgMatches<'a>) -> Option<&'a str> {
+pub fn root_word<'a>(words: &ArgMatches<'a>) -> Option<&'a str> {
     words.get_str("root")
 }
 
