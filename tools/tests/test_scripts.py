@@ -16,6 +16,7 @@ from contextlib import redirect_stdout
 TOP = os.path.dirname(os.path.dirname(os.path.dirname(os.path.realpath(__file__))))
 sys.dont_write_bytecode = True
 sys.path.insert(0, f"{TOP}/tools")
+import check
 import command_help
 import completions
 import man_pages
@@ -232,6 +233,53 @@ class Stages(unittest.TestCase):
     def test_status_77_is_skipped(self):
         outcome = stages.outcome_of(stages.Stage("s", stages.command("sh", "-c", "echo no tmux; exit 77")))
         self.assertEqual((outcome.status, outcome.line()), (stages.SKIPPED, "no tmux"))
+
+
+class Fake:
+    """A crate with the crates that it uses."""
+
+    def __init__(self, name, *deps):
+        self.name, self.deps = name, deps
+
+    def below(self):
+        found = {it.name: it for dep in self.deps for it in [*dep.below(), dep]}
+        return list(found.values())
+
+
+class Order(unittest.TestCase):
+    """The order in which crates are built."""
+
+    def setUp(self):
+        self.low = Fake("low")
+        self.left, self.right = Fake("left", self.low), Fake("right", self.low)
+        self.top = Fake("top", self.left, self.right)
+        self.lone = Fake("lone")
+        self.all = [self.lone, self.top, self.right, self.left, self.low]
+
+    def built(self, broken=()):
+        order = []
+
+        def build(crate):
+            order.append(crate.name)
+            return crate.name in broken
+
+        return check.in_order(self.all, 1, build), order
+
+    def test_crates_come_after_those_below_them(self):
+        failed, order = self.built()
+        self.assertEqual(([], "low"), (failed, order[0]))
+        self.assertEqual(sorted(it.name for it in self.all), sorted(order))
+        self.assertGreater(order.index("top"), max(order.index("left"), order.index("right")))
+
+    def test_longest_chain_comes_first(self):
+        self.assertEqual({"low": 3, "left": 2, "right": 2, "top": 1, "lone": 1}, check.chains(self.all))
+        self.assertNotEqual("lone", self.built()[1][0])
+
+    def test_crates_above_a_failed_one_are_not_built(self):
+        failed, order = self.built(broken=("left",))
+        self.assertEqual(["left", "top"], sorted(failed))
+        self.assertNotIn("top", order)
+        self.assertIn("lone", order)
 
 
 class Files(unittest.TestCase):
