@@ -63,7 +63,7 @@ fn split<'a, 'w>(alloc: Global, taken: Taken<'w>) -> Result<Options<'a, 'w>, All
         alloc,
         taken,
         "split",
-        "Writes the messages of the inputs to files of so many each, each with the same segments",
+        "Writes the messages of the inputs to files of N messages each, with the same segments",
     )
     .arg(number(alloc, "every", "How many messages a file has").required(true))?
     .arg(
