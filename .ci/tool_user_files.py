@@ -201,6 +201,13 @@ def closed_pipe(f):
     return all(end == (141, "") for end in ends) and f.bytes("said") == b"", (ends, f.bytes("said"))
 
 
+def full_log(f):
+    """A log that can't be written ends the run with a fault, and the output isn't made."""
+    end = f.run("hagzimot relay --schema shop.request --root Order --set paid=true -o made.bin orders.bin 2> /dev/full")
+    made = f.run("ls made.bin")
+    return end == (4, "") and made[0] == 2, (end, made)
+
+
 def full_disk(f):
     wanted = "hagzimot: -: can't write: No space left on device (os error 28)\n"
     ends = [
@@ -240,7 +247,7 @@ def long_name(f):
     return end == (0, "") and f.bytes(name) == ORDERS, end
 
 
-CASES = (device, fifo, substitution, link, dangling, loop, in_place, folder, missing_folder, no_name, standard, redirected, descriptor, part_of_output, part_as_input, one_file, read_by_redirection, devices_twice, closed_pipe, full_disk, folder_as_input, fault_of_input, read_only_folder, long_name)
+CASES = (device, fifo, substitution, link, dangling, loop, in_place, folder, missing_folder, no_name, standard, redirected, descriptor, part_of_output, part_as_input, one_file, read_by_redirection, devices_twice, closed_pipe, full_log, full_disk, folder_as_input, fault_of_input, read_only_folder, long_name)
 
 
 def main():

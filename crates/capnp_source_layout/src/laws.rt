@@ -8,7 +8,8 @@ ghost use Rattle.capnp_source_layout.specs.declared.sections.DataSize.{DataSize}
 /// A place that is handed out was free once more than it is then, and all others are as free as
 /// before.
 pub fn takes_what_was_free()
-    ensures { (size words : ℕ) (holes : List (Option ℕ)) (bit : ℕ) → size ≤ length holes → free words holes bit
+    ensures { (size words : ℕ) (holes : List (Option ℕ)) (bit : ℕ) → size ≤ length holes
+        → free words holes bit
         ≡ (if (bit / 2 ^ size) == (place size words holes).offset then 1 else 0)
         + free (place size words holes).words (place size words holes).holes bit }
 {}

@@ -11,7 +11,7 @@ use std::{fmt, io};
 pub const WRONG_WORDS: u8 = 2;
 
 /// The status at a fault.
-const FAULT: u8 = 4;
+pub const FAULT: u8 = 4;
 
 /// The status if whoever reads the output has closed the pipe: that of a program which the signal
 /// of a closed pipe ended.

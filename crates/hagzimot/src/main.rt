@@ -40,7 +40,7 @@ mod versions;
 mod words;
 
 use crate::command_line::command_line;
-use crate::faults::{CLOSED_PIPE, Failure, WRONG_WORDS};
+use crate::faults::{CLOSED_PIPE, FAULT, Failure, WRONG_WORDS};
 use crate::options::Taken;
 use clap::{ArgMatches, Error};
 use std::alloc::Global;
@@ -112,7 +112,7 @@ fn main(rt: HostRuntime) -> ExitCode {
         Err(e) => {
             // Where standard error is closed there is nowhere to say so.
             let _said = eprintln!(rt; "hagzimot: {e}");
-            ExitCode::FAILURE
+            ExitCode::from(FAULT)
         }
     }
 }

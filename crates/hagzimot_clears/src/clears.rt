@@ -19,7 +19,8 @@ use std::alloc::{AllocError, Global};
 
 /// Whether the call of a number, counted from 0, met an inactive member, or there is no reply to it.
 fn is_inactive(answer: &MessageAnswer, number: usize) -> bool
-    ensures { (words : List (List ℕ)) → result ≡ is_inactive_at (answer_view words answer.now) number }
+    ensures { (words : List (List ℕ))
+        → result ≡ is_inactive_at (answer_view words answer.now) number }
 {
     let replies = match answer {
         MessageAnswer::Written { count: _, replies } => replies,
@@ -39,7 +40,8 @@ fn is_inactive(answer: &MessageAnswer, number: usize) -> bool
 
 /// Whether a call runs, where the probes were answered so.
 fn runs(probed: &MessageAnswer, call: &PlannedCall) -> bool
-    ensures { (words : List (List ℕ)) → result ≡ runs_after (answer_view words probed.now) call.now }
+    ensures { (words : List (List ℕ))
+        → result ≡ runs_after (answer_view words probed.now) call.now }
 {
     match call.probe {
         Some(number) => !is_inactive(probed, number),
