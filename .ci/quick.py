@@ -20,7 +20,7 @@ sys.dont_write_bytecode = True
 import style
 
 # The most wrong bodies in the repository, and in a crate.
-MOST_EDITS = 130
+MOST_EDITS = 90
 MOST_EDITS_OF_A_CRATE = 8
 # The folders of a crate that hold its text, and the most lines of a file of code.
 PARTS = ("src", "specs", "proofs")
@@ -204,7 +204,7 @@ def faults_of_samples():
         return [it.strip() for it in text.split("\n") if it.strip()]
 
     programs = ["\n".join(lines(text_of(it))) for it in glob.glob("crates/*/src/main.rt")]
-    for page in ("README.md", "docs/GUIDE.md"):
+    for page in ("README.md", "docs/library.md"):
         for sample in re.findall(r"(?s)```rust\n(.*?)```", text_of(page)):
             text = lines(sample)
             if not any("\n".join(text) in it for it in programs):
@@ -212,17 +212,17 @@ def faults_of_samples():
 
 
 def faults_of_named_tests():
-    """Lines of docs/TESTS.md that name a case or a wrong body which is not there."""
-    for line in text_of("docs/TESTS.md").splitlines():
+    """Lines of docs/verification/tests.md that name a case or a wrong body which is not there."""
+    for line in text_of("docs/verification/tests.md").splitlines():
         cells = [it.strip() for it in line.strip("| \n").split(" | ")]
         names = re.findall(r"`([^`]+)`", cells[-2] if len(cells) == 2 else cells[-1])
         if len(cells) == 3 and "/data/" in cells[1]:
             path = f"crates/{cells[1].strip('`')}"
             text = text_of(path) if os.path.isfile(path) else ""
-            yield from (f"docs/TESTS.md: {path} has no line {it}" for it in names if it not in text)
+            yield from (f"docs/verification/tests.md: {path} has no line {it}" for it in names if it not in text)
         elif len(cells) == 2 and os.path.isdir(f"crates/{cells[1].strip('`')}/must-fail"):
             edits = os.listdir(f"crates/{cells[1].strip('`')}/must-fail")
-            yield from (f"docs/TESTS.md: {cells[1]} has no edit {it}" for it in names if f"{it}.edit" not in edits)
+            yield from (f"docs/verification/tests.md: {cells[1]} has no edit {it}" for it in names if f"{it}.edit" not in edits)
 
 
 def faults_of_counts(crates):

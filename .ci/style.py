@@ -3,7 +3,7 @@
 
 usage: style.py [FILE..]    (at the top of the repository)
 
-Reads README.md, CONTRIBUTING.md, docs/*.md, the README.md of each crate, and the doc comments of each .rt file. Code
+Reads README.md, CONTRIBUTING.md, the pages below docs/, the README.md of each crate, and the doc comments of each .rt file. Code
 between ``` marks, indented code and `code` in a line are not read. A file that style_allowed.txt lists may have faults; a
 listed file without faults is itself a fault, so the list only shrinks. With files, prints the faults of these, listed or
 not. Prints a line for each fault, and ends with status 1 if there is one.
@@ -15,7 +15,7 @@ import re
 import sys
 
 ALLOWED = ".ci/style_allowed.txt"
-PAGES = ("README.md", "CONTRIBUTING.md", "docs/*.md", "crates/*/README.md")
+PAGES = ("README.md", "CONTRIBUTING.md", "docs/**/*.md", "crates/*/README.md")
 SOURCES = "crates/*/src/**/*.rt"
 # The most words of a sentence.
 MOST_WORDS = 45

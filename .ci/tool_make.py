@@ -3,7 +3,7 @@
     python3 .ci/tool_make.py [PROGRAM]
 
 Each line of crates/hagzimot/data/peers/make.jsonl is a case: a schema with generic types, groups, unions, enums, floats and nested scopes, as the compiler's request, the whole name of a root, a canonical message, and the text and the JSON that the C++ tool
-made of it. The text of `show` and its JSON are compared with these as .ci/tool_peers.py compares them: by what they mean. A case that differs is shown, and the status is 1. Nothing is written below the repository.
+made of it. Line by line, crates/hagzimot/data/peers/made.txt has the canonical message, as a frame in hex digits, that `capnp convert json:canonical` makes of that JSON; `-` if the tool fails at its own JSON. `hagzimot make` has to write the same bytes, and of a case at which the tool fails the message of the case. The text of `show` and its JSON are compared with these as .ci/tool_peers.py compares them: by what they mean. A case that differs is shown, and the status is 1. Nothing is written below the repository.
 """
 import json
 import pathlib
@@ -14,6 +14,7 @@ import tempfile
 import tool_peers
 
 CASES = tool_peers.DATA / "make.jsonl"
+MADE = tool_peers.DATA / "made.txt"
 
 
 def printed(program, folder, root, words):
@@ -37,21 +38,36 @@ def is_same(program, folder, case, words, wanted, read):
     return False
 
 
+def is_made(program, folder, case, made):
+    """Whether `make` writes the message that the C++ tool makes of the JSON; one that differs is shown."""
+    command = [program, "make", "--schema", folder / "case.request", "--root", case["root"]]
+    run = subprocess.run(command, input=case["told"].encode(), capture_output=True, timeout=120, check=False)
+    wanted = bytes.fromhex(case["framed"] if made == "-" else made)
+    if run.returncode == 0 and run.stdout == wanted:
+        return True
+    print(f"make: status {run.returncode} {run.stderr.decode()}root {case['root']}\n{case['told']}\n{run.stdout.hex()}\nand not\n{wanted.hex()}\n")
+    return False
+
+
 def main():
     program = pathlib.Path(sys.argv[1]).resolve() if len(sys.argv) > 1 else tool_peers.PROGRAM
     if not program.exists():
         raise SystemExit(f"{program} is not built")
     cases = [json.loads(line) for line in CASES.read_text().splitlines()]
+    made = MADE.read_text().split()
+    if len(made) != len(cases):
+        raise SystemExit(f"{MADE} has {len(made)} lines for {len(cases)} cases")
     differing = 0
     with tempfile.TemporaryDirectory() as folder:
         folder = pathlib.Path(folder)
-        for case in cases:
+        for case, message in zip(cases, made):
             (folder / "case.request").write_bytes(bytes.fromhex(case["request"]))
             (folder / "case.framed").write_bytes(bytes.fromhex(case["framed"]))
             in_text = is_same(program, folder, case, (), case["text"], tool_peers.values_in_text)
             in_json = is_same(program, folder, case, ("--json",), case["told"], tool_peers.values_in_json)
-            differing += not (in_text and in_json)
-    print(f"random schemas: {len(cases)} cases, {differing} differ")
+            from_json = is_made(program, folder, case, message)
+            differing += not (in_text and in_json and from_json)
+    print(f"random schemas: {len(cases)} cases shown and made, {differing} differ")
     return 1 if differing or not cases else 0
 
 

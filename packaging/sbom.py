@@ -7,11 +7,11 @@ import unproved
 SPACE = uuid.UUID("6f8a2a4e-6f0f-4d7e-9f38-0d0c5a3a9b60")
 
 
-def libraries():
-    """The toolchain's libraries that the programs are made of, by their names."""
+def libraries(has_library):
+    """The crates that the programs and the library for C are made of, and the toolchain's libraries below them."""
     listed = unproved.crates_listed()
-    programs = ("hagzimot", "capnp_relay_cli")
-    crates = {it for name in programs for it in [name, *unproved.crates_below(name, listed)]}
+    tops = [it for it in ("hagzimot", "capnp_relay_cli", *["hagzimot_c"] * has_library) if it in listed]
+    crates = {it for name in tops for it in [name, *unproved.crates_below(name, listed)]}
     return crates, sorted({"std", *(it for name in crates for it in listed[name] if it not in listed)})
 
 
@@ -20,10 +20,10 @@ def component(kind, name, version, purl=None, **more):
     return {**found, "purl": purl} if purl else found
 
 
-def bill(statement, programs, made):
-    """The bill of a build, of its statement, of the sums of its programs and of when its commit was made."""
+def bill(statement, programs, made, has_library=False):
+    """The bill of a build, by its statement, the sums of its programs and the time of its commit."""
     version, kit = statement["version"], statement["toolchain"]
-    crates, names = libraries()
+    crates, names = libraries(has_library)
     own = component("application", "hagzimot", version, licenses=[{"license": {"id": "MIT"}}])
     own["hashes"] = [{"alg": "SHA-256", "content": programs["hagzimot"]}]
     said = {"commit": statement["commit"], "proved": statement["proved"], "logic": statement["logic"], "axioms": statement.get("axioms"), "handles": statement.get("handles")}

@@ -11,7 +11,7 @@ ENTRY = re.compile(r"^ {2,8}(?P<words>\S.*?)(?: {2,}(?P<text>\S.*))?$")
 CHOICES = re.compile(r"\[possible values: ([^\]]*)\]")
 DEFAULT = re.compile(r"\[default: ([^\]]*)\]")
 KNOWN = ("Usage", "Arguments", "Options", "Commands")
-# What the help says of a value that is a file.
+# How the help describes a value that is a file.
 FILES = ("FILE", "SCHEMA", "OLD", "NEW", "DIR", "OUT", "INPUT", "OUTPUT", "PART")
 
 
@@ -40,7 +40,7 @@ class Option:
 
     @property
     def plain_text(self):
-        """What the help says, without what it says of choices and default."""
+        """The text of the help, without its choices and its default."""
         return DEFAULT.sub("", CHOICES.sub("", self.text)).strip()
 
     @property
@@ -121,7 +121,7 @@ def command_of(name, text):
 
 
 def help_text(program, words):
-    """What the program prints for its help."""
+    """The help that the program prints."""
     run = subprocess.run([program, *words, "--help"], capture_output=True, text=True, timeout=60, check=False)
     if run.returncode or not run.stdout:
         raise Unreadable(f"{program} {' '.join(words)} --help: status {run.returncode}: {run.stderr.strip()}")

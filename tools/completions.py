@@ -1,10 +1,10 @@
 #!/usr/bin/env python3
-"""Writes completions for bash, zsh and fish from what the built command says of itself.
+"""Writes completions for bash, zsh and fish from the help of the built command.
 
 usage: tools/completions.py PROGRAM FOLDER
 
-FOLDER gets hagzimot.bash, _hagzimot (zsh) and hagzimot.fish. They complete the commands, their options, the words that an
-option takes where the help lists them, and names of files.
+FOLDER gets hagzimot.bash, _hagzimot (zsh) and hagzimot.fish. They complete the commands, their options, the values of an
+option if the help lists them, and names of files.
 """
 import os
 import sys
@@ -18,7 +18,7 @@ _hagzimot_options() {{
     esac
 }}
 
-# What may follow an option: words, the name of a file (-f), anything (-) or, where it takes nothing, no line.
+# The values of an option: words, the name of a file (-f) or anything (-). An option without a value has no line.
 _hagzimot_values() {{
     case "$1" in
 {values}
@@ -100,7 +100,7 @@ def flags_of(options):
 
 
 def bash_values(option):
-    """What bash offers after an option."""
+    """The values that bash offers after an option."""
     if option.choices:
         return " ".join(option.choices)
     return "-f" if option.is_file else "-"
@@ -126,7 +126,7 @@ def zsh_text(text):
 
 
 def zsh_action(option):
-    """What zsh offers for a value."""
+    """The values that zsh offers."""
     name = zsh_text(option.value.strip("<>[].") or "value")
     if option.choices:
         return f":{name}:({' '.join(option.choices)})"

@@ -1,5 +1,5 @@
 #!/usr/bin/env python3
-"""Writes the pages of the manual from what the built command says of itself.
+"""Writes the pages of the manual from the help of the built command.
 
 usage: tools/man_pages.py PROGRAM FOLDER [DATE]
 
@@ -23,13 +23,13 @@ def quoted(text):
 
 
 def commit_date():
-    """The date of the last commit; where there is none, that of the release."""
+    """The date of the last commit, or that of the release if there is no commit."""
     run = subprocess.run(["git", "log", "-1", "--format=%cs"], cwd=TOP, capture_output=True, text=True, check=False)
     return run.stdout.strip() or "2026-11-30"
 
 
 def head(name, date, version, about):
-    # A line of an index: what stands before the first semicolon.
+    # A line of an index: the text before the first semicolon.
     first = f"{about[:1].lower()}{about[1:]}".partition(";")[0]
     return [f'.TH {name.upper()} 1 "{date}" "Hagzimot {version}" "User Commands"', ".SH NAME", f"{quoted(name)} \\- {quoted(first)}"]
 
@@ -60,7 +60,7 @@ def listed(title, options):
 
 
 def status_lines(after):
-    """What the help says after its options: the statuses first, each on a line of its own."""
+    """The text of the help after its options: the statuses first, each on a line of its own."""
     lines = [it.strip() for it in after.split("\n") if it.strip()]
     if not lines:
         return []

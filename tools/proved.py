@@ -8,7 +8,7 @@ import time
 import unproved
 
 TOP = unproved.TOP
-# What a crate is thought to cost that has no stored cost, in seconds of processor time.
+# The assumed cost of a crate without a stored cost, in seconds of processor time.
 USUAL_COST = 120
 LINE = "out/last_line"
 
@@ -20,7 +20,7 @@ def costs():
 
 
 def order(programs, listed):
-    """The crates to prove, each after those that it uses, without one that stands twice."""
+    """The crates to prove, each once and after those that it uses."""
     return list(dict.fromkeys(it for name in programs for it in [*unproved.crates_below(name, listed), name]))
 
 
@@ -35,7 +35,7 @@ def expected(left, done, took, stored):
 
 
 def last_line(crate, said):
-    """The last line of a crate's check; where nothing has changed since an earlier one, that of then."""
+    """The last line of a crate's check, or of the earlier check if nothing has changed since."""
     path = f"{TOP}/crates/{crate}/{LINE}"
     found = [it for it in said.splitlines() if it.startswith("logic=")]
     if found:
@@ -49,7 +49,7 @@ def last_line(crate, said):
 
 
 def prove(crate, is_program):
-    """Proves a crate, and builds it; returns the last line of its check, or nothing where rt kept it without that line."""
+    """Proves a crate, and builds it; returns the last line of its check, or None if rt kept it without that line."""
     words = ["rt", "run", "--", "--version"] if is_program else ["rt", "lib"]
     how = {"stdin": subprocess.DEVNULL, "stdout": subprocess.PIPE, "stderr": subprocess.STDOUT, "errors": "replace"}
     run = subprocess.run(words, cwd=f"{TOP}/crates/{crate}", check=False, **how)

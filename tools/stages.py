@@ -1,4 +1,4 @@
-"""Runs stages, tells how each ended, and sums them up: a table, a file for tools that read JUnit's XML, and a last line."""
+"""Runs stages, reports how each ended, and sums them up: a table, a file for tools that read JUnit's XML, and a last line."""
 import dataclasses
 import os
 import subprocess
@@ -33,7 +33,7 @@ class Outcome:
     said: str
 
     def line(self):
-        """What a passed stage said last, or why it didn't pass."""
+        """The last line of a passed stage, or why the stage didn't pass."""
         lines = [it for it in self.said.strip().splitlines() if it.strip()]
         if not lines:
             return ""
@@ -50,7 +50,7 @@ class Stage:
 
 
 def command(*words, **how):
-    """A stage that is a command: it passes where the status is 0, and is skipped where it is 77."""
+    """A stage that is a command: it passes if the status is 0, and is skipped if the status is 77."""
 
     def run():
         done = subprocess.run(words, stdin=subprocess.DEVNULL, stdout=subprocess.PIPE, stderr=subprocess.STDOUT, text=True, errors="replace", check=False, **how)
@@ -82,8 +82,8 @@ class Runner:
         self.stages, self.lanes, self.outcomes = stages, lanes, {}
         self.printing, self.began = threading.Lock(), time.monotonic()
 
-    def tell(self, outcome):
-        """Prints how a stage ended, and what it said where it failed."""
+    def report(self, outcome):
+        """Prints how a stage ended, and its output if it failed."""
         with self.printing:
             self.outcomes[outcome.name] = outcome
             count = f"[{len(self.outcomes)}/{len(self.stages)}]"
@@ -92,7 +92,7 @@ class Runner:
                 print(outcome.said[-SHOWN:], flush=True)
 
     def work(self, stage):
-        self.tell(outcome_of(stage))
+        self.report(outcome_of(stage))
 
     def ready(self, stage):
         return all(it in self.outcomes for it in stage.after)
@@ -108,7 +108,7 @@ class Runner:
                         continue
                     left.remove(stage)
                     if lacking:
-                        self.tell(Outcome(stage.name, NOT_RUN, 0, f"{lacking[0]} didn't pass"))
+                        self.report(Outcome(stage.name, NOT_RUN, 0, f"{lacking[0]} didn't pass"))
                     else:
                         running[stage.name] = pool.submit(self.work, stage)
                 time.sleep(0.05)
@@ -145,7 +145,7 @@ def sum_up(outcomes, name, path):
     count = lambda *statuses: sum(it.status in statuses for it in outcomes)
     print("\n" + "\n".join(table(outcomes)))
     if count(SKIPPED):
-        print(f"{count(SKIPPED)} skipped: what they want isn't installed here")
+        print(f"{count(SKIPPED)} skipped: a program that they need isn't installed")
     failed = count(FAILED, NOT_RUN)
     print(f"{count(PASSED)} passed, {failed} failed", flush=True)
     return 1 if failed or not count(PASSED) else 0

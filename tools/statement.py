@@ -1,4 +1,4 @@
-"""Writes hagzimot.proof.json, which says what was proved of a build, and by what."""
+"""Writes hagzimot.proof.json, which says what was proved of a build, and with which tools."""
 import hashlib
 import json
 import os
@@ -26,7 +26,7 @@ def version():
 
 
 def commit():
-    """The commit that is built, with a word where files were changed since; nothing outside a clone."""
+    """The commit that is built, with `-dirty` if files have changed since; None outside a clone."""
     words = ["git", "-c", "core.abbrev=40", "describe", "--always", "--dirty", "--exclude=*"]
     run = subprocess.run(words, cwd=TOP, capture_output=True, text=True, check=False)
     return run.stdout.strip() or None
@@ -43,7 +43,7 @@ def sum_of(path):
 
 
 def statement(programs, lines):
-    """What is said of built programs; `lines` has the last line of each crate's check, and is None where nothing was proved."""
+    """The statement on built programs; `lines` has the last line of each crate's check, and is None if nothing was proved."""
     with open(f"{TOP}/HANDLES", encoding="utf-8") as file:
         handles = file.read().strip().removeprefix("Handles allowed: ").removesuffix(".")
     kit, _, logic = unproved.toolchain_id().partition(" logic ")

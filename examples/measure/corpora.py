@@ -1,4 +1,4 @@
-"""Makes the streams of messages that docs/BENCHMARKS.md tells of, the same on every machine.
+"""Makes the streams of messages that docs/performance.md tells of, the same on every machine.
 
 usage: corpora.py FOLDER
 

@@ -1,4 +1,4 @@
-"""Counts the instructions that docs/BENCHMARKS.md tells of the built programs, by valgrind, and prints its tables.
+"""Counts the instructions that docs/performance.md tells of the built programs, by valgrind, and prints its tables.
 
 usage: count.py FOLDER [PEER..]
 

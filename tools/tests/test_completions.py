@@ -2,8 +2,8 @@
 
 usage: tools/tests/test_completions.py PROGRAM
 
-The shells that aren't installed are named, and the status is 77 where none is, or tmux isn't. The words that are wanted
-are those of the program's help.
+Shells that aren't installed are named. The status is 77 if no shell is installed, or if tmux isn't. The expected words are
+those of the program's help.
 """
 import os
 import shutil
@@ -19,14 +19,17 @@ import completions
 
 CANT_RUN = 77
 SECONDS = 90
-# What is typed before the key Tab, and what has to stand on the line then.
+# What is typed before the key Tab, and the line that is expected then.
 TYPED = (
     ("hagzimot rel", "hagzimot relay"),
     ("hagzimot convert --o", "hagzimot convert --out"),
     ("hagzimot relay --floa", "hagzimot relay --floats-as-bits"),
     ("hagzimot relay --log refu", "hagzimot relay --log refused"),
+    ("hagzimot convert --in pa", "hagzimot convert --in packed"),
+    ("hagzimot relay --set a=1 --set b=2 --strict --sta", "hagzimot relay --set a=1 --set b=2 --strict --stats"),
     ("hagzimot show --schema shop_weighed.req", "hagzimot show --schema shop_weighed.request"),
     ("hagzimot show orders.b", "hagzimot show orders.bin"),
+    ("hagzimot relay --schema shop.request --root Order orders.b", "hagzimot relay --schema shop.request --root Order orders.bin"),
 )
 BASHRC = "PS1='> '\nsource {folder}/hagzimot.bash\nbind 'set bell-style none'\n"
 ZSHRC = "PS1='> '\nfpath=({folder} $fpath)\nautoload -Uz compinit\ncompinit -u -D\nunsetopt beep\n"
@@ -52,7 +55,7 @@ def start(shell, folder, room):
 
 
 def waits(socket, wanted):
-    """Whether the last line of the screen is what is wanted, within the limit."""
+    """Waits for a line of the screen; returns None if it comes within the limit, otherwise the screen."""
     end = time.monotonic() + SECONDS
     shown = ""
     while time.monotonic() < end:
@@ -65,7 +68,7 @@ def waits(socket, wanted):
 
 
 def faults_of(shell, folder, bin_folder):
-    """What a shell doesn't complete."""
+    """The lines that a shell doesn't complete."""
     with tempfile.TemporaryDirectory() as room:
         socket, data = f"{room}/tmux", f"{TOP}/crates/hagzimot/data"
         path = f"{bin_folder}:{os.environ['PATH']}"

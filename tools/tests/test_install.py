@@ -2,7 +2,7 @@
 
 usage: tools/tests/test_install.py PROGRAM RELAY
 
-What is wanted of the manual is read from the program's own help, not from the script that makes the pages.
+The options that the manual must have are read from the program's own help, not from the script that makes the pages.
 """
 import hashlib
 import json
@@ -21,14 +21,14 @@ import statement
 FAULTS = []
 
 
-def wants(is_well, what):
+def expect(is_well, what):
     if not is_well:
         FAULTS.append(what)
 
 
 def ran(*words, status=0, **how):
     run = subprocess.run(words, stdin=subprocess.DEVNULL, capture_output=True, text=True, check=False, **how)
-    wants(run.returncode == status, f"{' '.join(words)}: status {run.returncode}, and not {status}: {run.stderr.strip()}")
+    expect(run.returncode == status, f"{' '.join(words)}: status {run.returncode}, and not {status}: {run.stderr.strip()}")
     return run.stdout
 
 
@@ -52,14 +52,14 @@ def make_built(program, relay, room):
 def try_programs(root):
     """The installed programs run, and the command prints its statement."""
     program = f"{root}/bin/hagzimot"
-    wants(ran(program, "--version") == f"hagzimot {statement.version()}\n", "--version isn't the version of the sources")
-    wants(ran(program, "version") == f"hagzimot {statement.version()}\n", "version isn't the version of the sources")
+    expect(ran(program, "--version") == f"hagzimot {statement.version()}\n", "--version isn't the version of the sources")
+    expect(ran(program, "version") == f"hagzimot {statement.version()}\n", "version isn't the version of the sources")
     said = json.loads(ran(program, "version", "--proof") or "{}")
     with open(program, "rb") as file:
-        wants(said.get("programs", {}).get("hagzimot", {}).get("sha256") == hashlib.sha256(file.read()).hexdigest(), "the statement has another sum")
-    wants(said.get("proved") is False and "nothing is promised" in said.get("note", ""), "the statement doesn't say that nothing was proved")
+        expect(said.get("programs", {}).get("hagzimot", {}).get("sha256") == hashlib.sha256(file.read()).hexdigest(), "the statement has another sum")
+    expect(said.get("proved") is False and "nothing is promised" in said.get("note", ""), "the statement doesn't say that nothing was proved")
     relay = subprocess.run([f"{root}/libexec/hagzimot/capnp_relay_cli"], stdin=subprocess.DEVNULL, capture_output=True, check=False)
-    wants((relay.returncode, relay.stderr) == (1, b"fault: arguments\n"), f"the relay program: {relay}")
+    expect((relay.returncode, relay.stderr) == (1, b"fault: arguments\n"), f"the relay program: {relay}")
 
 
 def plain_page(path):
@@ -76,24 +76,24 @@ def try_manual(root):
     program, folder = f"{root}/bin/hagzimot", f"{root}/share/man/man1"
     names = re.findall(r"(?m)^  (\w+)  ", ran(program, "--help").partition("Commands:")[2].partition("Options:")[0])
     names = [it for it in names if it != "help"]
-    wants(sorted(os.listdir(folder)) == sorted(["hagzimot.1", *(f"hagzimot-{it}.1" for it in names)]), f"the manual has other pages than {names}")
+    expect(sorted(os.listdir(folder)) == sorted(["hagzimot.1", *(f"hagzimot-{it}.1" for it in names)]), f"the manual has other pages than {names}")
     count = 0
     for name in names:
         options = re.findall(r"(?m)^ +(?:-\w, )?(--[\w-]+)", ran(program, name, "--help"))
         page = plain_page(f"{folder}/hagzimot-{name}.1")
-        wants(options, f"{name} --help lists no options")
+        expect(options, f"{name} --help lists no options")
         for option in options:
             count += 1
-            wants(re.search(rf"(?<![\w-]){option}(?![\w-])", page), f"the page of {name} lacks {option}")
+            expect(re.search(rf"(?<![\w-]){option}(?![\w-])", page), f"the page of {name} lacks {option}")
     return len(names), count
 
 
 def try_uninstall(root):
-    """What was installed goes, and a stranger's file stays."""
+    """Uninstalling removes the installed files and leaves other files."""
     with open(f"{root}/share/man/man1/other.1", "w", encoding="utf-8") as file:
         file.write("of another program\n")
     install("--uninstall", root)
-    wants(files_below(root) == ["share/man/man1/other.1"], f"uninstall leaves {files_below(root)}")
+    expect(files_below(root) == ["share/man/man1/other.1"], f"uninstall leaves {files_below(root)}")
     install("--uninstall", root, status=1)
 
 
@@ -103,14 +103,14 @@ def main(program, relay):
         install("--built", built, root)
         first = files_below(root)
         install("--built", built, root)
-        wants(files_below(root) == first, "a second installation has other files")
+        expect(files_below(root) == first, "a second installation has other files")
         try_programs(root)
         pages, options = try_manual(root)
         try_uninstall(root)
         install("--built", built, "--destdir", f"{room}/stage", "/usr")
-        wants(files_below(f"{room}/stage/usr") == first, "--destdir gives other files")
+        expect(files_below(f"{room}/stage/usr") == first, "--destdir gives other files")
         install("--uninstall", "--destdir", f"{room}/stage", "/usr")
-        wants(files_below(f"{room}/stage") == [], "--uninstall --destdir leaves files")
+        expect(files_below(f"{room}/stage") == [], "--uninstall --destdir leaves files")
         install("--built", f"{room}/nothing", root, status=1)
     print("\n".join(FAULTS), end="\n" if FAULTS else "")
     print(f"install: {len(first)} files, {pages} commands in the manual with {options} options, {len(FAULTS)} faults")

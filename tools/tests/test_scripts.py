@@ -40,7 +40,7 @@ Options:
 
 Status: 0 done
 """
-# The same in the long form, in which a text stands below its option.
+# The same in the long form, in which a text is below its option.
 LONG = """Writes the same messages; each with its segments
 
 Usage: hagzimot convert [OPTIONS] [FILE]...

@@ -12,3 +12,5 @@ mod GroupFaults
 mod GroupReplies
 mod SlotFaults
 mod Ways
+mod CheckedEnds
+mod Takes

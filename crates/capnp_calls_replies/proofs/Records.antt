@@ -1,13 +1,12 @@
 -- What the fields of a struct that is read have in its record.
-use Rattle.std.proofs.Common.{◌≡◌, ℕ, zero, suc, ◌*◌, ◌==◌, Bool, true, false, if◌then◌else◌, Option, Some, None, option_map, List, length, refl, ap, sym, ◌∙◌, subst, arith}
+use Rattle.std.proofs.Common.{◌≡◌, ℕ, ◌==◌, Bool, true, false, if◌then◌else◌, Some, None, refl, ap, sym, ◌∙◌, subst, arith}
 use Rattle.std.proofs.lemmas.Bool.Decides.{nat_tests}
 use Rattle.capnp_model.specs.Trees.{Trees, child}
-use Rattle.capnp_model.specs.Schemas.{Node, Shape, shape, Fields, no_fields, field, Body, void_slot, plain_slot, pointer_slot, group_slot, Schema}
-use Rattle.capnp_model.specs.Readings.{Reading, inactive, null_pointer, fault, number, text_of, blob_of, list_of, record_as, opaque, Record, no_more, Extent, just_bits, Children, discriminant, is_active, only_if, shape_record, fields_of, body_of, read_child}
+use Rattle.capnp_model.specs.Schemas.{Body, void_slot, plain_slot, pointer_slot, group_slot, Schema}
+use Rattle.capnp_model.specs.Readings.{Reading, inactive, null_pointer, fault, number, text_of, blob_of, list_of, record_as, opaque, Record, no_more, Extent, just_bits, discriminant, is_active, only_if, shape_record, body_of, read_child}
 use Rattle.capnp_model.specs.Printing.{fields_in}
-use Rattle.capnp_model.specs.Accepted.{schema_of}
 use Rattle.capnp_wire.specs.Views.{StructView}
-use Rattle.capnp_values_queries.specs.Fields.{Entry, field_at, union_in}
+use Rattle.capnp_values_queries.specs.Fields.{Entry, union_in}
 use Rattle.capnp_values_queries.specs.Structs.{nodes_around, schema_around, id_of, shape_of_struct, fields_of_struct}
 use Rattle.capnp_values_queries.specs.Handles.{entry_of_field}
 use Rattle.capnp_values_queries.specs.declared.structs.StructSchema.{StructSchema}
@@ -16,7 +15,7 @@ use Rattle.capnp_values.specs.Records.{reading_at_index, is_live}
 use Rattle.capnp_values.specs.Shown.{discriminant_shown, active_index}
 use Rattle.capnp_values_print.proofs.lemmas.Shows.{none_active, value_active}
 use Rattle.capnp_values.specs.Standing.{HasSectionAndChildren, IsRecord, DiscriminantsAreRead}
-use Rattle.capnp_values.proofs.lemmas.RecordReadings.{union_counted, pointer_live, counted, shape_is, field_of_record}
+use Rattle.capnp_values.proofs.lemmas.RecordReadings.{pointer_live, counted, shape_is, field_of_record}
 use Rattle.capnp_model.proofs.lemmas.Paths.{read_child-is, record_is}
 
 -- ---- the discriminant

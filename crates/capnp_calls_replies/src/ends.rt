@@ -80,7 +80,7 @@ fn initn_reply(count: u32, ty: Type, otherwise: ErrorKind) -> Reply
 }
 
 /// Returns the reply to a write of a slot of the type.
-fn slot_reply(action: &Action, ty: Type) -> Reply
+pub(crate) fn slot_reply(action: &Action, ty: Type) -> Reply
     ensures { (s : Schema) → reply_view result
         ≡ content_reply (type_content s (action_view action.now) (ty_of ty)) }
 {
@@ -149,7 +149,7 @@ fn initn_element(count: u32, ty: Type) -> Reply
 }
 
 /// Returns the reply to a write of an element of the type.
-fn element_reply(action: &Action, ty: Type) -> Reply
+pub(crate) fn element_reply(action: &Action, ty: Type) -> Reply
     ensures { (s : Schema) → reply_view result
         ≡ content_reply (element_content s (action_view action.now) (ty_of ty)) }
 {
@@ -162,7 +162,7 @@ fn element_reply(action: &Action, ty: Type) -> Reply
 }
 
 /// Returns whether an action reads.
-fn is_get(action: &Action) -> bool
+pub(crate) fn is_get(action: &Action) -> bool
     ensures { result ≡ is_get (action_view action.now) }
 {
     matches!(action, Action::Get)

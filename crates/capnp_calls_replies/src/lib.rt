@@ -2,9 +2,11 @@
 #![tactic(auto)]
 
 mod active;
+pub mod checks;
 mod ends;
 mod faults;
 mod groups;
+pub mod laws;
 mod messages;
 mod path;
 pub mod root;

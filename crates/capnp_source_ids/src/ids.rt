@@ -1,14 +1,14 @@
-//! Ids that are derived from that of a scope.
+//! Ids that are derived from the id of a scope.
 
 ghost use Rattle.std.specs.Prelude.{◌≡◌};
 ghost use Rattle.capnp_source_ids.specs.Ids.{id_of_digest, child_id, group_id, results_byte, parameters_id};
 
 use md5::{Digest, Md5};
 
-/// The bit that all ids have.
+/// The bit that every id has.
 const TOP: u64 = 1 << 63;
 
-/// The id of a digest: its first eight bytes, the highest first, with the top bit set.
+/// Returns the id of a digest: its first eight bytes, highest first, with the top bit set.
 fn id_of_digest(digest: [u8; 16]) -> u64
     ensures { result ≡ id_of_digest digest }
 {
@@ -16,7 +16,7 @@ fn id_of_digest(digest: [u8; 16]) -> u64
     u64::from_be_bytes([a, b, c, d, e, f, g, h]) | TOP
 }
 
-/// The id of what is declared under a name in a scope.
+/// Returns the id of a declaration, by its scope and its name.
 pub fn child_id(scope: u64, name: &[u8]) -> u64
     ensures { result ≡ child_id scope name.now }
 {
@@ -26,7 +26,7 @@ pub fn child_id(scope: u64, name: &[u8]) -> u64
     id_of_digest(hasher.finalize())
 }
 
-/// The id of a group by its place among the members of a struct, from 0.
+/// Returns the id of a group, by its place among the members of a struct, from 0.
 pub fn group_id(scope: u64, place: u16) -> u64
     ensures { result ≡ group_id scope place }
 {
@@ -36,14 +36,14 @@ pub fn group_id(scope: u64, place: u16) -> u64
     id_of_digest(hasher.finalize())
 }
 
-/// The byte that tells what a method returns from what it takes.
+/// Returns the byte that distinguishes the results of a method from its parameters.
 fn results_byte(are_results: bool) -> u8
     ensures { result ≡ results_byte are_results }
 {
     if are_results { 1 } else { 0 }
 }
 
-/// The id of the struct of what a method of an interface takes, or of what it returns.
+/// Returns the id of the struct of a method's parameters, or of its results.
 pub fn parameters_id(interface: u64, ordinal: u16, are_results: bool) -> u64
     ensures { result ≡ parameters_id interface ordinal are_results }
 {

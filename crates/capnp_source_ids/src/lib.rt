@@ -1,4 +1,4 @@
-//! The ids of what is declared without one.
+//! Ids of declarations that are declared without an id.
 #![tactic(auto)]
 
 pub mod ids;

@@ -1,3 +1,4 @@
 mod Examples
+pub mod Kept
 pub mod Layouts
 pub mod Places

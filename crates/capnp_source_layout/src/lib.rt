@@ -1,6 +1,10 @@
-//! Where the fields of a struct lie in its sections, as the Cap'n Proto compiler lays them out.
+//! The places of fields in the sections of a struct, as the Cap'n Proto compiler lays them out.
 #![tactic(auto)]
 
+pub mod draft;
 pub mod holes;
 pub mod laws;
+pub mod levels;
 pub mod sections;
+pub mod structs;
+pub mod usage;

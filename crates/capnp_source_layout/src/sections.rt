@@ -6,7 +6,7 @@ ghost use Rattle.capnp_source_layout.specs.Sections.{size_of, offsets_of, words_
 use crate::holes::place;
 use std::alloc::{AllocError, AllocFailed, Global};
 
-/// How large the value of a field is that lies in a data section.
+/// The size of a field in a data section.
 #[derive(Clone, Copy, Debug, PartialEq, Eq)]
 pub enum DataSize {
     Bit,
@@ -16,21 +16,21 @@ pub enum DataSize {
     EightBytes,
 }
 
-/// Where fields lie in a data section.
+/// The places of fields in a data section.
 #[derive(Debug, Drop)]
 pub struct DataSection {
-    /// How many words it has.
+    /// The size in words.
     pub words: u64,
     /// The offset of each field, in fields of its size.
     pub offsets: Vec<u64>,
 }
 
-/// Why fields can't be laid out.
+/// A reason why fields can't be laid out.
 #[derive(Clone, Copy, Debug, PartialEq, Eq)]
 pub enum SectionFault {
     /// An offset would pass 2^63.
     TooLarge,
-    /// A growth was refused.
+    /// An allocation was refused.
     Memory,
 }
 
@@ -56,7 +56,7 @@ impl<T: Drop> From<AllocFailed<T>> for SectionFault {
     }
 }
 
-/// The size as a power of two bits.
+/// Returns the exponent of a size, which is a power of two bits.
 pub fn size_of(size: DataSize) -> usize
     ensures { result ≡ size_of size }
 {
@@ -69,10 +69,11 @@ pub fn size_of(size: DataSize) -> usize
     }
 }
 
-/// Lays fields out in a data section of their own, in their order: each takes the first place that
+/// Lays fields out in a data section of their own, in their order. Each takes the first place that
 /// is left, as `holes::place` finds it.
 ///
-/// `TooLarge` where an offset would pass 2^63, which takes more fields than a struct may have.
+/// Returns `TooLarge` if an offset would pass 2^63, which takes more fields than a struct may have,
+/// and `Memory` if an allocation is refused.
 pub fn data_section(alloc: Global, sizes: &[DataSize]) -> Result<DataSection, SectionFault>
     ensures offsets { IfOk result (λ s. s.offsets.items ≡ offsets_of sizes.now) }
     ensures words { IfOk result (λ s. s.words ≡ words_of sizes.now) }

@@ -1,4 +1,4 @@
-//! Types and values as they are written.
+//! Types and values in the form in which they are written.
 
 use crate::cursor::{Cursor, ascii, mistake_at};
 use crate::faults::{SyntaxFault, Wrong};
@@ -6,13 +6,13 @@ use crate::tree::{Argument, Expression, Root, Step};
 use capnp_source_text::integers::{IntegerFault, integer_of};
 use capnp_source_text::lexemes::TokenKind;
 
-/// How many levels may be nested, of expressions and of declarations.
+/// The most levels of nested expressions, and of nested declarations.
 pub(crate) const MOST_LEVELS: u32 = 64;
 
-/// How many members and arguments may follow in a path.
+/// The most members and arguments that may follow in a path.
 const MOST_STEPS: u32 = 64;
 
-/// Whether the bytes of a number are those of a float: digits, a fraction, an exponent.
+/// Returns whether the bytes of a number are those of a float: digits, a fraction, an exponent.
 fn is_float(bytes: &[u8]) -> bool {
     let mut has_digit = false;
     let mut has_point = false;
@@ -32,7 +32,7 @@ fn is_float(bytes: &[u8]) -> bool {
     has_digit
 }
 
-/// The number that is next, behind the minus sign if there is one.
+/// Reads the next number, after its minus sign if there is one.
 fn number(cursor: &mut Cursor, start: usize, is_negative: bool) -> Result<Expression, SyntaxFault> {
     let alloc = cursor.alloc();
     let (span, bytes) = cursor.number()?;
@@ -54,7 +54,7 @@ fn number(cursor: &mut Cursor, start: usize, is_negative: bool) -> Result<Expres
     }
 }
 
-/// What stands behind a minus sign: a number, or `inf`.
+/// Reads what follows a minus sign: a number, or `inf`.
 fn negative(cursor: &mut Cursor, start: usize) -> Result<Expression, SyntaxFault> {
     if cursor.take_word(b"inf") {
         return Ok(Expression::Float {
@@ -66,7 +66,7 @@ fn negative(cursor: &mut Cursor, start: usize) -> Result<Expression, SyntaxFault
     number(cursor, start, true)
 }
 
-/// A text, bytes, or the bytes of a file.
+/// Reads a text, bytes, or the bytes of a file.
 fn literal(cursor: &mut Cursor, start: usize) -> Result<Option<Expression>, SyntaxFault> {
     if cursor.is_kind(TokenKind::Text) {
         let bytes = cursor.text()?;
@@ -93,7 +93,7 @@ fn literal(cursor: &mut Cursor, start: usize) -> Result<Option<Expression>, Synt
     Ok(None)
 }
 
-/// What a path begins with.
+/// Reads the beginning of a path.
 fn root(cursor: &mut Cursor) -> Result<Root, SyntaxFault> {
     if cursor.is_word(b"import") && cursor.is_second_kind(TokenKind::Text) {
         cursor.advance();
@@ -108,7 +108,7 @@ fn root(cursor: &mut Cursor) -> Result<Root, SyntaxFault> {
     Err(cursor.mistake(Wrong::NoValue))
 }
 
-/// The values between brackets, of which the first was passed.
+/// Reads the values between brackets. The first bracket was passed.
 #[cycle(expressions)]
 fn items(cursor: &mut Cursor, levels: u32) -> Result<Vec<Expression>, SyntaxFault> {
     let mut items = Vec::new(cursor.alloc());
@@ -125,7 +125,7 @@ fn items(cursor: &mut Cursor, levels: u32) -> Result<Vec<Expression>, SyntaxFaul
     Err(cursor.mistake(Wrong::BracketNotClosed))
 }
 
-/// One argument: a value, or a name and its value.
+/// Reads one argument: a value, or a name and its value.
 #[cycle(expressions)]
 fn argument(cursor: &mut Cursor, levels: u32) -> Result<Argument, SyntaxFault> {
     if cursor.is_kind(TokenKind::Name) && cursor.is_second_operator(b"=") {
@@ -137,7 +137,7 @@ fn argument(cursor: &mut Cursor, levels: u32) -> Result<Argument, SyntaxFault> {
     Ok(Argument::Plain(expression_within(cursor, levels)?))
 }
 
-/// The arguments between parentheses, of which the first was passed.
+/// Reads the arguments between parentheses. The first parenthesis was passed.
 #[cycle(expressions)]
 fn arguments(cursor: &mut Cursor, levels: u32) -> Result<Vec<Argument>, SyntaxFault> {
     let mut arguments = Vec::new(cursor.alloc());
@@ -154,7 +154,7 @@ fn arguments(cursor: &mut Cursor, levels: u32) -> Result<Vec<Argument>, SyntaxFa
     Err(cursor.mistake(Wrong::ParenthesisNotClosed))
 }
 
-/// What follows the beginning of a path.
+/// Reads the steps after the beginning of a path.
 #[cycle(expressions)]
 fn steps(cursor: &mut Cursor, levels: u32) -> Result<Vec<Step>, SyntaxFault> {
     let mut steps = Vec::new(cursor.alloc());
@@ -170,7 +170,7 @@ fn steps(cursor: &mut Cursor, levels: u32) -> Result<Vec<Step>, SyntaxFault> {
     Err(cursor.mistake(Wrong::TooManySteps))
 }
 
-/// An expression in which so many levels may be nested.
+/// Reads an expression in which at most `levels` levels may be nested.
 #[cycle(expressions)]
 fn expression_within(cursor: &mut Cursor, levels: u32) -> Result<Expression, SyntaxFault> {
     if levels == 0 {
@@ -196,7 +196,7 @@ fn expression_within(cursor: &mut Cursor, levels: u32) -> Result<Expression, Syn
     Ok(Expression::Path { span, root, steps })
 }
 
-/// The expression that is next: a type or a value.
+/// Reads the next expression: a type or a value.
 pub(crate) fn expression(cursor: &mut Cursor) -> Result<Expression, SyntaxFault> {
     expression_within(cursor, MOST_LEVELS)
 }

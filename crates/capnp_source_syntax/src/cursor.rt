@@ -1,4 +1,4 @@
-//! A place in the tokens of a source.
+//! A cursor over the tokens of a source.
 
 use crate::faults::{Mistake, SyntaxFault, Wrong};
 use crate::tree::{Name, Number, Span};
@@ -19,7 +19,7 @@ pub(crate) struct Cursor<'a> {
 }
 
 impl<'a> Cursor<'a> {
-    /// All tokens of a source.
+    /// Makes a cursor over all tokens of a source.
     pub(crate) fn new(alloc: Global, text: &'a [u8], tokens: &'a [Token]) -> Cursor<'a> {
         Cursor {
             alloc,
@@ -29,22 +29,22 @@ impl<'a> Cursor<'a> {
         }
     }
 
-    /// The allocator of what is read.
+    /// Returns the allocator for everything that is read.
     pub(crate) fn alloc(&self) -> Global {
         self.alloc
     }
 
-    /// How many tokens are left.
+    /// Returns the number of tokens that are left.
     pub(crate) fn left(&self) -> usize {
         self.tokens.len().saturating_sub(self.at)
     }
 
-    /// The next token.
+    /// Returns the next token.
     fn next(&self) -> Option<Token> {
         self.tokens.get(self.at).copied()
     }
 
-    /// The token behind the next.
+    /// Returns the token after the next.
     fn second(&self) -> Option<Token> {
         self.tokens.get(self.at.saturating_add(1)).copied()
     }
@@ -54,7 +54,7 @@ impl<'a> Cursor<'a> {
         self.at = self.at.saturating_add(1);
     }
 
-    /// The offset at which the next token begins; that of the end where none is left.
+    /// Returns the offset of the next token, or of the end if no token is left.
     pub(crate) fn here(&self) -> usize {
         match self.next() {
             Some(token) => token.start,
@@ -62,7 +62,7 @@ impl<'a> Cursor<'a> {
         }
     }
 
-    /// From an offset to the end of the token that was passed last.
+    /// Returns the span from an offset to the end of the last passed token.
     pub(crate) fn span_from(&self, start: usize) -> Span {
         let end = match self.tokens.get(self.at.saturating_sub(1)) {
             Some(token) => token.end,
@@ -71,7 +71,7 @@ impl<'a> Cursor<'a> {
         Span { start, end }
     }
 
-    /// That something is wrong with the next token.
+    /// Returns the fault that something is wrong with the next token.
     pub(crate) fn mistake(&self, wrong: Wrong) -> SyntaxFault {
         SyntaxFault::Mistake(Mistake {
             offset: self.here(),
@@ -79,12 +79,12 @@ impl<'a> Cursor<'a> {
         })
     }
 
-    /// The bytes of a token.
+    /// Returns the bytes of a token.
     fn bytes(&self, token: Token) -> &'a [u8] {
         self.text.get(token.start..token.end).unwrap_or(&[])
     }
 
-    /// Whether the next token is of a kind.
+    /// Returns whether the next token is of a kind.
     pub(crate) fn is_kind(&self, kind: TokenKind) -> bool {
         match self.next() {
             Some(token) => token.kind == kind,
@@ -92,7 +92,7 @@ impl<'a> Cursor<'a> {
         }
     }
 
-    /// Passes the next token if it is of a kind, and tells whether it is.
+    /// Passes the next token if it is of a kind, and returns whether it is.
     pub(crate) fn take_kind(&mut self, kind: TokenKind) -> bool {
         let is_kind = self.is_kind(kind);
         if is_kind {
@@ -109,7 +109,7 @@ impl<'a> Cursor<'a> {
         Err(self.mistake(wrong))
     }
 
-    /// Whether a token is of a kind and has these bytes.
+    /// Returns whether a token is of a kind and has these bytes.
     fn is_token(&self, token: Option<Token>, kind: TokenKind, bytes: &[u8]) -> bool {
         match token {
             Some(token) => token.kind == kind && self.bytes(token) == bytes,
@@ -117,17 +117,17 @@ impl<'a> Cursor<'a> {
         }
     }
 
-    /// Whether the next token is an operator.
+    /// Returns whether the next token is an operator.
     pub(crate) fn is_operator(&self, operator: &[u8]) -> bool {
         self.is_token(self.next(), TokenKind::Operator, operator)
     }
 
-    /// Whether the token behind the next is an operator.
+    /// Returns whether the token after the next is an operator.
     pub(crate) fn is_second_operator(&self, operator: &[u8]) -> bool {
         self.is_token(self.second(), TokenKind::Operator, operator)
     }
 
-    /// Whether the token behind the next is of a kind.
+    /// Returns whether the token after the next is of a kind.
     pub(crate) fn is_second_kind(&self, kind: TokenKind) -> bool {
         match self.second() {
             Some(token) => token.kind == kind,
@@ -135,12 +135,12 @@ impl<'a> Cursor<'a> {
         }
     }
 
-    /// Whether the next token is a word.
+    /// Returns whether the next token is a word.
     pub(crate) fn is_word(&self, word: &[u8]) -> bool {
         self.is_token(self.next(), TokenKind::Name, word)
     }
 
-    /// Passes the next token if it is an operator, and tells whether it is.
+    /// Passes the next token if it is an operator, and returns whether it is.
     pub(crate) fn take_operator(&mut self, operator: &[u8]) -> bool {
         let is_operator = self.is_operator(operator);
         if is_operator {
@@ -149,7 +149,7 @@ impl<'a> Cursor<'a> {
         is_operator
     }
 
-    /// Passes the next token if it is a word, and tells whether it is.
+    /// Passes the next token if it is a word, and returns whether it is.
     pub(crate) fn take_word(&mut self, word: &[u8]) -> bool {
         let is_word = self.is_word(word);
         if is_word {
@@ -181,7 +181,7 @@ impl<'a> Cursor<'a> {
         }
     }
 
-    /// The name that is next, which is passed.
+    /// Reads and passes the next name.
     pub(crate) fn name(&mut self) -> Result<Name, SyntaxFault> {
         let alloc = self.alloc;
         let (token, bytes) = self.take(TokenKind::Name, Wrong::NoName)?;
@@ -191,7 +191,7 @@ impl<'a> Cursor<'a> {
         })
     }
 
-    /// The integer that is next, which is passed.
+    /// Reads and passes the next integer.
     pub(crate) fn integer(&mut self) -> Result<Number, SyntaxFault> {
         let (token, bytes) = self.take(TokenKind::Number, Wrong::NoInteger)?;
         match integer_of(bytes) {
@@ -204,13 +204,13 @@ impl<'a> Cursor<'a> {
         }
     }
 
-    /// The digits of the number that is next, which is passed.
+    /// Passes the next number, and returns its digits.
     pub(crate) fn number(&mut self) -> Result<(Span, &'a [u8]), SyntaxFault> {
         let (token, bytes) = self.take(TokenKind::Number, Wrong::NoValue)?;
         Ok((span_of(token), bytes))
     }
 
-    /// The bytes of the text that is next, which is passed.
+    /// Passes the next text, and returns its bytes.
     pub(crate) fn text(&mut self) -> Result<Vec<u8>, SyntaxFault> {
         let (token, bytes) = self.take(TokenKind::Text, Wrong::NoText)?;
         let inside = without_ends(bytes, 1);
@@ -220,7 +220,7 @@ impl<'a> Cursor<'a> {
         }
     }
 
-    /// The bytes of the literal that is next, which is passed.
+    /// Passes the next literal of bytes, and returns its bytes.
     pub(crate) fn literal_bytes(&mut self) -> Result<Vec<u8>, SyntaxFault> {
         let (token, bytes) = self.take(TokenKind::Bytes, Wrong::NoValue)?;
         let inside = without_ends(bytes, 3);
@@ -230,8 +230,8 @@ impl<'a> Cursor<'a> {
         }
     }
 
-    /// Passes what is left of a statement: up to its semicolon or the end of its block. The brace
-    /// that ends the block around it stays.
+    /// Passes the rest of a statement: up to its semicolon or the end of its block. Doesn't pass
+    /// the brace that ends the enclosing block.
     pub(crate) fn skip_statement(&mut self) {
         let mut levels: usize = 0;
         for _ in 0..self.left() {
@@ -252,12 +252,12 @@ impl<'a> Cursor<'a> {
     }
 }
 
-/// A mistake at an offset.
+/// Returns a mistake at an offset.
 pub(crate) fn mistake_at(offset: usize, wrong: Wrong) -> SyntaxFault {
     SyntaxFault::Mistake(Mistake { offset, wrong })
 }
 
-/// Where a token stands.
+/// Returns the span of a token.
 fn span_of(token: Token) -> Span {
     Span {
         start: token.start,
@@ -265,7 +265,7 @@ fn span_of(token: Token) -> Span {
     }
 }
 
-/// The text of bytes that are ASCII.
+/// Returns the text of ASCII bytes.
 pub(crate) fn ascii(alloc: Global, bytes: &[u8]) -> Result<String, SyntaxFault> {
     match str::from_utf8(bytes) {
         Ok(text) => Ok(String::from_str(alloc, text)?),
@@ -273,13 +273,15 @@ pub(crate) fn ascii(alloc: Global, bytes: &[u8]) -> Result<String, SyntaxFault> 
     }
 }
 
-/// What stands between the quotes of a literal, the first of which has an offset of one less.
+/// Returns a literal without its quotes. `front` is the number of bytes up to and with the first
+/// quote.
 fn without_ends(bytes: &[u8], front: usize) -> &[u8] {
     let end = bytes.len().saturating_sub(1);
     bytes.get(front..end).unwrap_or(&[])
 }
 
-/// The fault of a literal whose inside begins so many bytes behind an offset.
+/// Returns the fault of a literal whose first byte between the quotes is `front` bytes after an
+/// offset.
 fn literal_fault(fault: LiteralFault, start: usize, front: usize, wrong: Wrong) -> SyntaxFault {
     match fault {
         LiteralFault::Piece(at) => {

@@ -12,10 +12,10 @@ use crate::tree::{Body, Declaration, Name, Number};
 use capnp_source_text::lexemes::TokenKind;
 use std::alloc::AllocError;
 
-/// How many mistakes are told.
+/// The most mistakes that are reported.
 const MOST_MISTAKES: usize = 20;
 
-/// In what a declaration stands.
+/// The place of a declaration.
 #[derive(Clone, Copy, Debug, PartialEq, Eq)]
 pub(crate) enum Place {
     File,
@@ -24,17 +24,17 @@ pub(crate) enum Place {
     Interface,
 }
 
-/// What is declared before a semicolon or a block.
+/// A declaration up to its semicolon or its block.
 #[derive(Drop)]
 struct Head {
     name: Option<Name>,
     id: Option<Number>,
     body: Body,
-    /// In what its members stand, if it has a block.
+    /// The place of the members, if the declaration has a block.
     block: Option<Place>,
 }
 
-/// A declaration without a block.
+/// Makes the head of a declaration without a block.
 fn statement(name: Name, body: Body) -> Head {
     Head {
         name: Some(name),
@@ -44,7 +44,7 @@ fn statement(name: Name, body: Body) -> Head {
     }
 }
 
-/// `using`: a name for a target, or the target's own.
+/// Reads `using`: a name for a target, or the target's own name.
 fn using(cursor: &mut Cursor) -> Result<Head, SyntaxFault> {
     let mut name = None;
     if cursor.is_kind(TokenKind::Name) && cursor.is_second_operator(b"=") {
@@ -60,7 +60,7 @@ fn using(cursor: &mut Cursor) -> Result<Head, SyntaxFault> {
     })
 }
 
-/// A constant.
+/// Reads a constant.
 fn constant(cursor: &mut Cursor) -> Result<Head, SyntaxFault> {
     let name = Some(cursor.name()?);
     let id = optional_id(cursor)?;
@@ -75,7 +75,7 @@ fn constant(cursor: &mut Cursor) -> Result<Head, SyntaxFault> {
     })
 }
 
-/// An annotation.
+/// Reads an annotation.
 fn annotation(cursor: &mut Cursor) -> Result<Head, SyntaxFault> {
     let name = Some(cursor.name()?);
     let id = optional_id(cursor)?;
@@ -89,7 +89,7 @@ fn annotation(cursor: &mut Cursor) -> Result<Head, SyntaxFault> {
     })
 }
 
-/// An enum.
+/// Reads an enum.
 fn enumeration(cursor: &mut Cursor) -> Result<Head, SyntaxFault> {
     let name = Some(cursor.name()?);
     let id = optional_id(cursor)?;
@@ -101,7 +101,7 @@ fn enumeration(cursor: &mut Cursor) -> Result<Head, SyntaxFault> {
     })
 }
 
-/// A struct.
+/// Reads a struct.
 fn structure(cursor: &mut Cursor) -> Result<Head, SyntaxFault> {
     let name = Some(cursor.name()?);
     let id = optional_id(cursor)?;
@@ -114,7 +114,7 @@ fn structure(cursor: &mut Cursor) -> Result<Head, SyntaxFault> {
     })
 }
 
-/// An interface.
+/// Reads an interface.
 fn interface(cursor: &mut Cursor) -> Result<Head, SyntaxFault> {
     let name = Some(cursor.name()?);
     let id = optional_id(cursor)?;
@@ -131,7 +131,7 @@ fn interface(cursor: &mut Cursor) -> Result<Head, SyntaxFault> {
     })
 }
 
-/// What a word declares, which is passed.
+/// Passes a word, and reads what it declares.
 fn keyword(cursor: &mut Cursor, place: Place) -> Result<Head, SyntaxFault> {
     if cursor.take_word(b"using") {
         using(cursor)
@@ -159,7 +159,7 @@ fn keyword(cursor: &mut Cursor, place: Place) -> Result<Head, SyntaxFault> {
     }
 }
 
-/// A union or a group with a name, or a field.
+/// Reads a union or a group with a name, or a field.
 fn struct_member(cursor: &mut Cursor) -> Result<Head, SyntaxFault> {
     let name = cursor.name()?;
     let mut number = None;
@@ -199,7 +199,7 @@ fn struct_member(cursor: &mut Cursor) -> Result<Head, SyntaxFault> {
     ))
 }
 
-/// What is declared before annotations, and a semicolon or a block.
+/// Reads a declaration up to its annotations, and a semicolon or a block.
 fn head_in(cursor: &mut Cursor, place: Place) -> Result<Head, SyntaxFault> {
     if place == Place::Enum {
         let name = cursor.name()?;
@@ -220,7 +220,7 @@ fn head_in(cursor: &mut Cursor, place: Place) -> Result<Head, SyntaxFault> {
     }
 }
 
-/// A declaration in which so many levels may be nested.
+/// Reads a declaration in which at most `levels` levels may be nested.
 #[cycle(declarations)]
 fn declaration(
     cursor: &mut Cursor,
@@ -254,7 +254,7 @@ fn declaration(
     })
 }
 
-/// Whether the last of some mistakes is at an offset.
+/// Returns whether the last mistake is at an offset.
 fn is_told(mistakes: &[Mistake], offset: usize) -> bool {
     match mistakes.last() {
         Some(last) => last.offset == offset,
@@ -262,8 +262,8 @@ fn is_told(mistakes: &[Mistake], offset: usize) -> bool {
     }
 }
 
-/// Puts a mistake behind the others, unless there are so many already, or the last is at the same
-/// place.
+/// Appends a mistake, unless the most mistakes are already there or the last mistake is at the same
+/// offset.
 pub(crate) fn tell(mistakes: &mut Vec<Mistake>, mistake: Mistake) -> Result<(), AllocError> {
     if mistakes.len() < MOST_MISTAKES && !is_told(mistakes, mistake.offset) {
         mistakes.push(mistake)?;
@@ -271,7 +271,8 @@ pub(crate) fn tell(mistakes: &mut Vec<Mistake>, mistake: Mistake) -> Result<(), 
     Ok(())
 }
 
-/// Notes a mistake, and passes what is left of its statement. A refused growth is returned.
+/// Notes a mistake, and passes the rest of its statement. Returns the fault if it is a refused
+/// allocation.
 pub(crate) fn note(
     cursor: &mut Cursor,
     mistakes: &mut Vec<Mistake>,
@@ -287,7 +288,7 @@ pub(crate) fn note(
     }
 }
 
-/// The declarations of a block, braces and all.
+/// Reads the declarations of a block, with its braces.
 #[cycle(declarations)]
 fn members(
     cursor: &mut Cursor,
@@ -315,7 +316,7 @@ fn members(
     Err(cursor.mistake(Wrong::BlockNotClosed))
 }
 
-/// The declaration of a file that is next.
+/// Reads the next declaration of a file.
 pub(crate) fn outermost(
     cursor: &mut Cursor,
     mistakes: &mut Vec<Mistake>,

@@ -1,8 +1,8 @@
-//! What is wrong with a schema source.
+//! Mistakes in schema sources.
 
 use std::alloc::{AllocError, AllocFailed};
 
-/// What is wrong at a place.
+/// A kind of mistake.
 #[derive(Clone, Copy, Debug, PartialEq, Eq)]
 pub enum Wrong {
     UnknownByte,
@@ -38,7 +38,7 @@ pub enum Wrong {
 }
 
 impl Wrong {
-    /// What is wrong, and what to do.
+    /// Returns the text that says what is wrong, and what to do.
     pub fn message(self) -> &'static str {
         match self {
             Wrong::UnknownByte => "no token begins with this byte (take it out)",
@@ -75,18 +75,18 @@ impl Wrong {
     }
 }
 
-/// What is wrong, and at which offset.
+/// A mistake, with its offset.
 #[derive(Clone, Copy, Debug, PartialEq, Eq)]
 pub struct Mistake {
     pub offset: usize,
     pub wrong: Wrong,
 }
 
-/// Why a part of a source can't be read.
+/// The reason why a part of a source can't be read.
 #[derive(Clone, Copy, Debug, PartialEq, Eq)]
 pub enum SyntaxFault {
     Mistake(Mistake),
-    /// A growth was refused.
+    /// An allocation was refused.
     Memory,
 }
 

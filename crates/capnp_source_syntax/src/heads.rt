@@ -1,4 +1,4 @@
-//! What stands before and behind names that are declared: ids, ordinals, parameters, annotations.
+//! Parts before and after declared names: ids, ordinals, parameters, annotations.
 
 use crate::arguments::expression;
 use crate::cursor::{Cursor, mistake_at};
@@ -12,7 +12,7 @@ const MOST_ORDINAL: u64 = 65_535;
 /// The least id: ids have the highest bit.
 const LEAST_ID: u64 = 1 << 63;
 
-/// The ordinal that is next.
+/// Reads the next ordinal.
 pub(crate) fn ordinal(cursor: &mut Cursor) -> Result<Number, SyntaxFault> {
     cursor.expect_operator(b"@", Wrong::NoOrdinal)?;
     let number = cursor.integer()?;
@@ -22,7 +22,7 @@ pub(crate) fn ordinal(cursor: &mut Cursor) -> Result<Number, SyntaxFault> {
     Ok(number)
 }
 
-/// The id that is next.
+/// Reads the next id.
 pub(crate) fn id(cursor: &mut Cursor) -> Result<Number, SyntaxFault> {
     cursor.expect_operator(b"@", Wrong::NoOrdinal)?;
     let number = cursor.integer()?;
@@ -32,7 +32,7 @@ pub(crate) fn id(cursor: &mut Cursor) -> Result<Number, SyntaxFault> {
     Ok(number)
 }
 
-/// The id that is next, if one is.
+/// Reads an id if it comes next.
 pub(crate) fn optional_id(cursor: &mut Cursor) -> Result<Option<Number>, SyntaxFault> {
     if cursor.is_operator(b"@") {
         return Ok(Some(id(cursor)?));
@@ -40,7 +40,7 @@ pub(crate) fn optional_id(cursor: &mut Cursor) -> Result<Option<Number>, SyntaxF
     Ok(None)
 }
 
-/// Names with commas between them, up to a token that closes them.
+/// Reads names with commas between them, up to a closing token.
 fn names(cursor: &mut Cursor, close: TokenKind, wrong: Wrong) -> Result<Vec<Name>, SyntaxFault> {
     let mut names = Vec::new(cursor.alloc());
     for _ in 0..cursor.left() {
@@ -53,7 +53,7 @@ fn names(cursor: &mut Cursor, close: TokenKind, wrong: Wrong) -> Result<Vec<Name
     Err(cursor.mistake(wrong))
 }
 
-/// The parameters of a generic type between parentheses, if there are some.
+/// Reads the parameters of a generic type between parentheses, if there are any.
 pub(crate) fn type_parameters(cursor: &mut Cursor) -> Result<Vec<Name>, SyntaxFault> {
     if cursor.take_kind(TokenKind::OpenParenthesis) {
         return names(
@@ -65,7 +65,7 @@ pub(crate) fn type_parameters(cursor: &mut Cursor) -> Result<Vec<Name>, SyntaxFa
     Ok(Vec::new(cursor.alloc()))
 }
 
-/// The parameters of a generic method between brackets, if there are some.
+/// Reads the parameters of a generic method between brackets, if there are any.
 pub(crate) fn method_parameters(cursor: &mut Cursor) -> Result<Vec<Name>, SyntaxFault> {
     if cursor.take_kind(TokenKind::OpenBracket) {
         return names(cursor, TokenKind::CloseBracket, Wrong::BracketNotClosed);
@@ -73,14 +73,14 @@ pub(crate) fn method_parameters(cursor: &mut Cursor) -> Result<Vec<Name>, Syntax
     Ok(Vec::new(cursor.alloc()))
 }
 
-/// One annotation, of which the sign was passed.
+/// Reads one annotation. Its sign was passed.
 fn application(cursor: &mut Cursor, start: usize) -> Result<Application, SyntaxFault> {
     let expression = expression(cursor)?;
     let span = cursor.span_from(start);
     Ok(Application { span, expression })
 }
 
-/// Annotations up to another token.
+/// Reads annotations up to another token.
 pub(crate) fn annotations(cursor: &mut Cursor) -> Result<Vec<Application>, SyntaxFault> {
     let mut annotations = Vec::new(cursor.alloc());
     for _ in 0..cursor.left() {
@@ -93,13 +93,13 @@ pub(crate) fn annotations(cursor: &mut Cursor) -> Result<Vec<Application>, Synta
     Ok(annotations)
 }
 
-/// A colon and a type.
+/// Reads a colon and a type.
 pub(crate) fn type_behind(cursor: &mut Cursor) -> Result<Expression, SyntaxFault> {
     cursor.expect_operator(b":", Wrong::NoColon)?;
     expression(cursor)
 }
 
-/// An equals sign and a value, if they are next.
+/// Reads an equals sign and a value, if they come next.
 pub(crate) fn default_behind(cursor: &mut Cursor) -> Result<Option<Expression>, SyntaxFault> {
     if cursor.take_operator(b"=") {
         return Ok(Some(expression(cursor)?));
@@ -107,7 +107,7 @@ pub(crate) fn default_behind(cursor: &mut Cursor) -> Result<Option<Expression>, 
     Ok(None)
 }
 
-/// What an annotation may be applied to, between parentheses.
+/// Reads the kinds of declarations to which an annotation may be applied, between parentheses.
 pub(crate) fn targets(cursor: &mut Cursor) -> Result<Targets, SyntaxFault> {
     cursor.expect_kind(TokenKind::OpenParenthesis, Wrong::NoTarget)?;
     if cursor.take_operator(b"*") {
@@ -122,7 +122,7 @@ pub(crate) fn targets(cursor: &mut Cursor) -> Result<Targets, SyntaxFault> {
     Ok(Targets::Kinds(kinds))
 }
 
-/// The interfaces that an interface extends.
+/// Reads the interfaces that an interface extends.
 pub(crate) fn extended(cursor: &mut Cursor) -> Result<Vec<Expression>, SyntaxFault> {
     let mut extended = Vec::new(cursor.alloc());
     if !cursor.take_word(b"extends") {

@@ -1,4 +1,4 @@
-//! The syntax of schema sources: a tree of what is declared, or what is wrong and where.
+//! The syntax of schema sources: a tree of the declarations, or the mistakes with their offsets.
 #![tactic(auto)]
 
 mod arguments;

@@ -7,7 +7,7 @@ use crate::heads::{annotations, default_behind, method_parameters, ordinal, type
 use crate::tree::{Body, Parameter, Parameters};
 use capnp_source_text::lexemes::TokenKind;
 
-/// One parameter.
+/// Reads one parameter.
 fn parameter(cursor: &mut Cursor) -> Result<Parameter, SyntaxFault> {
     let name = cursor.name()?;
     let ty = type_behind(cursor)?;
@@ -21,7 +21,7 @@ fn parameter(cursor: &mut Cursor) -> Result<Parameter, SyntaxFault> {
     })
 }
 
-/// Parameters between parentheses, of which the first was passed.
+/// Reads parameters between parentheses. The first parenthesis was passed.
 fn parameter_list(cursor: &mut Cursor) -> Result<Vec<Parameter>, SyntaxFault> {
     let mut list = Vec::new(cursor.alloc());
     if cursor.take_kind(TokenKind::CloseParenthesis) {
@@ -37,7 +37,7 @@ fn parameter_list(cursor: &mut Cursor) -> Result<Vec<Parameter>, SyntaxFault> {
     Err(cursor.mistake(Wrong::ParenthesisNotClosed))
 }
 
-/// What a method takes or returns.
+/// Reads the parameters or the results of a method.
 fn parameters(cursor: &mut Cursor) -> Result<Parameters, SyntaxFault> {
     if cursor.take_kind(TokenKind::OpenParenthesis) {
         return Ok(Parameters::List(parameter_list(cursor)?));
@@ -45,7 +45,7 @@ fn parameters(cursor: &mut Cursor) -> Result<Parameters, SyntaxFault> {
     Ok(Parameters::Struct(expression(cursor)?))
 }
 
-/// What a method returns, if it tells that.
+/// Reads the results of a method, if they are written.
 fn returned(cursor: &mut Cursor) -> Result<Option<Parameters>, SyntaxFault> {
     if !cursor.take_operator(b"->") {
         return Ok(None);
@@ -57,7 +57,7 @@ fn returned(cursor: &mut Cursor) -> Result<Option<Parameters>, SyntaxFault> {
     Ok(Some(parameters(cursor)?))
 }
 
-/// A method, of which the name was passed.
+/// Reads a method. Its name was passed.
 pub(crate) fn method(cursor: &mut Cursor) -> Result<Body, SyntaxFault> {
     let ordinal = ordinal(cursor)?;
     let generic = method_parameters(cursor)?;

@@ -12,21 +12,21 @@ use capnp_source_text::lexemes::TokenKind;
 use capnp_source_text::tokens::{Token, TokenFault, tokens};
 use std::alloc::{AllocError, AllocFailed, Global};
 
-/// What a file declares.
+/// The declarations of a file.
 #[derive(Debug, Drop)]
 pub struct SourceFile {
-    /// Its id, if one is written out.
+    /// The id of the file, if it is written.
     pub id: Option<Number>,
     pub annotations: Vec<Application>,
     pub declarations: Vec<Declaration>,
 }
 
-/// Why a file can't be read.
+/// The reason why a file can't be read.
 #[derive(Debug, Drop)]
 pub enum SourceFault {
-    /// These mistakes, in the order in which they were found: twenty at most, and at least one.
+    /// The mistakes in the order in which they were found: at least one and at most twenty.
     Mistakes(Vec<Mistake>),
-    /// A growth was refused.
+    /// An allocation was refused.
     Memory,
 }
 
@@ -52,7 +52,7 @@ impl<T: Drop> From<AllocFailed<T>> for SourceFault {
     }
 }
 
-/// The mistakes of a text, none of them behind its end.
+/// Returns the mistakes of a text, with no offset after its end.
 fn mistakes_in(alloc: Global, text: &[u8], mistakes: &[Mistake]) -> Result<Vec<Mistake>, AllocError>
     ensures inside { IfOk result (λ v. All (λ m. m.offset ≤ length text.now) v.items) }
     ensures count { IfOk result (λ v. length v.items ≡ length mistakes.now) }
@@ -68,7 +68,7 @@ fn mistakes_in(alloc: Global, text: &[u8], mistakes: &[Mistake]) -> Result<Vec<M
     Ok(told)
 }
 
-/// What is wrong where no token begins.
+/// Returns the mistake at an offset at which no token begins.
 fn token_mistake(text: &[u8], offset: usize) -> Mistake {
     let wrong = match text.get(offset) {
         Some(b'"') => Wrong::UnclosedText,
@@ -109,7 +109,7 @@ fn statement(
     Ok(())
 }
 
-/// What the tokens of a file declare.
+/// Reads the declarations in the tokens of a file.
 fn declared(
     alloc: Global,
     text: &[u8],
@@ -133,8 +133,8 @@ fn declared(
     Ok((file, mistakes))
 }
 
-/// What a file declares, by its text. The mistakes of a file are told where it has some, each with an
-/// offset in the text or that of its end.
+/// Returns the declarations of a file, which is given by its text. If the file has mistakes, they
+/// are returned, each with an offset in the text or the offset of its end.
 pub fn source_file(alloc: Global, text: &[u8]) -> Result<SourceFile, SourceFault>
     ensures { IfErr result (IsSourceFault text.now) }
 {

@@ -1,13 +1,13 @@
-//! What a schema source declares, as it is written.
+//! The declarations of a schema source, in the form in which they are written.
 
-/// Where a part of a source stands: from one offset up to another.
+/// The span of a part of a source: from one offset up to another.
 #[derive(Clone, Copy, Debug, PartialEq, Eq)]
 pub struct Span {
     pub start: usize,
     pub end: usize,
 }
 
-/// A name as it is declared or used.
+/// A name that is declared or used.
 #[derive(Debug, Drop)]
 pub struct Name {
     pub text: String,
@@ -21,7 +21,7 @@ pub struct Number {
     pub span: Span,
 }
 
-/// A value or a type. Which of them is known once names are resolved.
+/// A value or a type. Only resolved names show which of the two it is.
 #[cycle(expressions)]
 #[derive(Debug, Drop)]
 pub enum Expression {
@@ -30,7 +30,7 @@ pub enum Expression {
         is_negative: bool,
         magnitude: u64,
     },
-    /// A float by its digits, which `inf` replaces behind a minus sign.
+    /// A float, by its digits. After a minus sign they may be `inf`.
     Float {
         span: Span,
         is_negative: bool,
@@ -67,18 +67,18 @@ pub enum Expression {
     },
 }
 
-/// What a path begins with.
+/// The beginning of a path.
 #[derive(Debug, Drop)]
 pub enum Root {
-    /// A name that is looked up in the scope around it, and then further outwards.
+    /// A name that is looked up in the enclosing scope, and then further outwards.
     Relative(Name),
-    /// A name of the file, behind a point.
+    /// A name of the file, after a point.
     Absolute(Name),
     /// A file, by the text of an import.
     Import(Vec<u8>),
 }
 
-/// What follows in a path.
+/// A step of a path.
 #[cycle(expressions)]
 #[derive(Debug, Drop)]
 pub enum Step {
@@ -94,11 +94,11 @@ pub enum Argument {
     Named { name: Name, value: Expression },
 }
 
-/// An annotation where it is applied.
+/// An annotation at the place to which it is applied.
 #[derive(Debug, Drop)]
 pub struct Application {
     pub span: Span,
-    /// Its name, and last its value as arguments, if it has one.
+    /// The annotation's name. The last step has the value as arguments, if there is one.
     pub expression: Expression,
 }
 
@@ -111,7 +111,7 @@ pub struct Parameter {
     pub annotations: Vec<Application>,
 }
 
-/// What a method takes or returns.
+/// The parameters or the results of a method.
 #[derive(Debug, Drop)]
 pub enum Parameters {
     /// Named parameters between parentheses.
@@ -122,31 +122,32 @@ pub enum Parameters {
     Stream(Span),
 }
 
-/// What an annotation may be applied to.
+/// The kinds of declarations to which an annotation may be applied.
 #[derive(Debug, Drop)]
 pub enum Targets {
-    /// Anything: `*`.
+    /// All kinds: `*`.
     All,
-    /// Things of these kinds, by their words.
+    /// These kinds, by their words.
     Kinds(Vec<Name>),
 }
 
-/// Something that is declared.
+/// A declaration.
 #[derive(Debug, Drop)]
 pub struct Declaration {
-    /// From its first token up to its semicolon or its block.
+    /// The span from the first token up to the semicolon or the block.
     pub span: Span,
-    /// Its name; `None` of a union without one, and of a `using` that takes the name of its target.
+    /// The declared name. `None` for a union without a name, and for a `using` that takes the name
+    /// of its target.
     pub name: Option<Name>,
-    /// An id that is written out.
+    /// The id, if it is written.
     pub id: Option<Number>,
     pub annotations: Vec<Application>,
     pub body: Body,
-    /// What is declared in its block.
+    /// The declarations in the block.
     pub members: Vec<Declaration>,
 }
 
-/// What is declared.
+/// The kind of a declaration, with its parts.
 #[derive(Debug, Drop)]
 pub enum Body {
     Using {

@@ -1,4 +1,4 @@
--- What single bytes of a schema source may be. (Cap'n Proto's schema language; lexer.c++ of the compiler)
+-- Classes of the single bytes of a schema source. (Cap'n Proto's schema language; lexer.c++ of the compiler)
 use Rattle.std.specs.Prelude.{ℕ, ◌+◌, ◌-◌, Bool, ◌||◌, ◌==◌, Option, Some, None, if◌then◌else◌}
 use Rattle.std.specs.Char.{is_ascii_digit, is_ascii_alphabetic}
 use Rattle.std.specs.Int.{is_in_range}
@@ -13,11 +13,11 @@ is_space b = (b == 32) || is_in_range 9 13 b
 abbrev pub is_name_start : ℕ → Bool
 is_name_start b = is_ascii_alphabetic b || (b == 95)
 
--- .. and goes on with these and digits.
+-- .. and continues with these and digits.
 abbrev pub is_name_byte : ℕ → Bool
 is_name_byte b = is_name_start b || is_ascii_digit b
 
--- A number has no other bytes, and the point.
+-- A number has only these bytes and the point.
 abbrev pub is_number_byte : ℕ → Bool
 is_number_byte b = is_name_byte b || (b == 46)
 
@@ -25,7 +25,7 @@ is_number_byte b = is_name_byte b || (b == 46)
 abbrev pub is_operator_byte : ℕ → Bool
 is_operator_byte b = (b == 33) || is_in_range 36 38 b || is_in_range 42 43 b || is_in_range 45 47 b || (b == 58) || is_in_range 60 64 b || (b == 94) || (b == 124) || (b == 126)
 
--- What tokens of more than one byte are made of.
+-- The class of the bytes of a token that may have more than one byte.
 abbrev pub is_in : ByteClass → ℕ → Bool
 is_in C.Name b = is_name_byte b
 is_in C.Number b = is_number_byte b

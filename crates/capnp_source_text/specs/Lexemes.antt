@@ -1,4 +1,4 @@
--- What stands at the front of a source. (Cap'n Proto's schema language; lexer.c++ of the compiler)
+-- The front of a source. (Cap'n Proto's schema language; lexer.c++ of the compiler)
 use Rattle.std.specs.Prelude.{ℕ, ◌+◌, ◌-◌, ◌==◌, ◌&&◌, ◌||◌, not, Bool, true, false, Option, Some, None, option_map, List, [], ◌∷◌, length, take, drop, slice_index, if◌then◌else◌, position}
 use Rattle.std.specs.List.{prefix_len}
 use Rattle.std.specs.Char.{is_ascii_digit}
@@ -8,7 +8,7 @@ use Rattle.capnp_source_text.specs.declared.lexemes.Lexeme.{Lexeme}
 use Rattle.capnp_source_text.specs.declared.lexemes.TokenKind.{TokenKind}
 use Rattle.capnp_source_text.specs.declared.lexemes.TokenKind.TheVariants as K
 
--- Where blanks end, of which n bytes were passed: white space, and comments from # to the end of the line.
+-- The end of blanks, n bytes of which were passed: white space, and comments from # to the end of the line.
 abbrev pub blanks_end : ℕ → Bool → List ℕ → ℕ
 blanks_end n in_comment [] = n
 blanks_end n in_comment (b ∷ bs) =
@@ -23,7 +23,8 @@ ends_in_exponent bs =
     not ((slice_index bs 0 == 48) && (slice_index bs 1 == 120))
     && ((slice_index bs (length bs - 1) == 101) || (slice_index bs (length bs - 1) == 69))
 
--- How many bytes a number has: digits, letters and points, and behind the letter of an exponent a sign and more of them.
+-- The number of bytes of a number: digits, letters and points, and after the letter of an exponent a sign and more of
+-- them.
 abbrev pub number_length : List ℕ → ℕ
 number_length bs =
     let n = prefix_len (is_in C.Number) bs in
@@ -31,7 +32,8 @@ number_length bs =
     then n + 1 + prefix_len (is_in C.Number) (drop (n + 1) bs)
     else n
 
--- The place of the quote that ends a text, from n on; none where the line or the source ends before it. A backslash takes the byte behind it along.
+-- The place of the quote that ends a text, from n on, or `None` if the line or the source ends first. The byte after a
+-- backslash doesn't end it.
 abbrev pub closing_place : ℕ → Bool → List ℕ → Option ℕ
 closing_place n is_escaped [] = None
 closing_place n is_escaped (b ∷ bs) =
@@ -43,11 +45,11 @@ closing_place n is_escaped (b ∷ bs) =
 abbrev pub lexeme : TokenKind → ℕ → Lexeme
 lexeme k n = record { kind = k; len = n }
 
--- A text: what is inside, and two quotes.
+-- A text: the bytes between the quotes, and two quotes.
 abbrev pub text_lexeme : List ℕ → Option Lexeme
 text_lexeme inside = option_map (λ n. lexeme K.Text (n + 2)) (closing_place 0 false inside)
 
--- Bytes: what is inside, 0x and two quotes.
+-- Bytes: the bytes between the quotes, 0x and two quotes.
 abbrev pub bytes_lexeme : List ℕ → Option Lexeme
 bytes_lexeme inside = option_map (λ n. lexeme K.Bytes (n + 4)) (position (λ b. b == 34) inside)
 
@@ -64,7 +66,7 @@ mark_of b =
     else (if b == 59 then Some K.Semicolon
     else None)))))))
 
--- A token that begins with a byte, no quote.
+-- A token that begins with this byte, which is not a quote.
 abbrev pub plain_lexeme : List ℕ → ℕ → Option Lexeme
 plain_lexeme bs b =
     if is_name_start b then Some (lexeme K.Name (prefix_len (is_in C.Name) bs))

@@ -1,4 +1,4 @@
--- What texts and literals of bytes mean. (Cap'n Proto's schema language; lexer.c++ of the compiler)
+-- Values of texts and of literals of bytes. (Cap'n Proto's schema language; lexer.c++ of the compiler)
 use Rattle.std.specs.Prelude.{◌≡◌, ℕ, ◌+◌, ◌-◌, ◌*◌, ◌==◌, ◌||◌, Bool, true, false, Option, Some, None, option_map, option_and_then, is_some, List, [], ◌∷◌, length, drop, slice_index, nat_lt, if◌then◌else◌}
 use Rattle.std.specs.Int.{is_in_range}
 use Rattle.std.specs.List.{prefix_len}
@@ -15,7 +15,8 @@ piece b n = record { byte = b; len = n }
 abbrev pub octal_at : List ℕ → ℕ → Option ℕ
 octal_at bs k = if is_in_range 48 55 (slice_index bs k) then Some (slice_index bs k - 48) else None
 
--- What stands for a byte behind a backslash: a b t n v f r are 7 to 13, and the two quotes, ? and \ themselves.
+-- The byte that a letter or sign after a backslash means: a b t n v f r are 7 to 13, and the two quotes, ? and \
+-- themselves.
 abbrev pub named_escape : ℕ → Option ℕ
 named_escape b =
     if b == 97 then Some 7
@@ -46,21 +47,21 @@ octal_piece (Some a) (Some b) (Some c) = small_piece (64 * a + 8 * b + c) 4
 abbrev pub octal_escape : List ℕ → Option Piece
 octal_escape bs = octal_piece (octal_at bs 0) (octal_at bs 1) (octal_at bs 2)
 
--- What an escape means, by what stands behind its backslash.
+-- The value of an escape, which is given by the bytes after its backslash.
 abbrev pub escape_of : List ℕ → Option Piece
 escape_of bs =
     if slice_index bs 0 == 120 then option_map (λ b. piece b 4) (hex_byte (slice_index bs 1) (slice_index bs 2))
     else (if is_some (octal_at bs 0) then octal_escape bs
     else option_map (λ b. piece b 2) (named_escape (slice_index bs 0)))
 
--- The byte at the front of a text's inside.
+-- The byte at the front of a text without its first quote.
 abbrev pub piece_of : List ℕ → Option Piece
 piece_of bs =
     if length bs == 0 then None
     else (if slice_index bs 0 == 92 then escape_of (drop 1 bs)
     else Some (piece (slice_index bs 0) 1))
 
--- The byte at the front of the inside of a literal of bytes: two hexadecimal digits behind white space.
+-- The byte at the front of a literal of bytes without its first quote: two hexadecimal digits after white space.
 abbrev pub pair_of : List ℕ → Option Piece
 pair_of bs =
     let n = prefix_len is_space bs in
@@ -74,16 +75,16 @@ is_empty bs = length bs == 0
 abbrev pub is_blank : List ℕ → Bool
 is_blank bs = prefix_len is_space bs == length bs
 
--- The bytes that the pieces of a literal are, from the front to where it ends.
+-- The bytes of a literal's pieces, from the front to its end.
 abbrev pub IsMade : (List ℕ → Bool) → (List ℕ → Option Piece) → List ℕ → List ℕ → Type 0
 IsMade ends first bs [] = ends bs ≡ true
 IsMade ends first bs (c ∷ cs) = (ends bs ≡ false) × ((n : ℕ) × ((first bs ≡ Some (piece c n)) × IsMade ends first (drop n bs) cs))
 
--- What a text means.
+-- The value of a text.
 abbrev pub IsText : List ℕ → List ℕ → Type 0
 IsText = IsMade is_empty piece_of
 
--- What a literal of bytes means.
+-- The value of a literal of bytes.
 abbrev pub IsBytes : List ℕ → List ℕ → Type 0
 IsBytes = IsMade is_blank pair_of
 

@@ -1,4 +1,4 @@
--- Where things stand in a source.
+-- Positions in a source.
 use Rattle.std.specs.Prelude.{ℕ, ◌+◌, ◌==◌, List, count_by}
 use Rattle.std.specs.List.{suffix_len}
 use Rattle.std.specs.Prelude.{not}
@@ -7,7 +7,8 @@ use Rattle.capnp_source_text.specs.declared.positions.Position.{Position}
 abbrev pub line_feed : ℕ
 line_feed = 10
 
--- The place behind a text: its line is one past its line feeds, and its column one past the bytes behind the last of them.
+-- The position after a text: its line is one more than its line feeds, its column one more than the bytes after the
+-- last line feed.
 abbrev pub position_behind : List ℕ → Position
 position_behind bs = record {
   line = count_by (λ b. b == line_feed) bs + 1;

@@ -5,11 +5,11 @@ use Rattle.capnp_source_text.specs.declared.tokens.Token.{Token}
 use Rattle.capnp_source_text.specs.declared.tokens.TokenFault.{TokenFault}
 use Rattle.capnp_source_text.specs.declared.tokens.TokenFault.TheVariants as F
 
--- How many bytes the mark of UTF-8 takes at the front: EF BB BF.
+-- The number of bytes of the byte order mark of UTF-8 at the front: EF BB BF.
 abbrev pub mark_length : List ℕ → ℕ
 mark_length bs = if (slice_index bs 0 == 0xef) && (slice_index bs 1 == 0xbb) && (slice_index bs 2 == 0xbf) then 3 else 0
 
--- Where the next token begins: behind blanks.
+-- The place of the next token: after blanks.
 abbrev pub next_start : List ℕ → ℕ → ℕ
 next_start text from = from + blanks_end 0 false (drop from text)
 
@@ -21,7 +21,8 @@ token_at text start = option_map (λ x. record { kind = x.kind; start = start; e
 abbrev pub LiesIn : List ℕ → Token → Type 0
 LiesIn text t = (t.start < t.end) × (t.end ≤ length text)
 
--- The tokens between two offsets, at the first of which the next begins: each begins behind the blanks that follow the one before.
+-- The tokens between two offsets. The first token begins at the first offset, and each later one after the blanks that
+-- follow the one before.
 abbrev pub AreTokensFrom : List ℕ → ℕ → ℕ → List Token → Type 0
 AreTokensFrom text last start [] = start ≡ last
 AreTokensFrom text last start (t ∷ ts) = (token_at text start ≡ Some t) × AreTokensFrom text last (next_start text t.end) ts

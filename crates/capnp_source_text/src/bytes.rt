@@ -1,37 +1,37 @@
-//! What single bytes of a schema source may be.
+//! Classes of the single bytes of a schema source.
 
 ghost use Rattle.std.specs.Prelude.{◌≡◌, ◌<◌, IfSome};
 ghost use Rattle.capnp_source_text.specs.Bytes.{is_space, is_name_start, is_name_byte, is_number_byte, is_operator_byte, is_in, digit_of};
 
-/// Whether a byte is white space.
+/// Returns whether a byte is white space.
 pub fn is_space(byte: u8) -> bool
     ensures { result ≡ is_space byte }
 {
     matches!(byte, b' ' | 9..=13)
 }
 
-/// Whether a name may begin with a byte.
+/// Returns whether a name may begin with a byte.
 pub fn is_name_start(byte: u8) -> bool
     ensures { result ≡ is_name_start byte }
 {
     byte.is_ascii_alphabetic() || byte == b'_'
 }
 
-/// Whether a byte may stand in a name.
+/// Returns whether a name may contain a byte.
 pub fn is_name_byte(byte: u8) -> bool
     ensures { result ≡ is_name_byte byte }
 {
     is_name_start(byte) || byte.is_ascii_digit()
 }
 
-/// Whether a byte may stand in a number.
+/// Returns whether a number may contain a byte.
 pub fn is_number_byte(byte: u8) -> bool
     ensures { result ≡ is_number_byte byte }
 {
     is_name_byte(byte) || byte == b'.'
 }
 
-/// Whether a byte may stand in an operator.
+/// Returns whether an operator may contain a byte.
 pub fn is_operator_byte(byte: u8) -> bool
     ensures { result ≡ is_operator_byte byte }
 {
@@ -44,7 +44,7 @@ pub fn is_operator_byte(byte: u8) -> bool
     )
 }
 
-/// What tokens of more than one byte are made of.
+/// The class of the bytes of a token that may have more than one byte.
 #[derive(Clone, Copy, Debug, PartialEq, Eq)]
 pub enum ByteClass {
     Name,
@@ -52,7 +52,7 @@ pub enum ByteClass {
     Operator,
 }
 
-/// Whether a byte is of a class.
+/// Returns whether a byte is of a class.
 pub fn is_in(class: ByteClass, byte: u8) -> bool
     ensures { result ≡ is_in class byte }
 {
@@ -63,7 +63,7 @@ pub fn is_in(class: ByteClass, byte: u8) -> bool
     }
 }
 
-/// The value of a hexadecimal digit, of either case; `None` of another byte.
+/// Returns the value of a hexadecimal digit in either case, or `None` for another byte.
 pub fn digit_of(byte: u8) -> Option<u8>
     ensures value { result ≡ digit_of byte }
     ensures small { IfSome result (λ d. d < 16) }

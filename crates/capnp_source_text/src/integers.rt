@@ -1,20 +1,20 @@
-//! What integer literals mean.
+//! Values of integer literals.
 
 ghost use Rattle.std.specs.Prelude.{◌≡◌, ℕ, ◌≤◌, ◌+◌, ◌*◌};
 ghost use Rattle.capnp_source_text.specs.Integers.{fitting, digit_in, digits_in, integer_of};
 
 use crate::bytes::digit_of;
 
-/// Why a literal is no integer.
+/// The reason why a literal is not an integer.
 #[derive(Clone, Copy, Debug, PartialEq, Eq)]
 pub enum IntegerFault {
-    /// It isn't of the form of one.
+    /// The literal doesn't have the form of an integer.
     Malformed,
-    /// Its value takes more than 64 bits.
+    /// The value takes more than 64 bits.
     TooLarge,
 }
 
-/// The value of a digit of a base; `None` of another byte.
+/// Returns the value of a digit of a base, or `None` for another byte.
 fn digit_in(base: u8, byte: u8) -> Option<u8>
     ensures { result ≡ digit_in base byte }
 {
@@ -24,8 +24,8 @@ fn digit_in(base: u8, byte: u8) -> Option<u8>
     }
 }
 
-/// A number with one more digit behind it; `None` where it takes more than 64 bits, or took them
-/// before.
+/// Returns a number with one more digit appended, or `None` if the result takes more than 64 bits
+/// or the number already did.
 fn with_digit(value: Option<u64>, base: u8, digit: u8) -> Option<u64>
     requires { 1 ≤ base }
     ensures { (n : ℕ) → value ≡ fitting n → result ≡ fitting (n * base + digit) }
@@ -35,7 +35,7 @@ fn with_digit(value: Option<u64>, base: u8, digit: u8) -> Option<u64>
         .checked_add(u64::from(digit))
 }
 
-/// The number that digits of a base spell.
+/// Returns the number that digits of a base spell.
 fn digits_in(base: u8, digits: &[u8]) -> Result<u64, IntegerFault>
     requires { 1 ≤ base }
     ensures { result ≡ digits_in base digits.now }
@@ -53,11 +53,11 @@ fn digits_in(base: u8, digits: &[u8]) -> Result<u64, IntegerFault>
     value.ok_or(IntegerFault::TooLarge)
 }
 
-/// The number that an integer literal means: `0x` and hexadecimal digits, a zero and octal digits,
+/// Returns the value of an integer literal: `0x` and hexadecimal digits, a zero and octal digits,
 /// or decimal digits.
 ///
-/// - `Malformed` where it is of no such form.
-/// - `TooLarge` where its value takes more than 64 bits.
+/// - `Malformed`: the literal has none of these forms.
+/// - `TooLarge`: its value takes more than 64 bits.
 pub fn integer_of(literal: &[u8]) -> Result<u64, IntegerFault>
     ensures { result ≡ integer_of literal.now }
 {

@@ -1,4 +1,4 @@
-//! What stands at the front of a source: blanks, or one token.
+//! The front of a source: blanks, or one token.
 
 ghost use Rattle.std.specs.Prelude.{◌≡◌, ◌+◌, ◌<◌, ◌≤◌, ◌==◌, true, false, position, length, slice_index, IfSome};
 ghost use Rattle.std.specs.List.{prefix_len};
@@ -7,7 +7,7 @@ ghost use Rattle.capnp_source_text.specs.Lexemes.{blanks_end, ends_in_exponent, 
 
 use crate::bytes::{ByteClass, is_in, is_name_start, is_operator_byte, is_space};
 
-/// What a token is.
+/// The kind of a token.
 #[derive(Clone, Copy, Debug, PartialEq, Eq)]
 pub enum TokenKind {
     /// A name or a word of the language.
@@ -16,7 +16,7 @@ pub enum TokenKind {
     Number,
     /// A text between quotes.
     Text,
-    /// Bytes between quotes behind `0x`.
+    /// Bytes between quotes, after `0x`.
     Bytes,
     /// One or more bytes of operators.
     Operator,
@@ -34,11 +34,11 @@ pub enum TokenKind {
 #[derive(Clone, Copy, Debug, PartialEq, Eq)]
 pub struct Lexeme {
     pub kind: TokenKind,
-    /// How many bytes it has.
+    /// The number of bytes of the token.
     pub len: usize,
 }
 
-/// How many bytes of white space and comments stand at the front of a text.
+/// Returns the number of bytes of white space and comments at the front of a text.
 pub fn blank_length(text: &[u8]) -> usize
     ensures value { result ≡ blanks_end 0 false text.now }
     ensures within { result ≤ length text.now }
@@ -60,7 +60,7 @@ pub fn blank_length(text: &[u8]) -> usize
     passed
 }
 
-/// How many bytes at the front of a text are of a class.
+/// Returns the number of bytes at the front of a text that are of a class.
 fn run_length(text: &[u8], class: ByteClass) -> usize
     ensures value { result ≡ prefix_len (is_in class) text.now }
     ensures within { result ≤ length text.now }
@@ -73,7 +73,7 @@ fn run_length(text: &[u8], class: ByteClass) -> usize
     text.len()
 }
 
-/// Whether the front of a number ends in the letter of an exponent.
+/// Returns whether the front of a number ends in the letter of an exponent.
 fn ends_in_exponent(front: &[u8]) -> bool
     ensures { result ≡ ends_in_exponent front.now }
 {
@@ -84,8 +84,8 @@ fn ends_in_exponent(front: &[u8]) -> bool
     }
 }
 
-/// How many bytes of a number stand at the front of a text. Behind the letter of an exponent a sign
-/// may stand in it.
+/// Returns the number of bytes of the number at the front of a text. A sign may follow the letter
+/// of an exponent.
 fn number_length(text: &[u8]) -> usize
     ensures value { result ≡ number_length text.now }
     ensures within { result ≤ length text.now }
@@ -100,8 +100,8 @@ fn number_length(text: &[u8]) -> usize
     }
 }
 
-/// The place of the quote that ends a text whose first quote stands before the bytes; `None` where
-/// its line or the source ends first.
+/// Returns the place of the quote that ends a text whose first quote comes right before the bytes.
+/// Returns `None` if the line or the source ends first.
 fn closing_place(bytes: &[u8]) -> Option<usize>
     ensures value { result ≡ closing_place 0 false bytes.now }
     ensures within { IfSome result (λ n. n < length bytes.now) }
@@ -123,7 +123,7 @@ fn closing_place(bytes: &[u8]) -> Option<usize>
     None
 }
 
-/// The token that a text is whose first quote stands before the bytes.
+/// Returns the token of a text whose first quote comes right before the bytes.
 fn text_lexeme(inside: &[u8]) -> Option<Lexeme>
     ensures value { result ≡ text_lexeme inside.now }
     ensures within { IfSome result (λ t. (2 ≤ t.len) × (t.len ≤ length inside.now + 1)) }
@@ -135,7 +135,7 @@ fn text_lexeme(inside: &[u8]) -> Option<Lexeme>
     })
 }
 
-/// The place of the first quote.
+/// Returns the place of the first quote.
 fn quote_place(bytes: &[u8]) -> Option<usize>
     ensures value { result ≡ position (λ b. b == 34) bytes.now }
     ensures within { IfSome result (λ n. n < length bytes.now) }
@@ -143,7 +143,7 @@ fn quote_place(bytes: &[u8]) -> Option<usize>
     bytes.iter().position(|byte| *byte == b'"')
 }
 
-/// The token that a literal of bytes is whose first quote stands before the bytes.
+/// Returns the token of a literal of bytes whose first quote comes right before the bytes.
 fn bytes_lexeme(inside: &[u8]) -> Option<Lexeme>
     ensures value { result ≡ bytes_lexeme inside.now }
     ensures within { IfSome result (λ t. (4 ≤ t.len) × (t.len ≤ length inside.now + 3)) }
@@ -155,7 +155,7 @@ fn bytes_lexeme(inside: &[u8]) -> Option<Lexeme>
     })
 }
 
-/// The kind of a token that is this one byte.
+/// Returns the kind of the token that consists of one byte.
 fn mark_of(byte: u8) -> Option<TokenKind>
     ensures { result ≡ mark_of byte }
 {
@@ -172,7 +172,7 @@ fn mark_of(byte: u8) -> Option<TokenKind>
     }
 }
 
-/// Whether a text begins as a literal of bytes does: with `0x` and a quote.
+/// Returns whether a text begins like a literal of bytes: with `0x` and a quote.
 fn begins_bytes(text: &[u8]) -> bool
     ensures value { result ≡ begins_bytes text.now }
     ensures within { result ≡ true → 3 ≤ length text.now }
@@ -180,7 +180,7 @@ fn begins_bytes(text: &[u8]) -> bool
     matches!(text, [b'0', b'x', b'"', ..])
 }
 
-/// The token at the front of a text that begins with a byte, no quote.
+/// Returns the token at the front of a text that begins with this byte, which is not a quote.
 #[tactic(auto, using(crate::proofs::Runs::prefix_first))]
 fn plain_lexeme(text: &[u8], first: u8) -> Option<Lexeme>
     requires nonempty { 0 < length text.now }
@@ -211,8 +211,8 @@ fn plain_lexeme(text: &[u8], first: u8) -> Option<Lexeme>
     }
 }
 
-/// The token at the front of a text. `None` where no token begins with its first byte, or where a
-/// literal there has no end; for an empty text too.
+/// Returns the token at the front of a text. Returns `None` if no token begins with the first byte,
+/// if a literal there has no end, or if the text is empty.
 pub fn lexeme_of(text: &[u8]) -> Option<Lexeme>
     ensures value { result ≡ lexeme_of text.now }
     ensures within { IfSome result (λ t. (1 ≤ t.len) × (t.len ≤ length text.now)) }

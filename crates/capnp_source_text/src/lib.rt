@@ -1,4 +1,4 @@
-//! The text of schema sources: its tokens, what its literals mean, and where things stand in it.
+//! The text of schema sources: tokens, values of literals, and positions.
 #![tactic(auto)]
 
 pub mod bytes;

@@ -1,4 +1,4 @@
-//! What texts and literals of bytes mean.
+//! Values of texts and of literals of bytes.
 
 ghost use Rattle.std.specs.Prelude.{◌≡◌, ◌≢◌, ◌≤◌, ◌<◌, ◌+◌, length, slice_index, IfOk, IfErr, IfSome};
 ghost use Rattle.std.specs.List.{prefix_len};
@@ -8,22 +8,22 @@ ghost use Rattle.capnp_source_text.specs.Literals.{octal_at, named_escape, hex_b
 use crate::bytes::{digit_of, is_space};
 use std::alloc::{AllocError, AllocFailed, Global};
 
-/// One byte that a literal means.
+/// One byte of the value of a literal.
 #[derive(Clone, Copy, Debug, PartialEq, Eq)]
 pub struct Piece {
     pub byte: u8,
-    /// How many bytes of the source it takes.
+    /// The number of bytes that it takes in the source.
     pub len: usize,
 }
 
-/// Why a literal means nothing.
+/// The reason why a literal has no value.
 #[derive(Clone, Copy, Debug, PartialEq, Eq)]
 pub enum LiteralFault {
-    /// What stands at this offset inside means no byte.
+    /// No byte is spelled at this offset between the quotes.
     Piece(usize),
-    /// There is nothing inside, where at least one byte has to be.
+    /// Nothing is between the quotes, and at least one byte is needed.
     Empty,
-    /// A growth was refused.
+    /// An allocation was refused.
     Memory,
 }
 
@@ -49,7 +49,7 @@ impl<T: Drop> From<AllocFailed<T>> for LiteralFault {
     }
 }
 
-/// The byte at a place; 0 behind the end.
+/// Returns the byte at a place, or 0 after the end.
 fn byte_at(text: &[u8], place: usize) -> u8
     ensures value { result ≡ slice_index text.now place }
     ensures within { result ≢ 0 → place < length text.now }
@@ -57,7 +57,7 @@ fn byte_at(text: &[u8], place: usize) -> u8
     if place < text.len() { text[place] } else { 0 }
 }
 
-/// The octal digit at a place.
+/// Returns the octal digit at a place.
 fn octal_at(text: &[u8], place: usize) -> Option<u16>
     ensures value { result ≡ octal_at text.now place }
     ensures within { IfSome result (λ d. (d < 8) × (place < length text.now)) }
@@ -70,7 +70,7 @@ fn octal_at(text: &[u8], place: usize) -> Option<u16>
     }
 }
 
-/// The byte that a letter or a sign means behind a backslash.
+/// Returns the byte that a letter or a sign means after a backslash.
 fn named_escape(byte: u8) -> Option<u8>
     ensures value { result ≡ named_escape byte }
     ensures within { IfSome result (λ _. byte ≢ 0) }
@@ -88,7 +88,7 @@ fn named_escape(byte: u8) -> Option<u8>
     }
 }
 
-/// The byte of two hexadecimal digits.
+/// Returns the byte that two hexadecimal digits spell.
 fn hex_byte(high: u8, low: u8) -> Option<u8>
     ensures value { result ≡ hex_byte high low }
     ensures within { IfSome result (λ _. (high ≢ 0) × (low ≢ 0)) }
@@ -98,7 +98,7 @@ fn hex_byte(high: u8, low: u8) -> Option<u8>
     Some(16 * high + low)
 }
 
-/// A byte with this value and length; `None` where the value is above 255.
+/// Returns a byte with this value and length, or `None` if the value is above 255.
 fn small_piece(value: u16, len: usize) -> Option<Piece>
     ensures { result ≡ small_piece value len }
 {
@@ -111,8 +111,8 @@ fn small_piece(value: u16, len: usize) -> Option<Piece>
     })
 }
 
-/// The byte of one to three octal digits behind a backslash. `None` where no digit stands there, or
-/// where the number is above 255.
+/// Returns the byte that one to three octal digits after a backslash spell. Returns `None` if there
+/// is no digit, or if the number is above 255.
 fn octal_escape(behind: &[u8]) -> Option<Piece>
     ensures value { result ≡ octal_escape behind.now }
     ensures within { IfSome result (λ p. (2 ≤ p.len) × (p.len ≤ length behind.now + 1)) }
@@ -127,8 +127,8 @@ fn octal_escape(behind: &[u8]) -> Option<Piece>
     small_piece(64 * first + 8 * second + third, 4)
 }
 
-/// The byte that an escape means, by what stands behind its backslash. The backslash is in its
-/// length.
+/// Returns the byte of an escape, which is given by the bytes after its backslash. The length
+/// includes the backslash.
 fn escape_of(behind: &[u8]) -> Option<Piece>
     ensures value { result ≡ escape_of behind.now }
     ensures within { IfSome result (λ p. (2 ≤ p.len) × (p.len ≤ length behind.now + 1)) }
@@ -145,8 +145,8 @@ fn escape_of(behind: &[u8]) -> Option<Piece>
     Some(Piece { byte, len: 2 })
 }
 
-/// The byte at the front of what stands between the quotes of a text: itself, or what an escape
-/// means. `None` where there is no byte or no such escape.
+/// Returns the byte at the front of a text without its first quote: the byte itself, or that of an
+/// escape. Returns `None` if there is no byte or no such escape.
 pub fn piece_of(inside: &[u8]) -> Option<Piece>
     ensures value { result ≡ piece_of inside.now }
     ensures within { IfSome result (λ p. (1 ≤ p.len) × (p.len ≤ length inside.now)) }
@@ -161,8 +161,8 @@ pub fn piece_of(inside: &[u8]) -> Option<Piece>
     }
 }
 
-/// The bytes of a text, by what stands between its quotes. `Piece` tells where it has an escape that
-/// means no byte.
+/// Returns the bytes of a text, which is given without its quotes. `Piece` has the offset of an
+/// escape that spells no byte.
 pub fn text_of(alloc: Global, inside: &[u8]) -> Result<Vec<u8>, LiteralFault>
     ensures ok { IfOk result (λ v. IsText inside.now v.items) }
     ensures err { IfErr result (IsTextFault inside.now) }
@@ -179,7 +179,7 @@ pub fn text_of(alloc: Global, inside: &[u8]) -> Result<Vec<u8>, LiteralFault>
     Ok(made)
 }
 
-/// How many bytes of white space stand at the front of a text.
+/// Returns the number of bytes of white space at the front of a text.
 fn space_length(text: &[u8]) -> usize
     ensures value { result ≡ prefix_len is_space text.now }
     ensures within { result ≤ length text.now }
@@ -192,8 +192,8 @@ fn space_length(text: &[u8]) -> usize
     text.len()
 }
 
-/// The byte at the front of what stands between the quotes of a literal of bytes: white space and
-/// two hexadecimal digits. `None` where they aren't there.
+/// Returns the byte at the front of a literal of bytes without its first quote: white space and two
+/// hexadecimal digits. Returns `None` if the digits aren't there.
 pub fn pair_of(inside: &[u8]) -> Option<Piece>
     ensures value { result ≡ pair_of inside.now }
     ensures within { IfSome result (λ p. (1 ≤ p.len) × (p.len ≤ length inside.now)) }
@@ -207,15 +207,15 @@ pub fn pair_of(inside: &[u8]) -> Option<Piece>
     })
 }
 
-/// Whether there is only white space.
+/// Returns whether a text has only white space.
 fn is_blank(text: &[u8]) -> bool
     ensures { result ≡ is_blank text.now }
 {
     space_length(text) == text.len()
 }
 
-/// The bytes of a literal, by what stands between its quotes. `Piece` tells where two hexadecimal
-/// digits are missed, and `Empty` that there are none at all.
+/// Returns the bytes of a literal of bytes, which is given without its quotes. `Piece` has the
+/// offset at which two hexadecimal digits are missing. `Empty` says that there are no digits.
 pub fn bytes_of(alloc: Global, inside: &[u8]) -> Result<Vec<u8>, LiteralFault>
     ensures ok { IfOk result (λ v. IsBytes inside.now v.items) }
     ensures err { IfErr result (IsBytesFault inside.now) }

@@ -1,16 +1,17 @@
-//! Where things stand in a source.
+//! Lines and columns of a source.
 
 ghost use Rattle.std.specs.Prelude.{◌≡◌, take};
 ghost use Rattle.capnp_source_text.specs.Positions.{position_behind};
 
-/// The line and the column of a place, each from 1. A column is one byte.
+/// A line and a column, each counted from 1. A column is one byte.
 #[derive(Clone, Copy, Debug, PartialEq, Eq)]
 pub struct Position {
     pub line: usize,
     pub column: usize,
 }
 
-/// The place behind the first `count` bytes of a text; behind all of them where it has fewer.
+/// Returns the position after the first `count` bytes of a text, or after all its bytes if there
+/// are fewer.
 pub fn position_behind(text: &[u8], count: usize) -> Position
     ensures { result ≡ position_behind (take count text.now) }
 {

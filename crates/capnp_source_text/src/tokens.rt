@@ -1,4 +1,4 @@
-//! The tokens of a source.
+//! Tokens of a source.
 
 ghost use Rattle.std.specs.Prelude.{◌≡◌, ◌<◌, ◌≤◌, length, All, IfOk, IfErr, IfSome};
 ghost use Rattle.capnp_source_text.specs.Tokens.{mark_length, next_start, token_at, LiesIn, AreTokens, IsTokenFault};
@@ -10,18 +10,18 @@ use std::alloc::{AllocError, AllocFailed, Global};
 #[derive(Clone, Copy, Debug, PartialEq, Eq)]
 pub struct Token {
     pub kind: TokenKind,
-    /// The offset of its first byte.
+    /// The offset of the token's first byte.
     pub start: usize,
-    /// The offset behind its last byte.
+    /// The offset after the token's last byte.
     pub end: usize,
 }
 
-/// Why a source has no tokens.
+/// The reason why a source has no tokens.
 #[derive(Clone, Copy, Debug, PartialEq, Eq)]
 pub enum TokenFault {
-    /// No token begins at this offset, or the one that begins there has no end.
+    /// No token begins at this offset, or the token that begins there has no end.
     NoToken(usize),
-    /// A growth was refused.
+    /// An allocation was refused.
     Memory,
 }
 
@@ -47,7 +47,8 @@ impl<T: Drop> From<AllocFailed<T>> for TokenFault {
     }
 }
 
-/// How many bytes the mark of UTF-8 takes at the front of a source; 0 where it has none.
+/// Returns the number of bytes of the byte order mark of UTF-8 at the front of a source, or 0
+/// without a mark.
 fn mark_length(text: &[u8]) -> usize
     ensures value { result ≡ mark_length text.now }
     ensures within { result ≤ length text.now }
@@ -58,8 +59,8 @@ fn mark_length(text: &[u8]) -> usize
     }
 }
 
-/// The offset at which the next token begins, behind blanks from an offset on; that of the end where
-/// there is none.
+/// Returns the offset of the next token, after the blanks that begin at an offset. Returns the
+/// offset of the end if there is no further token.
 fn next_start(text: &[u8], from: usize) -> usize
     requires { from ≤ length text.now }
     ensures value { result ≡ next_start text.now from }
@@ -69,7 +70,7 @@ fn next_start(text: &[u8], from: usize) -> usize
     from + blank_length(&text[from..])
 }
 
-/// The token at an offset.
+/// Returns the token at an offset.
 fn token_at(text: &[u8], start: usize) -> Option<Token>
     requires { start ≤ length text.now }
     ensures value { result ≡ token_at text.now start }
@@ -83,8 +84,8 @@ fn token_at(text: &[u8], start: usize) -> Option<Token>
     })
 }
 
-/// The tokens of a source in their order, without white space and comments. `NoToken` tells the
-/// first offset where a token has to begin and none does.
+/// Returns the tokens of a source in order, without white space and comments. `NoToken` has the
+/// first offset at which a token has to begin and none does.
 pub fn tokens(alloc: Global, text: &[u8]) -> Result<Vec<Token>, TokenFault>
     ensures ok { IfOk result (λ v. AreTokens text.now v.items) }
     ensures within { IfOk result (λ v. All (LiesIn text.now) v.items) }

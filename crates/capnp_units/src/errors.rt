@@ -1,4 +1,4 @@
-//! What a function returns that refuses.
+//! The error and the result of functions that may refuse.
 ghost use Rattle.std.specs.Prelude.{◌≡◌, Some};
 ghost use Rattle.capnp_model.specs.Kinds.{kind_name};
 ghost use Rattle.capnp_units.specs.Errors.{kind_of};
@@ -8,7 +8,7 @@ use crate::kinds::ErrorKind;
 use std::alloc::{AllocError, AllocFailed};
 use std::fmt;
 
-/// Why a function refused: the kind alone.
+/// The reason why a function refused: only the kind.
 #[derive(Clone, Copy, Debug, PartialEq, Eq, thiserror::Error)]
 pub struct Error {
     pub kind: ErrorKind,
@@ -49,5 +49,5 @@ impl<T: Drop> From<AllocFailed<T>> for Error {
     }
 }
 
-/// What a function returns that may refuse.
+/// The result of a function that may refuse.
 pub type Result<T> = std::result::Result<T, Error>;

@@ -1,4 +1,4 @@
-//! Iterators over lists whose items are made at each call.
+//! Iterators over lists that make their items when they are asked for.
 ghost use Rattle.std.specs.Prelude.{◌≡◌, ℕ, ◌+◌, ◌-◌, ◌<◌, ◌≤◌, Some, IfSome, length, drop, slice_get, slice_index};
 ghost use Rattle.std.specs.Option.{option_map};
 ghost use Rattle.std.specs.Iterator.{YieldsFirstBy, YieldsLastBy, item_count, UpTo, IsFinite};
@@ -6,20 +6,20 @@ ghost use Rattle.std.specs.Iterator.SizeHint.{IsWithinCount};
 
 use std::marker::PhantomData;
 
-/// A number by which a list is asked for its items.
+/// A number that names an item of a list.
 pub trait ListIndex: Copy {
     /// The number.
     ghost number: { Self → ℕ };
 
-    /// How many numbers there are.
+    /// The count of numbers of this type.
     ghost bound: { ℕ };
 
-    /// The number as a count.
+    /// Returns the number as a count.
     fn count(self) -> u32
         ensures same { result ≡ number self }
         ensures within { result < bound };
 
-    /// The index of a number.
+    /// Returns the index of a number.
     fn at(count: u32) -> Self
         requires { count < bound }
         ensures { number result ≡ count };
@@ -53,27 +53,27 @@ impl ListIndex for u32 {
     }
 }
 
-/// A list whose items are made at each call.
+/// A list that makes its items when they are asked for.
 pub trait IndexMove<I: ListIndex, T> {
-    /// What a clause reads of an item.
+    /// The part of an item that clauses see.
     ghost Shown: { Type 0 };
 
-    /// How an item is read.
+    /// Reads this part of an item.
     ghost shown: { T → Shown };
 
-    /// How many items there are.
+    /// The number of items.
     ghost count: { Self → ℕ };
 
-    /// What is read of the item at an index.
+    /// The part that clauses see of the item at an index.
     ghost at: { Self → ℕ → Shown };
 
-    /// The item at an index, which is below the count.
+    /// Returns the item at an index, which is below the count.
     fn index_move(&self, index: I) -> T
         requires { I.number index < count self.now }
         ensures { shown result ≡ at self.now (I.number index) };
 }
 
-/// The items of a list at 0 to a size less one, from both ends. Each call makes one item at most.
+/// The items of a list at 0 to a size less one, from both ends. Each call makes at most one item.
 #[derive(Drop)]
 pub struct ItemIter<I: ListIndex, L: IndexMove<I, T>, T> {
     indices: PhantomData<I>,
@@ -86,16 +86,16 @@ pub struct ItemIter<I: ListIndex, L: IndexMove<I, T>, T> {
     ghost inside: { size ≤ L.count list },
 }
 
-/// The items of a list whose indices are of type `u32`.
+/// The items of a list whose indices have the type `u32`.
 pub type ListIter<L, T> = ItemIter<u32, L, T>;
 
-/// The items of a list whose indices are of type `u16`.
+/// The items of a list whose indices have the type `u16`.
 pub type ShortListIter<L, T> = ItemIter<u16, L, T>;
 
 impl<I: ListIndex, L: IndexMove<I, T> + Drop, T: Drop> ItemIter<I, L, T> {
     ghost use Rattle.capnp_units.specs.Items.{items_from, items_left};
 
-    /// The items at 0 to `size` less one, which the list has.
+    /// Makes an iterator over the items at 0 to `size` less one, which the list has.
     pub fn new(list: L, size: I) -> ItemIter<I, L, T>
         requires { I.number size ≤ L.count list }
         ensures { items_left L.at result ≡ items_from (L.at list) 0 (I.number size) }
@@ -109,8 +109,8 @@ impl<I: ListIndex, L: IndexMove<I, T> + Drop, T: Drop> ItemIter<I, L, T> {
         }
     }
 
-    /// Passes over `n` items, or all where fewer are left, and gives the next. It makes that one
-    /// alone.
+    /// Passes `n` items, or all items if fewer are left, and returns the next. Only the returned
+    /// item is made.
     #[tactic(auto, using(crate::proofs::ItemsLemmas::item_at, crate::proofs::ItemsLemmas::no_item_at, crate::proofs::ItemsLemmas::items_behind, crate::proofs::ItemsLemmas::none_behind))]
     pub fn nth(&mut self, n: usize) -> Option<T>
         ensures item { option_map L.shown result ≡ slice_get (items_left L.at self.old) n }
@@ -146,7 +146,7 @@ impl<I: ListIndex, L: IndexMove<I, T> + Drop, T: Drop> Iterator for ItemIter<I, 
         Some(first)
     }
 
-    /// How many items are left, twice.
+    /// Returns the number of items that are left, twice.
     #[tactic(auto, using(crate::proofs::ItemsLemmas::length_items))]
     fn size_hint(&self) -> (usize, Option<usize>)
         ensures exact { result ≡ (

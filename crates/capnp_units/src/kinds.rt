@@ -1,21 +1,22 @@
-//! The kinds of refusals, one enumeration for the layout, messages, schemas and calls.
+//! The kinds of refusals: one enumeration for the layout, messages, schemas and calls.
 ghost use Rattle.std.specs.Prelude.{◌≡◌, Some};
 ghost use Rattle.capnp_model.specs.Kinds.{kind_name};
 ghost use Rattle.capnp_units.specs.Errors.{kind_of};
 
 use std::fmt;
 
-/// Why a call was refused.
+/// The reason why a call was refused.
 #[derive(Clone, Copy, Debug, PartialEq, Eq, thiserror::Error)]
 pub enum ErrorKind {
-    /// An object, a landing pad or a segment isn't there, or elements lie past a composite list's
+    /// An object, a landing pad or a segment isn't there, or elements are past a composite list's
     /// words.
     OutOfBounds,
-    /// A far pointer stands in a landing pad's describing place.
+    /// A far pointer is in the place of a landing pad's describing word.
     MalformedFarPointer,
-    /// A struct, list, text or data was expected, or a tag isn't of struct form.
+    /// A struct, list, text or data was expected, or a tag doesn't have the form of a struct
+    /// pointer.
     WrongPointerKind,
-    /// A list's element size isn't accepted where it is read.
+    /// A list's element size isn't accepted by the function that reads it.
     WrongElementSize,
     /// The value is nested deeper than the limit.
     NestingLimitExceeded,
@@ -25,25 +26,25 @@ pub enum ErrorKind {
     CapabilityInCanonical,
     /// A text doesn't end with a zero byte.
     TextWithoutZeroByte,
-    /// A pointer of the fourth form is no capability.
+    /// A pointer of the fourth form is not a capability.
     UnknownPointerType,
-    /// A list count, composite words or a message's words would pass 2^29 - 1.
+    /// A list count, composite words or a message's words would exceed 2^29 - 1.
     SizeOverflow,
-    /// A growth was refused.
+    /// An allocation was refused.
     OutOfMemory,
     /// A message's segment count isn't 1 to 511.
     InvalidNumberOfSegments,
-    /// The input ended within a message, or within bytes that were asked for.
+    /// The input ended within a message, or within the bytes that were requested.
     FailedToFillTheWholeBuffer,
     /// Packed input ended within a word.
     PrematureEndOfPackedInput,
-    /// A run of packed words passed the end of what was asked for.
+    /// A run of packed words passed the end of the requested words.
     PackedInputDidNotEndCleanlyOnASegmentBoundary,
     /// A message has more words than the limit.
     MessageTooLarge,
     /// A buffer or a slice that is written to is too short.
     BufferNotLargeEnough,
-    /// No byte was left where a message was expected.
+    /// No byte was left, and a message was expected.
     PrematureEndOfFile,
     /// A flat slice or buffer ends before its message.
     MessageEndsPrematurely,
@@ -57,7 +58,7 @@ pub enum ErrorKind {
     FieldAndDefaultMismatch,
     /// A struct was expected.
     NotAStruct,
-    /// A group field's type is no struct.
+    /// A group field's type is not a struct.
     GroupFieldButTypeIsNotStruct,
     /// `init` was called for another field.
     InitIsOnlyValidForStructAndAnyPointerFields,
@@ -86,7 +87,7 @@ pub enum ErrorKind {
 }
 
 impl ErrorKind {
-    /// The kind's name, as logs and fault lines give it.
+    /// Returns the kind's name, as logs and fault lines have it.
     pub fn name(self) -> &'static str
         ensures { result.now ≡ kind_name (kind_of self) }
     {

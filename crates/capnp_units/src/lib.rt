@@ -1,5 +1,5 @@
-//! What the layers of the runtime share: the kinds of refusals and the error that carries one,
-//! units, sizes, the budget of a reader, and segments.
+//! Items that all layers of the runtime share: the kinds of refusals and the error that carries
+//! one, units, sizes, the budget of a reader, and segments.
 #![tactic(auto)]
 
 pub mod errors;

@@ -7,9 +7,9 @@ ghost use Rattle.capnp_units.specs.declared.kinds.ErrorKind.TheVariants.{ReadLim
 use crate::errors::{Error, Result};
 use crate::kinds::ErrorKind;
 
-/// How many words may still be read, and what was read so far.
+/// The number of words that may still be read, and of those that were read so far.
 ///
-/// The words granted never pass the limit, where there is one.
+/// The granted words never exceed the limit, if there is one.
 #[derive(Debug, Drop)]
 pub struct ReadLimiter {
     limit: Option<u64>,
@@ -21,7 +21,7 @@ pub struct ReadLimiter {
 impl ReadLimiter {
     ghost use Rattle.capnp_units.specs.Limits.{limit_of, left_of, granted_of, followed_of, Spends, IsPassed, Follows};
 
-    /// A budget of n words, or without a limit, from which nothing was granted yet.
+    /// Makes a budget of n words, or without a limit. Nothing was granted from it yet.
     pub fn new(limit: Option<u64>) -> ReadLimiter
         ensures limit { limit_of result ≡ limit }
         ensures left { left_of result ≡ limit }
@@ -35,7 +35,7 @@ impl ReadLimiter {
         }
     }
 
-    /// The words that were granted; the count stops at 2^64 - 1.
+    /// Returns the words that were granted. The count stops at 2^64 - 1.
     pub fn granted(&self) -> u64
         ensures value { result ≡ granted_of self.now }
         ensures within { IfSome (limit_of self.now) (λ most. result ≤ most) }
@@ -43,8 +43,8 @@ impl ReadLimiter {
         self.granted
     }
 
-    /// Grants n words. They are refused with `ReadLimitExceeded` where they pass what is left, and
-    /// then nothing changes.
+    /// Grants n words. If they exceed the words that are left, they are refused with
+    /// `ReadLimitExceeded`, and nothing changes.
     pub fn charge(&mut self, words: u64) -> Result<()>
         ensures ok { OnOk result (Spends self.old self.new words) }
         ensures refused { OnErr result ((self.new ≡ self.old) × IsPassed (left_of self.old) words) }
@@ -60,7 +60,7 @@ impl ReadLimiter {
         Ok(())
     }
 
-    /// The source pointers that were followed; the count stops at 2^64 - 1.
+    /// Returns the number of source pointers that were followed. The count stops at 2^64 - 1.
     pub fn followed(&self) -> u64
         ensures { result ≡ followed_of self.now }
     {
@@ -76,8 +76,8 @@ impl ReadLimiter {
         self.followed = self.followed.saturating_add(1);
     }
 
-    /// Counts one more source pointer and grants the n words of what it leads to, where so many are
-    /// left. Else it returns false, and nothing changes.
+    /// Counts one more source pointer, grants the n words of its object and returns true, if that
+    /// many words are left. Otherwise it returns false, and nothing changes.
     #[inline(always)]
     pub fn follow_for(&mut self, words: u64) -> bool
         ensures granted { OnTrue result (Spends self.old self.new words) }

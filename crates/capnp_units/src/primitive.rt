@@ -7,12 +7,12 @@ ghost use Rattle.capnp_model.specs.Sections.{bits_at, with_bits, number_of};
 use crate::units::ByteCount;
 
 /// A whole number of one, two, four or eight bytes, with or without a sign. Bytes hold it with the
-/// lowest first.
+/// lowest byte first.
 pub trait Primitive: Copy {
     /// The bytes of a number.
     ghost BYTES: { ℕ };
 
-    /// The bits of a number; those of a negative one are its two's complement.
+    /// The bits of a number; those of a negative number are its two's complement.
     ghost bits: { Self → ℕ };
 
     /// The number that has these bits.
@@ -21,15 +21,15 @@ pub trait Primitive: Copy {
     /// The bytes of a number: 1, 2, 4 or 8.
     const BYTES: ByteCount;
 
-    /// A number has 1, 2, 4 or 8 bytes, so it lies in one word.
+    /// A number has 1, 2, 4 or 8 bytes, so it fits one word.
     ghost of_a_word: { (BYTES ≡ 1) ⊎ ((BYTES ≡ 2) ⊎ ((BYTES ≡ 4) ⊎ (BYTES ≡ 8))) };
 
-    /// The number in the first bytes.
+    /// Returns the number in the first bytes.
     fn get(bytes: &[u8]) -> Self
         requires { BYTES ≤ length bytes.now }
         ensures value { result ≡ from_bits (bits_at 0 (8 * BYTES) (number_of 8 bytes.now)) };
 
-    /// Writes the number into the first bytes, and leaves the others.
+    /// Writes the number into the first bytes, and leaves the other bytes.
     fn set(bytes: &mut [u8], value: Self)
         requires { BYTES ≤ length bytes.old }
         ensures bits { number_of 8 bytes.new
@@ -44,22 +44,22 @@ pub trait Primitive: Copy {
 
 /// A number whose bits are all zero.
 pub trait Zero: Primitive {
-    /// Zero.
+    /// Returns zero.
     fn zero() -> Self
         ensures bits { Self.bits result ≡ 0 }
         ensures value { result ≡ Self.from_bits 0 };
 }
 
-/// A number that is stored exclusive or its default.
+/// A number that is stored as the exclusive or with its default.
 pub trait Mask: Primitive {
-    /// What stands for a default.
+    /// The type of a default.
     type T: Copy;
 
     /// The bits of a default.
     ghost mask_bits: { Self.T → ℕ };
 
-    /// The number whose bits are those of two numbers, exclusive or. Done twice with one mask it
-    /// gives the number back.
+    /// Returns the number whose bits are the exclusive or of those of two numbers. With the same
+    /// mask a second time it returns the first number.
     fn mask(value: Self, mask: Self::T) -> Self
         ensures value { result ≡ Self.from_bits (bit_xor (Self.bits value) (mask_bits mask)) }
         ensures bits { Self.bits result ≡ bit_xor (Self.bits value) (mask_bits mask) }

@@ -4,21 +4,21 @@ ghost use Rattle.std.specs.Prelude.{◌≡◌, ◌==◌, ℕ, List, length, map,
 use crate::sizes::SegmentId;
 use std::convert::AsSlice;
 
-/// Segments of bytes, which readers read as words of eight; what is past a segment's last whole
-/// word isn't looked at.
+/// Segments of bytes, which readers read as words of eight bytes. Bytes after a segment's last
+/// whole word aren't read.
 pub trait ReaderSegments {
     /// The bytes of each segment.
     ghost segments: { Self → List (List ℕ) };
 
-    /// The bytes of a segment, or none past the last.
+    /// Returns the bytes of a segment, or `None` after the last segment.
     fn get_segment(&self, id: SegmentId) -> Option<&[u8]>
         ensures { option_copied result ≡ slice_get (segments self.now) id };
 
-    /// How many segments there are.
+    /// Returns the number of segments.
     fn len(&self) -> usize
         ensures { result ≡ length (segments self.now) };
 
-    /// Whether there is no segment.
+    /// Returns whether there is no segment.
     fn is_empty(&self) -> bool
         ensures { result ≡ (length (segments self.now) == 0) }
     {
@@ -38,7 +38,7 @@ impl<S: ReaderSegments> ReaderSegments for &S {
     }
 }
 
-/// The bytes of the owner at an index.
+/// Returns the bytes of the owner at an index.
 fn bytes_at<I: AsSlice<u8>>(owners: &[I], index: SegmentId) -> Option<&[u8]>
     ensures { option_copied result ≡ slice_get (map I.items owners.now) index }
 {

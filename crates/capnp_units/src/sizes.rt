@@ -5,13 +5,13 @@ ghost use Rattle.capnp_units.specs.Sizes.{size_number, data_bits, pointer_count,
 
 use crate::units::{BitCount32, WirePointerCount32, WordCount32};
 
-/// Eight bytes, the unit of segments. Numbers lie in it with the lowest byte first.
+/// Eight bytes, the unit of segments. Numbers are in it with the lowest byte first.
 pub type Word = [u8; 8];
 
 /// The number of a segment in its message, from 0 on.
 pub type SegmentId = u32;
 
-/// The bytes of words, lent in place.
+/// Returns the bytes of words, lent in place.
 pub fn words_as_bytes(words: &[Word]) -> &[u8]
     ensures bytes { result.now ≡ flat_map (λ word. word) words.now }
     ensures len { length result.now ≡ 8 * length words.now }
@@ -36,12 +36,12 @@ pub enum ElementSize {
     EightBytes,
     /// One pointer.
     Pointer,
-    /// Structs of one size, which the list's tag word tells.
+    /// Structs of one size, which is in the list's tag word.
     InlineComposite,
 }
 
 impl ElementSize {
-    /// The size of a number from 0 to 7, as bits 32 to 34 of a list pointer have it.
+    /// Returns the size of a number from 0 to 7, as bits 32 to 34 of a list pointer have it.
     pub fn from_number(number: u64) -> ElementSize
         requires { number < 8 }
         ensures { size_number result ≡ number }
@@ -58,7 +58,7 @@ impl ElementSize {
         }
     }
 
-    /// The number that a list pointer has for the size, 0 to 7.
+    /// Returns the number that a list pointer has for the size, 0 to 7.
     pub fn number(self) -> u64
         ensures { result ≡ size_number self }
     {
@@ -75,7 +75,7 @@ impl ElementSize {
     }
 }
 
-/// The bits of data in an element: 0 to 64, and 0 for pointers and structs.
+/// Returns the bits of data in an element: 0 to 64, and 0 for pointers and structs.
 pub fn data_bits_per_element(size: ElementSize) -> BitCount32
     ensures { result ≡ data_bits (size_number size) }
 {
@@ -89,7 +89,7 @@ pub fn data_bits_per_element(size: ElementSize) -> BitCount32
     }
 }
 
-/// The pointers in an element: 1 for pointers, else 0, also for structs.
+/// Returns the pointers in an element: 1 for pointers, otherwise 0, also for structs.
 pub fn pointers_per_element(size: ElementSize) -> WirePointerCount32
     ensures { result ≡ pointer_count (size_number size) }
 {
@@ -104,12 +104,12 @@ pub fn pointers_per_element(size: ElementSize) -> WirePointerCount32
 pub struct StructSize {
     /// Words of the data section.
     pub data_words: u16,
-    /// Pointers, which stand behind the data.
+    /// Pointers, which come after the data.
     pub pointers: u16,
 }
 
 impl StructSize {
-    /// The words of the struct, 0 to 131,070; a pointer takes one.
+    /// Returns the words of the struct, 0 to 131,070. A pointer takes one word.
     pub fn total(&self) -> WordCount32
         ensures { result ≡ self.now.data_words + self.now.pointers }
     {
@@ -120,9 +120,9 @@ impl StructSize {
 /// The form of a pointer that isn't null, 0 to 3 in its lowest two bits.
 #[derive(Clone, Copy, Debug, PartialEq, Eq)]
 pub enum WirePointerKind {
-    /// Of a struct.
+    /// To a struct.
     Struct,
-    /// Of a list.
+    /// To a list.
     List,
     /// To a landing pad, maybe in another segment.
     Far,
@@ -131,7 +131,7 @@ pub enum WirePointerKind {
 }
 
 impl WirePointerKind {
-    /// The kind of a number from 0 to 3.
+    /// Returns the kind of a number from 0 to 3.
     pub fn from_number(number: u64) -> WirePointerKind
         requires { number < 4 }
         ensures { kind_number result ≡ number }
@@ -144,7 +144,7 @@ impl WirePointerKind {
         }
     }
 
-    /// The kind's number, 0 to 3.
+    /// Returns the kind's number, 0 to 3.
     pub fn number(self) -> u64
         ensures { result ≡ kind_number self }
     {
@@ -157,7 +157,7 @@ impl WirePointerKind {
     }
 }
 
-/// What a pointer names, far pointers followed.
+/// The type of a pointer's object, with far pointers followed.
 #[derive(Clone, Copy, Debug, PartialEq, Eq)]
 pub enum PointerType {
     /// Nothing: the pointer's word is zero.
@@ -170,7 +170,7 @@ pub enum PointerType {
     Capability,
 }
 
-/// What a value takes: words of its objects, and capabilities. Each count stops at the greatest
+/// The size of a value: words of its objects, and capabilities. Each count stops at the greatest
 /// number of its type.
 #[derive(Clone, Copy, Debug, PartialEq, Eq)]
 pub struct MessageSize {

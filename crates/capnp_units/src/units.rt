@@ -1,4 +1,4 @@
-//! The unit types of the layout, and how many of one unit another has.
+//! The unit types of the layout, and conversions between units.
 ghost use Rattle.std.specs.Prelude.{◌≡◌, ◌*◌, ◌^◌, ◌<◌};
 ghost use Rattle.std.specs.Mem.{type_size};
 
@@ -74,17 +74,17 @@ pub const WORDS_PER_POINTER: WordCount = 1;
 /// A pointer is one word.
 pub const POINTER_SIZE_IN_WORDS: WordCount = 1;
 
-/// The bytes that a value of a type takes, fewer than 2^64. An element of a list of whole numbers
-/// takes as many.
+/// Returns the bytes that a value of a type takes, fewer than 2^64. An element of a list of whole
+/// numbers takes the same number of bytes.
 pub fn _bytes_per_element<T>() -> ByteCount
     requires { type_size T.row < 2 ^ 64 }
     ensures { result ≡ type_size T.row }
 {
-    // The size of a type parameter stands only in products.
+    // The size of a type parameter may only occur in products.
     1 * size_of::<T>()
 }
 
-/// The bits that a value of a type takes, fewer than 2^64.
+/// Returns the bits that a value of a type takes, fewer than 2^64.
 pub fn bits_per_element<T>() -> BitCount0
     requires { 8 * type_size T.row < 2 ^ 64 }
     ensures { result ≡ 8 * type_size T.row }

@@ -1,4 +1,4 @@
--- Following a pointer against a budget.
+-- Following of a pointer within a budget.
 use Rattle.std.specs.Prelude.{◌≡◌, ℕ, ◌+◌, ◌*◌, ◌==◌, nat_lt, if◌then◌else◌, ◌⊎◌, Bool, true, Result, Ok, Err}
 use Rattle.capnp_model.specs.Kinds.{Kind, NestingLimitExceeded}
 use Rattle.capnp_model.specs.Chains.{◌and_then◌, guard}
@@ -16,8 +16,8 @@ use Rattle.capnp_wire_objects.specs.declared.object.Object.TheVariants as object
 use Rattle.capnp_wire_objects.specs.declared.object.Found.{Found}
 use Rattle.capnp_wire_objects.specs.Objects.{whole, object_at, IsInside}
 
--- What following an object costs by itself: its words. A list of voids costs its count; a list of
--- structs its tag too, and its count where an element has no word.
+-- The cost of following an object by itself: its words. A list of voids costs its count. A list of structs also costs
+-- its tag, and its count if an element has no word.
 abbrev pub own_cost : Object → ℕ
 own_cost object.Null = 0
 own_cost (object.Struct p d k) = d + k
@@ -26,7 +26,7 @@ own_cost (object.PointerList p n) = n
 own_cost (object.StructList p words n d k) = words + 1 + (if d + k == 0 then n else 0)
 own_cost (object.Capability i) = 0
 
--- What following the pointer to it costs, with the pads on the way.
+-- The cost of following the pointer to an object, with the pads on the way.
 abbrev pub follow_cost : Found → ℕ
 follow_cost f = f.pads + own_cost f.object
 
@@ -42,12 +42,12 @@ pub record Pays (s : Segments) (p : Place) (old : ReadLimiter) (o : Object) (new
   pub spends : Spends old new (pads + own_cost o)
   pub follows : Follows old new 1
 
--- What is there can't be followed: there is a fault of the error's kind, or its cost passes what is left.
+-- The object can't be followed: there is a fault of the error's kind, or its cost exceeds the words that are left.
 abbrev pub IsFollowRefusal : Result Found Kind → ReadLimiter → Error → Type 0
 IsFollowRefusal there old e = (there ≡ Err (kind_of e.kind)) ⊎ ((e.kind ≡ ReadLimitExceeded) × (f : Found) × (there ≡ Ok f) × IsPassed (left_of old) (follow_cost f))
 
--- It is refused by the kind of the fault there, or exactly where its cost passes what is left; then
--- no word was granted.
+-- Refused with the kind of the fault there, or exactly when the cost exceeds the words that are left. Then no word was
+-- granted.
 abbrev pub FollowGives : Segments → Place → ReadLimiter → Result Object Error → ReadLimiter → Type 0
 FollowGives s p old (Ok o) new = Pays s p old o new
 FollowGives s p old (Err e) new = KeepsBudget old new × Follows old new 1 × IsFollowRefusal (object_at s p) old e
@@ -64,13 +64,13 @@ levels_suffice n object.Null = true
 levels_suffice n (object.Capability i) = true
 levels_suffice n _ = nat_lt 0 n
 
--- What the pointer at a place names where n levels are left, else the kind of its fault; the levels
--- are asked before the object's words.
+-- The object that the pointer at a place names if n levels are left, otherwise the kind of its fault. The levels are
+-- tested before the object's words.
 unfoldable pub object_within : ℕ → Segments → Place → Result Found Kind
 object_within n s p = model.found_at s p and_then λ f. guard (suffice_for n f.object) NestingLimitExceeded and_then λ _. whole s f.object and_then λ o. Ok (record { pads = f.pads; object = o })
 
--- A pointer was followed to an object that n levels suffice for, and it was paid for. Or it is
--- refused by the kind of the one fault there, or exactly where its own cost passes what is left.
+-- A pointer was followed to an object for which n levels suffice, and the object was paid for. Or it is refused with
+-- the kind of the one fault there, or exactly when its own cost exceeds the words that are left.
 abbrev pub FollowsWithin : ℕ → Segments → Place → ReadLimiter → Result Object Error → ReadLimiter → Type 0
 FollowsWithin n s p old (Ok o) new = Pays s p old o new × (levels_suffice n o ≡ true)
 FollowsWithin n s p old (Err e) new = KeepsBudget old new × Follows old new 1 × IsFollowRefusal (object_within n s p) old e

@@ -1,4 +1,4 @@
--- What an object holds: its own words, and what its pointers lead to. (Encoding, "Structs", "Lists")
+-- The contents of an object: its own words, and the values of its pointers. (Encoding, "Structs", "Lists")
 use Rattle.std.specs.Prelude.{ℕ, ◌*◌, ◌%◌, ◌^◌, List, [], Option, Some, None, unwrap_or}
 use Rattle.capnp_model.specs.Chains.{◌>>=◌}
 use Rattle.capnp_model.specs.Sections.{words_for, section_of}
@@ -11,7 +11,7 @@ use Rattle.capnp_wire_objects.specs.declared.object.Object.{Object}
 use Rattle.capnp_wire_objects.specs.declared.object.Object.TheVariants as object
 use Rattle.capnp_wire_objects.specs.Places.{place_view}
 
--- The section of words that may be there.
+-- The section of words, if there are words.
 abbrev pub section_in : Option (List ℕ) → ℕ
 section_in None = 0
 section_in (Some words) = section_of words
@@ -20,7 +20,7 @@ section_in (Some words) = section_of words
 unfoldable pub section_at : Segments → Place → ℕ → ℕ
 section_at s p n = section_in (words_at s p n)
 
--- n words from a place on, `None` where they aren't there.
+-- n words from a place on, or `None` if they aren't there.
 unfoldable pub words_there : Segments → Place → ℕ → List ℕ
 words_there s p n = unwrap_or (words_at s p n) []
 
@@ -34,14 +34,14 @@ tree_in s below (object.List p size n) =
 tree_in s below (object.PointerList p n) = each below (place_view p) n >>= λ ts. Some (pointer_list ts)
 tree_in s below (object.StructList p words n d k) = each_element below (place_view p) (words_there s (place_view p) words) d k n >>= λ es. Some (struct_list d k es)
 
--- What following the pointers in an object costs.
+-- The cost of following the pointers in an object.
 abbrev pub cost_in : (Place → ℕ) → Object → ℕ
 cost_in below (object.Struct p d k) = cost_each below (after (place_view p) d) k
 cost_in below (object.PointerList p n) = cost_each below (place_view p) n
 cost_in below (object.StructList p words n d k) = cost_elements below (place_view p) d k n
 cost_in below _ = 0
 
--- What is met at the pointers in an object.
+-- The visits at the pointers in an object.
 abbrev pub met_in : {A : Type 0} → (Place → List A) → Object → List A
 met_in below (object.Struct p d k) = from_each below (after (place_view p) d) k
 met_in below (object.PointerList p n) = from_each below (place_view p) n

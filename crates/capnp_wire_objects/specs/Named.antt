@@ -1,4 +1,4 @@
--- Objects that pointers name, in the words of the model.
+-- Objects that pointers name, as values of the model.
 use Rattle.std.specs.Prelude.{ℕ, Result}
 use Rattle.std.specs.Option.{ok_or}
 use Rattle.capnp_model.specs.Kinds.{Kind, OutOfBounds}
@@ -18,10 +18,10 @@ named_view (named.Struct p d k) = model.a_struct (place_view p) d k
 named_view (named.List p size n) = model.a_list (place_view p) (size_number size) n
 named_view (named.Capability i) = model.a_capability i
 
--- What is found.
+-- The found object.
 abbrev pub found_view : FoundObject → model.Found
 found_view f = record { pads = f.pads; object = named_view f.object }
 
--- The object behind a landing pad of n words.
+-- The object of a landing pad of n words.
 abbrev pub pad_object : Segments → Place → ℕ → Result model.Object Kind
 pad_object s p n = ok_or (words_at s p n) OutOfBounds and_then λ ws. model.in_pad p ws

@@ -19,20 +19,21 @@ use Rattle.capnp_wire_objects.specs.Places.{place_view, placed}
 abbrev pub plain_size : ℕ → ElementSize
 plain_size n = if n == 0 then Void else (if n == 1 then Bit else (if n == 2 then Byte else (if n == 3 then TwoBytes else (if n == 4 then FourBytes else EightBytes))))
 
--- A list whose words these are.
+-- A list with these words.
 abbrev pub whole_list : Place → ListKind → ℕ → ℕ → List ℕ → Result Object Kind
 whole_list p of_bits size n ws = Ok (object.List (placed p) (plain_size size) n)
 whole_list p of_pointers size n ws = Ok (object.PointerList (placed p) n)
 whole_list p of_structs size n ws = tag_in ws and_then λ t. Ok (object.StructList (placed (after p 1)) n t.count t.data_words t.pointers)
 
--- The object that a pointer names, where its words are there, and those of a list of structs hold its elements. (Encoding, "Structs", "Lists")
+-- The object that a pointer names, if its words are there and those of a list of structs hold its elements. (Encoding,
+-- "Structs", "Lists")
 abbrev pub whole : Segments → model.Object → Result Object Kind
 whole s model.nothing = Ok object.Null
 whole s (model.a_capability i) = Ok (object.Capability i)
 whole s (model.a_struct p d k) = ok_or (words_at s p (d + k)) OutOfBounds and_then λ _. Ok (object.Struct (placed p) d k)
 whole s (model.a_list p size n) = ok_or (words_at s p (list_words (list_kind size) size n)) OutOfBounds and_then λ ws. whole_list p (list_kind size) size n ws
 
--- What the pointer at a place names, else the kind of its fault.
+-- The object that the pointer at a place names, otherwise the kind of its fault.
 unfoldable pub object_at : Segments → Place → Result Found Kind
 object_at s p = model.found_at s p and_then λ f. whole s f.object and_then λ o. Ok (record { pads = f.pads; object = o })
 

@@ -1,4 +1,4 @@
--- Places, pointers and results of the code, in the words of the model.
+-- Places, pointers and results of the code, as values of the model.
 use Rattle.std.specs.Prelude.{Result, Ok, Err}
 use Rattle.capnp_model.specs.Kinds.{Kind}
 use Rattle.capnp_model.specs.Segments as model
@@ -10,7 +10,7 @@ use Rattle.capnp_wire_objects.specs.declared.place.Place.{Place}
 use Rattle.capnp_wire_objects.specs.declared.word_pointer.WordPointer.{WordPointer}
 use Rattle.capnp_wire_objects.specs.declared.word_pointer.WordPointer.TheVariants as word
 
--- What was returned, seen by a view, or the kind of the refusal.
+-- The returned value, seen by a view, or the kind of the refusal.
 abbrev pub seen : {X Y : Type 0} → (X → Y) → Result X Error → Result Y Kind
 seen view (Ok x) = Ok (view x)
 seen view (Err e) = Err (kind_of e.kind)

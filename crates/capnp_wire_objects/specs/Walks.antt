@@ -1,4 +1,4 @@
--- Walks over whole values against a budget.
+-- Walks over whole values within a budget.
 use Rattle.std.specs.Prelude.{◌≡◌, ℕ, ◌+◌, ◌-◌, ◌^◌, min, List, ◌∷◌, ◌++◌, length, Option, Some, Result, Ok, Err}
 use Rattle.capnp_model.specs.Visits.{Visit, visits_cost}
 use Rattle.capnp_units.specs.declared.errors.Error.{Error}
@@ -18,13 +18,14 @@ pub record Walked (path : List Visit) (old new : ReadLimiter) : Type 0 where
   pub spends : Spends old new cost
   pub follows : Follows old new (length path)
 
--- After n words were paid a walk can't go past this visit, for the fault there, or since it passes
--- what was left at the start.
+-- After n words were paid a walk can't pass this visit: there is a fault, or the visit exceeds the words that were left
+-- at the start.
 abbrev pub CannotPass : Option ℕ → ℕ → Visit → ErrorKind → Type 0
 CannotPass left paid (Err kind) why = kind_of why ≡ kind
 CannotPass left paid (Ok words) why = (why ≡ ReadLimitExceeded) × IsPassed left (paid + words)
 
--- A walk was refused at one of the visits: those before it were made and paid for, it was followed at no cost, and none behind it was followed.
+-- A walk was refused at one of the visits. The visits before it were made and paid for, it was followed at no cost, and
+-- no later visit was followed.
 pub record Stopped (path : List Visit) (old : ReadLimiter) (e : Error) (new : ReadLimiter) : Type 0 where
   pub before : List Visit
   pub last : Visit
@@ -46,8 +47,8 @@ abbrev pub leaf_capabilities : Object → ℕ
 leaf_capabilities (object.Capability i) = 1
 leaf_capabilities _ = 0
 
--- The size of something that is read, if it can be: its words and capabilities are counted. The
--- visits on the way were made, or as far as they could be.
+-- The size of a value, if the value can be read: its words and capabilities are counted. The visits on the way were
+-- made, or as many of them as possible.
 abbrev pub SizeGives : {X : Type 0} → (X → ℕ) → (X → ℕ) → Option X → List Visit → ReadLimiter → Result MessageSize Error → ReadLimiter → Type 0
 SizeGives {X = X} words capabilities there path old (Ok size) new = (x : X) × (there ≡ Some x) × SizeCounts (words x) (capabilities x) size × Walked path old new
 SizeGives words capabilities there path old (Err e) new = Stopped path old e new

@@ -14,34 +14,36 @@ use capnp_units::limiter::ReadLimiter;
 use capnp_units::segments::ReaderSegments;
 use capnp_units::sizes::SegmentId;
 
-/// Segments that can be read, and how deep a value in them may be nested.
+/// Segments that can be read, with a limit for the nesting of a value in them.
 pub trait ReaderArena {
     /// The bytes of each segment.
     ghost segments: { Self → List (List ℕ) };
 
-    /// The nesting limit: how many levels of pointers a value may have, the root's the first. No
-    /// value keeps a negative one.
+    /// The nesting limit: the most levels of pointers that a value may have, with the root's as the
+    /// first. No value is within a negative limit.
     ghost nesting: { Self → ℤ };
 
-    /// The bytes of a segment, or none past the last.
+    /// Returns the bytes of a segment, or `None` after the last segment.
     fn get_segment(&self, id: SegmentId) -> Option<&[u8]>
         ensures { option_copied result ≡ slice_get (segments self.now) id };
 
-    /// The nesting limit. What goes over a whole value takes stack for each level, `total_size`
-    /// about 200 bytes, so a limit past some 40,000 asks for more than 8 MiB of it.
+    /// Returns the nesting limit. Functions that walk a whole value take stack for each level,
+    /// `total_size` about 200 bytes. So a limit of more than some 40,000 needs more than 8 MiB of
+    /// stack.
     fn nesting_limit(&self) -> i32
         ensures { result ≡ nesting self.now };
 
-    /// The words of the segments that a pointer can name, the first 2^32. The count stops at
-    /// 2^64 - 1 words. It takes a step for each segment.
+    /// Returns the words of the segments that a pointer can name, the first 2^32. The count stops
+    /// at 2^64 - 1 words. It takes a step for each segment.
     fn size_in_words(&self) -> usize
         ensures { result ≡ min
             (words_before (segments self.now) (min (length (segments self.now)) (2 ^ 32)))
             (2 ^ 64 - 1) };
 
-    /// The place n words on from another, or back where the number is negative. It is refused with
-    /// `OutOfBounds` where it lies in front of the segment or behind its last word, or the segment
-    /// isn't there. Behind the last word is a place for an object without words.
+    /// Returns the place n words after another, or before it if the number is negative. It is
+    /// refused with `OutOfBounds` if it is in front of the segment or further than the place right
+    /// after the last word, or if the segment isn't there. The place after the last word is for
+    /// objects without words.
     final fn check_offset(&self, start: Place, offset_in_words: i32) -> Result<Place>
         ensures { seen place_view result
             ≡ moved (words_in (segments self.now)) (place_view start) offset_in_words }
@@ -62,8 +64,9 @@ pub trait ReaderArena {
         Ok(place)
     }
 
-    /// Grants the words of an interval. It is refused with `OutOfBounds` where they aren't all
-    /// there, else with `ReadLimitExceeded` where they pass what is left; then nothing changes.
+    /// Grants the words of an interval. It is refused with `OutOfBounds` if they aren't all there,
+    /// and otherwise with `ReadLimitExceeded` if they exceed the words that are left. Then nothing
+    /// changes.
     final fn contains_interval(
         &self,
         limiter: &mut ReadLimiter,
@@ -85,9 +88,9 @@ pub trait ReaderArena {
         limiter.charge(size as u64)
     }
 
-    /// Grants n words for what is read more often than it stands there, as the elements of a list
-    /// of voids. They are refused with `ReadLimitExceeded` where they pass what is left; then
-    /// nothing changes.
+    /// Grants n words for values that are read more often than they are stored, such as the
+    /// elements of a list of voids. They are refused with `ReadLimitExceeded` if they exceed the
+    /// words that are left. Then nothing changes.
     final fn amplified_read(&self, limiter: &mut ReadLimiter, virtual_amount: u64) -> Result<()>
         ensures ok { OnOk result (Spends limiter.old limiter.new virtual_amount) }
         ensures refused { OnErr result
@@ -98,10 +101,10 @@ pub trait ReaderArena {
     }
 }
 
-/// How many segments a pointer can name: a segment's number has 32 bits.
+/// The number of segments that a pointer can name: a segment's number has 32 bits.
 const NAMED_SEGMENTS: usize = 0x1_0000_0000;
 
-/// The words of the segments that have a number.
+/// Returns the words of the segments that have a number.
 fn words_in_all<S: ReaderSegments>(segments: &S) -> usize
     ensures { result ≡ min
         (words_before (S.segments segments.now) (min (length (S.segments segments.now)) (2 ^ 32)))
@@ -125,9 +128,10 @@ pub struct ReaderArenaImpl<S> {
 }
 
 impl<S: ReaderSegments> ReaderArenaImpl<S> {
-    /// An arena over these segments, in which values may be nested n levels deep. Under a negative
-    /// limit nothing but null is read. What goes over a whole value takes stack for each level,
-    /// `total_size` about 200 bytes: a limit past some 40,000 asks for more than 8 MiB of it.
+    /// Makes an arena over these segments, in which values may be nested n levels deep. Under a
+    /// negative limit only null is read. Functions that walk a whole value take stack for each
+    /// level, `total_size` about 200 bytes. So a limit of more than some 40,000 needs more than 8
+    /// MiB of stack.
     pub fn new(segments: S, nesting_limit: i32) -> Self
         ensures segments { result.segments ≡ segments }
         ensures nesting { result.nesting_limit ≡ nesting_limit }
@@ -138,7 +142,7 @@ impl<S: ReaderSegments> ReaderArenaImpl<S> {
         }
     }
 
-    /// The segments, given back.
+    /// Returns the segments.
     pub fn into_segments(self) -> S
         ensures { result ≡ self.segments }
     {

@@ -1,4 +1,4 @@
-//! Following pointers against a budget.
+//! Following of pointers within a budget.
 ghost use Rattle.std.specs.Prelude.{◌≡◌, ◌+◌, ◌<◌, ◌^◌, true, false, MatchResult};
 ghost use Rattle.capnp_units.specs.Segments.{words_in};
 ghost use Rattle.capnp_wire_objects.specs.Places.{place_view};
@@ -14,9 +14,9 @@ use capnp_units::kinds::ErrorKind;
 use capnp_units::limiter::ReadLimiter;
 use capnp_units::sizes::ElementSize;
 
-/// What following an object costs by itself, in words: those of a struct or a list, with a list's
-/// tag. A list of voids costs a word for each element, and so does a list of structs without a
-/// word, beside its tag.
+/// Returns the cost of following an object by itself, in words: those of a struct or a list, with a
+/// list's tag. A list of voids costs one word for each element. So does a list of structs without a
+/// word, in addition to its tag.
 #[inline(always)]
 pub fn own_cost(object: Object) -> u64
     ensures words { result ≡ own_cost object }
@@ -52,11 +52,11 @@ pub fn own_cost(object: Object) -> u64
     }
 }
 
-/// What the pointer at a place names, one level deep. It is counted as followed, and its pads and
-/// the object's own words are granted.
+/// Returns the object that the pointer at a place names, one level deep. The pointer counts as
+/// followed, and the words of its pads and of the object itself are granted.
 ///
-/// It is refused as `object_at` is, or with `ReadLimitExceeded` where the words pass what is left
-/// of the limit. Then it is counted all the same, and no word is granted.
+/// It is refused like `object_at`, or with `ReadLimitExceeded` if the words exceed those that are
+/// left of the limit. Then the pointer still counts as followed, and no word is granted.
 #[inline(always)]
 pub fn follow<A: ReaderArena>(arena: &A, limiter: &mut ReadLimiter, place: Place) -> Result<Object>
     ensures { FollowGives (words_in (A.segments arena.now)) (place_view place) limiter.old result
@@ -68,7 +68,7 @@ pub fn follow<A: ReaderArena>(arena: &A, limiter: &mut ReadLimiter, place: Place
     Ok(found.object)
 }
 
-/// Refuses an object that takes a level where none is left. Null and a capability take none.
+/// Refuses an object that takes a level if no level is left. Null and a capability take none.
 #[inline(always)]
 fn ask_level(named: NamedObject, levels: u32) -> Result<()>
     ensures { MatchResult
@@ -88,15 +88,16 @@ fn ask_level(named: NamedObject, levels: u32) -> Result<()>
     }
 }
 
-/// What the pointer at a place names, one level deep, on a walk of at most n levels. It is counted
-/// as followed, and its pads and the object's own words are granted.
+/// Returns the object that the pointer at a place names, one level deep, on a walk of at most n
+/// levels. The pointer counts as followed, and the words of its pads and of the object itself are
+/// granted.
 ///
 /// It is refused
-/// - as by `object_at`;
-/// - with `NestingLimitExceeded` where a struct or a list is there and no level is left;
-/// - with `ReadLimitExceeded` where the words pass what is left of the limit.
+/// - like `object_at`;
+/// - with `NestingLimitExceeded` if a struct or a list is there and no level is left;
+/// - with `ReadLimitExceeded` if the words exceed those that are left of the limit.
 ///
-/// Then it is counted all the same, and no word is granted.
+/// Then the pointer still counts as followed, and no word is granted.
 pub fn follow_within<A: ReaderArena>(
     arena: &A,
     limiter: &mut ReadLimiter,

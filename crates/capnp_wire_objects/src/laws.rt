@@ -1,4 +1,5 @@
-//! Laws of what is read, each the contract of an empty function: a call of it brings its clauses.
+//! Laws of values that are read. Each law is the contract of an empty function; calling the
+//! function gives its clauses.
 ghost use Rattle.std.specs.Prelude.{◌≡◌};
 ghost use Rattle.capnp_model.specs.Segments.{root};
 ghost use Rattle.capnp_wire_objects.specs.Places.{place_view};
@@ -6,13 +7,13 @@ ghost use Rattle.capnp_wire_objects.specs.Laws.{TreesByLevels, CostsByLevels, Vi
 
 use crate::place::ROOT;
 
-/// `ROOT` is where the model has a message's root pointer. (Encoding, "Messages")
+/// `ROOT` is the place that a message's root pointer has in the model. (Encoding, "Messages")
 pub fn messages_begin_at_their_root()
     ensures { place_view ROOT ≡ root }
 {}
 
-/// What a pointer names, one level deep, makes the whole value together with what the pointers in
-/// it name: its tree, its cost, and the walk over it.
+/// The object of a pointer, one level deep, and the values of the pointers in it make the whole
+/// value: its tree, its cost, and the walk over it.
 pub fn values_by_levels()
     ensures trees { TreesByLevels }
     ensures costs { CostsByLevels }

@@ -1,8 +1,8 @@
-//! What pointers name in untrusted segments: arenas, places, objects, and the sizes of whole
-//! values.
+//! Objects that pointers name in untrusted segments: arenas, places, objects, and the sizes of
+//! whole values.
 //!
-//! Numbers lie in words of eight bytes, the lowest byte first. What is followed is paid for from a
-//! `ReadLimiter`.
+//! Numbers are in words of eight bytes, with the lowest byte first. Following a pointer is paid for
+//! from a `ReadLimiter`.
 #![tactic(auto)]
 
 pub mod arena;

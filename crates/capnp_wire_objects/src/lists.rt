@@ -1,4 +1,4 @@
-//! Lists of plain elements by themselves, so that what reads them alone needs no `Object`.
+//! Lists of plain elements by themselves, so that readers of only such lists need no `Object`.
 ghost use Rattle.std.specs.Prelude.{◌≡◌, ◌<◌, ◌^◌};
 ghost use Rattle.capnp_wire_objects.specs.declared.object.Object.TheVariants as seen;
 ghost use Rattle.capnp_wire_objects.specs.Near.{list_object, IsMeasured};
@@ -9,19 +9,19 @@ use capnp_units::sizes::{ElementSize, data_bits_per_element};
 /// A list of plain elements, of a size from `Void` to `EightBytes`.
 #[derive(Clone, Copy, Debug, PartialEq, Eq)]
 pub struct NearList {
-    /// Where its first element begins.
+    /// The place of the first element.
     pub start: Place,
     pub size: ElementSize,
-    /// How many elements it has, at most 2^29 - 1.
+    /// The number of elements, at most 2^29 - 1.
     pub count: u32,
-    /// How many bits its elements have.
+    /// The number of bits of the elements.
     pub bits: u64,
-    /// How many words hold those bits.
+    /// The number of words that hold those bits.
     pub words: usize,
 }
 
 impl NearList {
-    /// A list of n elements of a size.
+    /// Makes a list of n elements of a size.
     #[inline(always)]
     pub fn new(start: Place, size: ElementSize, count: u32) -> NearList
         ensures object { list_object result ≡ seen.List start size count }

@@ -1,4 +1,4 @@
-//! What pointers name, far pointers followed.
+//! Objects that pointers name, with far pointers followed.
 ghost use Rattle.std.specs.Prelude.{◌≡◌, ◌+◌, ◌≤◌, ◌<◌, ◌^◌, Ok, Err, IfOk};
 ghost use Rattle.std.specs.Option.{ok_or};
 ghost use Rattle.capnp_model.specs.Kinds.{OutOfBounds};
@@ -35,14 +35,14 @@ pub enum NamedObject {
     },
 }
 
-/// The object, and how many words of landing pads lead to it.
+/// The object, and the number of words of the landing pads that lead to it.
 #[derive(Clone, Copy)]
 pub struct FoundObject {
     pub pads: u8,
     pub object: NamedObject,
 }
 
-/// The object of a describing word that ends at a place.
+/// Returns the object of a describing word that ends at a place.
 #[inline(always)]
 fn described_behind(end: Place, pointer: WordPointer) -> Result<NamedObject>
     requires { end.position < 2 ^ 62 }
@@ -77,7 +77,7 @@ fn described_behind(end: Place, pointer: WordPointer) -> Result<NamedObject>
     }
 }
 
-/// The object of a describing word, where its place is told.
+/// Returns the object of a describing word, at a place that is given.
 #[inline(always)]
 fn described_at(start: Place, pointer: WordPointer) -> Result<NamedObject>
     ensures { seen named_view result
@@ -102,7 +102,7 @@ fn described_at(start: Place, pointer: WordPointer) -> Result<NamedObject>
     }
 }
 
-/// The object behind a landing pad of one word, a pointer.
+/// Returns the object of a landing pad of one word, which is a pointer.
 #[inline(never)]
 fn in_short_pad<A: ReaderArena>(arena: &A, pad: Place) -> Result<NamedObject>
     ensures { seen named_view result
@@ -116,8 +116,8 @@ fn in_short_pad<A: ReaderArena>(arena: &A, pad: Place) -> Result<NamedObject>
     described_behind(end, pointer_of_word(word))
 }
 
-/// The object behind a landing pad of two words: where it begins, and a pointer whose offset isn't
-/// looked at.
+/// Returns the object of a landing pad of two words: the place at which it begins, and a pointer
+/// whose offset isn't read.
 #[inline(never)]
 fn in_long_pad<A: ReaderArena>(arena: &A, pad: Place) -> Result<NamedObject>
     ensures { seen named_view result
@@ -132,7 +132,8 @@ fn in_long_pad<A: ReaderArena>(arena: &A, pad: Place) -> Result<NamedObject>
     described_at(place_in_word(far), pointer_of_word(word))
 }
 
-/// The object that the pointer at a place names, with the words of the pads that lead to it.
+/// Returns the object that the pointer at a place names, with the number of words of the pads that
+/// lead to it.
 #[inline(always)]
 pub fn found_at<A: ReaderArena>(arena: &A, place: Place) -> Result<FoundObject>
     ensures found { seen found_view result

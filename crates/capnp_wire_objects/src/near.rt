@@ -1,4 +1,5 @@
-//! Structs, and lists of them and of plain elements, that are told in one look at their segment.
+//! Structs, and lists of structs and of plain elements, that are found in one look at their
+//! segment.
 ghost use Rattle.std.specs.Prelude.{◌≡◌, ℕ, List, None, IfSome};
 ghost use Rattle.capnp_model.specs.Segments.{Place as ModelPlace};
 ghost use Rattle.capnp_model.specs.Pointers.{to_pad, pointer_of};
@@ -15,26 +16,27 @@ use crate::structs::{NearStruct, NearStructs};
 use crate::word_pointer::{WordPointer, pointer_of_word};
 use capnp_units::sizes::{ElementSize, StructSize};
 
-/// The numbers of the sizes of plain elements are below this one.
+/// The numbers of the sizes of plain elements are below this number.
 const PLAIN_SIZES: u64 = 6;
-/// How many kinds of pointers the lowest two bits of a word have.
+/// The number of kinds of pointers in the lowest two bits of a word.
 const KINDS: u64 = 4;
 /// The kind of pointers to lists.
 const LIST: u64 = 1;
-/// How many offsets lead on: their thirty bits are below this one.
+/// The number of offsets that lead forwards: their thirty bits are below this number.
 const ONWARDS: u64 = 0x2000_0000;
-/// Where the highest bit of an offset stands, 31 bits up, below the three of an element's size.
+/// The place of the highest bit of an offset, 31 bits up, below the three bits of an element's
+/// size.
 const OFFSET_END: u64 = 0x8000_0000;
-/// Those four bits of a pointer that leads on to a list of bytes.
+/// Those four bits of a pointer that leads forwards to a list of bytes.
 const ONWARDS_BYTES: u64 = 4;
-/// Where the count of a list's elements begins, 35 bits up.
+/// The place of the count of a list's elements, 35 bits up.
 const COUNT: u64 = 0x8_0000_0000;
 
-/// The list that the pointer at a place names, where it is one of plain elements in the same
-/// segment, without a landing pad, and its words are there. It is what `object_at` tells of the
-/// place. The segment is the one of these bytes, and isn't asked for.
+/// Returns the list that the pointer at a place names, if it is a list of plain elements in the
+/// same segment, without a landing pad, and its words are there. Then it is the result of
+/// `object_at` for the place. The bytes are those of the segment, so the arena isn't asked for it.
 ///
-/// `None` has no meaning: whatever is there, a list too, `object_at` tells it or refuses it.
+/// `None` has no meaning: `object_at` returns or refuses the object, which may be a list too.
 #[inline(always)]
 pub fn near_list_in(bytes: &[u8], place: Place) -> Option<NearList>
     ensures near { (segments : List (List ℕ)) → bytes.now ≡ segment_bytes segments place.segment
@@ -69,11 +71,11 @@ pub fn near_list_in(bytes: &[u8], place: Place) -> Option<NearList>
     Some(list)
 }
 
-/// The list of bytes that the pointer at a place names, where it lies behind the pointer in the
-/// same segment, without a landing pad, and its words are there. It is what `object_at` tells of
-/// the place. The segment is the one of these bytes, and isn't asked for.
+/// Returns the list of bytes that the pointer at a place names, if it is after the pointer in the
+/// same segment, without a landing pad, and its words are there. Then it is the result of
+/// `object_at` for the place. The bytes are those of the segment, so the arena isn't asked for it.
 ///
-/// `None` has no meaning: whatever is there, such a list too, `object_at` tells it or refuses it.
+/// `None` has no meaning: `object_at` returns or refuses the object, which may be such a list too.
 #[inline(always)]
 pub fn near_bytes_in(bytes: &[u8], place: Place) -> Option<NearList>
     ensures near { (segments : List (List ℕ)) → bytes.now ≡ segment_bytes segments place.segment
@@ -102,17 +104,17 @@ pub fn near_bytes_in(bytes: &[u8], place: Place) -> Option<NearList>
 /// A list of pointers in the segment of the pointer to it.
 #[derive(Clone, Copy)]
 pub struct NearPointers {
-    /// Where the first pointer stands.
+    /// The place of the first pointer.
     pub start: Place,
-    /// How many pointers there are, at most 2^29 - 1.
+    /// The number of pointers, at most 2^29 - 1.
     pub count: u32,
 }
 
-/// The list that the pointer at a place names, where it is one of pointers in the same segment,
-/// without a landing pad, and its words are there. It is what `object_at` tells of the place. The
-/// segment is the one of these bytes, and isn't asked for.
+/// Returns the list that the pointer at a place names, if it is a list of pointers in the same
+/// segment, without a landing pad, and its words are there. Then it is the result of `object_at`
+/// for the place. The bytes are those of the segment, so the arena isn't asked for it.
 ///
-/// `None` has no meaning: whatever is there, such a list too, `object_at` tells it or refuses it.
+/// `None` has no meaning: `object_at` returns or refuses the object, which may be such a list too.
 #[inline(always)]
 pub fn near_pointers_in(bytes: &[u8], place: Place) -> Option<NearPointers>
     ensures near { (segments : List (List ℕ)) → bytes.now ≡ segment_bytes segments place.segment
@@ -142,11 +144,12 @@ pub fn near_pointers_in(bytes: &[u8], place: Place) -> Option<NearPointers>
     Some(NearPointers { start, count })
 }
 
-/// The list that the pointer at a place names, where it is one of structs in the same segment,
-/// without a landing pad, and its tag, its words and its elements are there. It is what `object_at`
-/// tells of the place. The segment is the one of these bytes, and isn't asked for.
+/// Returns the list that the pointer at a place names, if it is a list of structs in the same
+/// segment, without a landing pad, and its tag, its words and its elements are there. Then it is
+/// the result of `object_at` for the place. The bytes are those of the segment, so the arena isn't
+/// asked for it.
 ///
-/// `None` has no meaning: whatever is there, such a list too, `object_at` tells it or refuses it.
+/// `None` has no meaning: `object_at` returns or refuses the object, which may be such a list too.
 #[inline(always)]
 pub fn near_structs_in(bytes: &[u8], place: Place) -> Option<NearStructs>
     ensures near { (segments : List (List ℕ)) → bytes.now ≡ segment_bytes segments place.segment
@@ -202,11 +205,11 @@ pub fn near_structs_in(bytes: &[u8], place: Place) -> Option<NearStructs>
     })
 }
 
-/// The struct that the pointer at a place names, where it lies in the same segment, without a
-/// landing pad, and its words are there. It is what `object_at` tells of the place. The segment is
-/// the one of these bytes, and isn't asked for.
+/// Returns the struct that the pointer at a place names, if it is in the same segment, without a
+/// landing pad, and its words are there. Then it is the result of `object_at` for the place. The
+/// bytes are those of the segment, so the arena isn't asked for it.
 ///
-/// `None` has no meaning: whatever is there, a struct too, `object_at` tells it or refuses it.
+/// `None` has no meaning: `object_at` returns or refuses the object, which may be a struct too.
 #[inline(always)]
 pub fn near_struct_in(bytes: &[u8], place: Place) -> Option<NearStruct>
     ensures near { (segments : List (List ℕ)) → bytes.now ≡ segment_bytes segments place.segment
@@ -244,8 +247,8 @@ pub fn near_struct_in(bytes: &[u8], place: Place) -> Option<NearStruct>
     Some(NearStruct { start, size })
 }
 
-/// The landing pad of one word that a pointer of this word leads to. `None` where it leads to none:
-/// to an object without a pad, to a pad of two words, or nowhere.
+/// Returns the landing pad of one word to which a pointer of this word leads. Returns `None` if it
+/// leads to an object without a pad, to a pad of two words, or nowhere.
 #[inline(always)]
 pub fn short_pad(word: u64) -> Option<Place>
     ensures pad { IfSome result (λ pad. pointer_of word ≡ to_pad 1 (place_view pad)) }

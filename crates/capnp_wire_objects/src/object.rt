@@ -22,11 +22,11 @@ use capnp_units::errors::{Error, Result};
 use capnp_units::kinds::ErrorKind;
 use capnp_units::sizes::{ElementSize, data_bits_per_element};
 
-/// An object whose words are there. Null has none.
+/// An object whose words are there. Null has no words.
 #[derive(Clone, Copy, Debug, PartialEq, Eq)]
 pub enum Object {
     Null,
-    /// A struct: its data words begin at a place, its pointers stand behind them.
+    /// A struct: its data words begin at a place, and its pointers come after them.
     Struct {
         start: Place,
         data_words: u16,
@@ -43,8 +43,8 @@ pub enum Object {
         start: Place,
         count: u32,
     },
-    /// A list of structs. The first one begins at a place, behind the tag; the pointer claims n
-    /// words for them, which they needn't fill.
+    /// A list of structs. The first struct begins at a place, after the tag. The pointer claims n
+    /// words for the structs, which they needn't fill.
     StructList {
         start: Place,
         words: u32,
@@ -57,14 +57,14 @@ pub enum Object {
     },
 }
 
-/// An object, and how many words of landing pads lead to it.
+/// An object, and the number of words of the landing pads that lead to it.
 #[derive(Clone, Copy, Debug, PartialEq, Eq)]
 pub struct Found {
     pub pads: u8,
     pub object: Object,
 }
 
-/// The words that n plain elements fill.
+/// Returns the number of words that n plain elements fill.
 #[inline(always)]
 pub fn words_of_elements(size: ElementSize, count: u32) -> u64
     ensures words { result ≡ words_for (data_bits (size_number size) * count) }
@@ -73,7 +73,7 @@ pub fn words_of_elements(size: ElementSize, count: u32) -> u64
     (data_bits_per_element(size) as u64 * count as u64 + 63) / 64
 }
 
-/// A struct, where its words are there.
+/// Returns a struct, if its words are there.
 #[inline(always)]
 fn whole_struct<A: ReaderArena>(
     arena: &A,
@@ -96,7 +96,7 @@ fn whole_struct<A: ReaderArena>(
     })
 }
 
-/// A list of plain elements, where its words are there.
+/// Returns a list of plain elements, if its words are there.
 #[inline(always)]
 fn whole_list<A: ReaderArena>(
     arena: &A,
@@ -116,7 +116,7 @@ fn whole_list<A: ReaderArena>(
     Ok(Object::List { start, size, count })
 }
 
-/// A list of pointers, where they are there.
+/// Returns a list of pointers, if they are there.
 #[inline(always)]
 fn whole_pointers<A: ReaderArena>(arena: &A, start: Place, count: u32) -> Result<Object>
     ensures object { seen (λ o. o) result
@@ -129,8 +129,8 @@ fn whole_pointers<A: ReaderArena>(arena: &A, start: Place, count: u32) -> Result
     Ok(Object::PointerList { start, count })
 }
 
-/// A list of structs, where its tag and the words behind it are there, the tag has the form of a
-/// struct pointer, and its elements fit into those words.
+/// Returns a list of structs, if its tag and the words after it are there, the tag has the form of
+/// a struct pointer, and its elements fit into those words.
 #[inline(always)]
 fn whole_structs<A: ReaderArena>(arena: &A, start: Place, words: u32) -> Result<Object>
     ensures object { seen (λ o. o) result
@@ -165,7 +165,7 @@ fn whole_structs<A: ReaderArena>(arena: &A, start: Place, words: u32) -> Result<
     })
 }
 
-/// An object that a pointer names, where its words are there.
+/// Returns an object that a pointer names, if its words are there.
 #[inline(always)]
 pub fn whole<A: ReaderArena>(arena: &A, named: NamedObject) -> Result<Object>
     ensures object { seen (λ o. o) result
@@ -193,14 +193,15 @@ pub fn whole<A: ReaderArena>(arena: &A, named: NamedObject) -> Result<Object>
     }
 }
 
-/// What the pointer at a place names, one level deep, and the words of the pads that lead to it.
+/// Returns the object that the pointer at a place names, one level deep, and the number of words of
+/// the pads that lead to it.
 ///
 /// It is refused with
 /// - `OutOfBounds`: the pointer, a pad or a word of the object isn't there, or a list of structs
 ///   has more elements than words for them;
 /// - `MalformedFarPointer`: a pad describes its object by a far pointer;
-/// - `WrongPointerKind`: a list's tag isn't of struct form;
-/// - `UnknownPointerType`: a pointer of the fourth form is no capability.
+/// - `WrongPointerKind`: a list's tag doesn't have the form of a struct pointer;
+/// - `UnknownPointerType`: a pointer of the fourth form is not a capability.
 #[tactic(auto, unfolding(crate::specs::Objects::object_at))]
 pub fn object_at<A: ReaderArena>(arena: &A, place: Place) -> Result<Found>
     ensures object { seen (λ f. f) result

@@ -13,15 +13,15 @@ use crate::arena::ReaderArena;
 use capnp_units::errors::{Error, Result};
 use capnp_units::kinds::ErrorKind;
 
-/// Where the upper half of a pointer word begins, 32 bits up.
+/// The place of the upper half of a pointer word, 32 bits up.
 pub(crate) const UPPER_HALF: u64 = 0x1_0000_0000;
-/// How many offsets thirty bits have.
+/// The number of offsets that thirty bits can hold.
 pub(crate) const OFFSETS: u64 = 0x4000_0000;
-/// The offsets from this one on are negative: they lie as far below the next of them all.
+/// Offsets from this number on are negative: subtract the number of all offsets.
 const NEGATIVE_OFFSETS: u32 = 0x2000_0000;
-/// How many positions a far pointer can tell, by the 29 bits behind its kind and its form.
+/// The number of positions that a far pointer can hold, in the 29 bits above its kind and its form.
 const FAR_POSITIONS: u64 = 0x2000_0000;
-/// Where those bits begin, three bits up.
+/// The place of those bits, three bits up.
 const FAR_POSITION: u64 = 8;
 
 /// A place: a segment's number, and a position in it in words, from 0 on.
@@ -31,13 +31,13 @@ pub struct Place {
     pub position: usize,
 }
 
-/// Where the root pointer of a message stands.
+/// The place of a message's root pointer.
 pub const ROOT: Place = Place {
     segment: 0,
     position: 0,
 };
 
-/// The word at a position in words of bytes, where they have it whole.
+/// Returns the word at a position in words of bytes, if they have the whole word.
 #[inline(always)]
 pub fn word_in(bytes: &[u8], position: usize) -> Option<u64>
     ensures word { result ≡ slice_get (whole_words bytes.now) position }
@@ -47,7 +47,7 @@ pub fn word_in(bytes: &[u8], position: usize) -> Option<u64>
     Some(u64::from_le_bytes(*words.get(position)?))
 }
 
-/// The word at a place, where the segment is there and has it.
+/// Returns the word at a place, if the segment is there and has it.
 #[inline(always)]
 pub fn word_at<A: ReaderArena>(arena: &A, place: Place) -> Option<u64>
     ensures word { result ≡ word_at (words_in (A.segments arena.now)) (place_view place) }
@@ -56,7 +56,7 @@ pub fn word_at<A: ReaderArena>(arena: &A, place: Place) -> Option<u64>
     word_in(arena.get_segment(place.segment)?, place.position)
 }
 
-/// The bytes of a segment, `None` where it isn't there.
+/// Returns the bytes of a segment, or no bytes if it isn't there.
 #[inline(always)]
 pub fn segment_bytes<A: ReaderArena>(arena: &A, segment: u32) -> &[u8]
     ensures { result.now ≡ segment_bytes (A.segments arena.now) segment }
@@ -67,7 +67,7 @@ pub fn segment_bytes<A: ReaderArena>(arena: &A, segment: u32) -> &[u8]
     }
 }
 
-/// Whether bytes have n whole words from a position on.
+/// Returns whether bytes have n whole words from a position on.
 #[inline(always)]
 pub(crate) fn reach(bytes: &[u8], position: usize, count: usize) -> bool
     ensures there { result ≡ nat_le (position + count) (length bytes.now / 8) }
@@ -77,7 +77,7 @@ pub(crate) fn reach(bytes: &[u8], position: usize, count: usize) -> bool
     position <= words && count <= words - position
 }
 
-/// Whether n words from a place on are there.
+/// Returns whether n words from a place on are there.
 #[inline(always)]
 pub fn has_words<A: ReaderArena>(arena: &A, place: Place, count: usize) -> bool
     ensures there { result ≡ is_some
@@ -90,8 +90,8 @@ pub fn has_words<A: ReaderArena>(arena: &A, place: Place, count: usize) -> bool
     }
 }
 
-/// Where an object begins whose pointer ends at a place: n words on, by the thirty bits of a signed
-/// number. In front of the segment it is refused as out of bounds.
+/// Returns the place of an object whose pointer ends at a place: n words on, by the thirty bits of
+/// a signed number. A place in front of the segment is refused with `OutOfBounds`.
 #[inline(always)]
 pub fn begins_at(end: Place, offset: u32) -> Result<Place>
     requires { end.position < 2 ^ 62 }
@@ -113,7 +113,7 @@ pub fn begins_at(end: Place, offset: u32) -> Result<Place>
     })
 }
 
-/// The place that a far pointer's word tells: the position by bits 3 to 31, the segment by bits 32
+/// Returns the place in a far pointer's word: the position in bits 3 to 31, the segment in bits 32
 /// to 63.
 #[inline(always)]
 pub fn place_in_word(word: u64) -> Place

@@ -1,4 +1,4 @@
-//! How large values are.
+//! Sizes of values.
 ghost use Rattle.std.specs.Prelude.{◌≡◌, ℕ, ◌+◌, ◌*◌, ◌<◌, ◌≤◌, ◌^◌, List};
 ghost use Rattle.std.specs.Option.{is_some};
 ghost use Rattle.capnp_model.specs.Segments.{after};
@@ -21,7 +21,7 @@ use capnp_units::errors::Result;
 use capnp_units::limiter::ReadLimiter;
 use capnp_units::sizes::MessageSize;
 
-/// The size of what has neither a word nor a capability.
+/// The size of a value without a word and without a capability.
 pub const NOTHING: MessageSize = MessageSize {
     word_count: 0,
     cap_count: 0,
@@ -33,7 +33,7 @@ const CAPABILITY: MessageSize = MessageSize {
     cap_count: 1,
 };
 
-/// A size with more words.
+/// Returns a size with more words.
 pub fn with_words(size: MessageSize, words: u64) -> MessageSize
     ensures { (w c : ℕ) → SizeCounts w c size → SizeCounts (w + words) c result }
 {
@@ -43,7 +43,7 @@ pub fn with_words(size: MessageSize, words: u64) -> MessageSize
     }
 }
 
-/// Two sizes together.
+/// Returns the sum of two sizes.
 fn plus(a: MessageSize, b: MessageSize) -> MessageSize
     ensures { (w c v e : ℕ) → SizeCounts w c a → SizeCounts v e b
         → SizeCounts (w + v) (c + e) result }
@@ -54,7 +54,7 @@ fn plus(a: MessageSize, b: MessageSize) -> MessageSize
     }
 }
 
-/// The size of what takes no level: null, or a capability.
+/// Returns the size of an object that takes no level: null, or a capability.
 fn size_of_leaf(object: Object) -> MessageSize
     ensures { SizeCounts 0 (leaf_capabilities object) result }
 {
@@ -64,21 +64,21 @@ fn size_of_leaf(object: Object) -> MessageSize
     }
 }
 
-/// The size of the value of the pointer at a place: the words of its objects, without pads and
-/// without the pointer itself, and its capabilities.
+/// Returns the size of the value of the pointer at a place: the words of its objects, without pads
+/// and without the pointer itself, and its capabilities.
 ///
-/// Pointers are followed in the order of reading, nulls too, each object's own before those of the
-/// next. It is refused
-/// - at the first fault within n levels, by its kind;
-/// - with `ReadLimitExceeded` at the first object that is there and costs more words than are left.
-///   Then the objects before it are paid for, and the pointer to it counts as followed.
+/// Pointers are followed in the order of reading, nulls too, and each object's own pointers before
+/// those of the next object. It is refused
+/// - at the first fault within n levels, with its kind;
+/// - with `ReadLimitExceeded` at the first object that is there and costs more words than are
+///   left. Then the objects before it are paid for, and the pointer to it counts as followed.
 ///
-/// It takes a step for each pointer that it follows, which are no more than the words that it
-/// grants, and one. Elements without pointers aren't walked, be they voids or structs without
-/// words. Words that several pointers lead to are granted as often, so without a limit the levels
-/// alone bound the steps. Each level takes about 200 bytes of stack: 176 as LLVM builds it, 208 as
-/// Rattle's own compiler does. A walk past the end of the stack ends the process. 8 MiB hold some
-/// 40,000 levels.
+/// It takes a step for each pointer that it follows. They are at most one more than the words that
+/// it grants. Elements without pointers aren't walked, neither voids nor structs without words.
+/// Words that several pointers lead to are granted once for each pointer, so without a limit only
+/// the levels bound the steps. Each level takes about 200 bytes of stack: 176 as LLVM builds it,
+/// 208 as Rattle's own compiler does. A walk past the end of the stack ends the process. 8 MiB hold
+/// some 40,000 levels.
 #[cycle(size)]
 pub fn size_at<A: ReaderArena>(
     arena: &A,
@@ -97,7 +97,7 @@ pub fn size_at<A: ReaderArena>(
     size_inside(arena, limiter, object, levels - 1)
 }
 
-/// The size of an object, which is paid for, and of the values of the pointers in it.
+/// Returns the size of an object, which is paid for, and of the values of the pointers in it.
 #[cycle(size)]
 fn size_inside<A: ReaderArena>(
     arena: &A,
@@ -145,7 +145,7 @@ fn size_inside<A: ReaderArena>(
     }
 }
 
-/// The size of the values of n pointers in a row, without the pointers.
+/// Returns the size of the values of n pointers in a row, without the pointers.
 #[cycle(size)]
 pub fn size_of_row<A: ReaderArena>(
     arena: &A,
@@ -172,8 +172,8 @@ pub fn size_of_row<A: ReaderArena>(
     Ok(size)
 }
 
-/// The size of the elements of a list of structs, with their own words. Where they have no pointers
-/// there is nothing to walk.
+/// Returns the size of the elements of a list of structs, with their own words. If they have no
+/// pointers, nothing is walked.
 #[cycle(size)]
 fn size_of_structs<A: ReaderArena>(
     arena: &A,

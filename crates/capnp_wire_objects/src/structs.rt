@@ -1,11 +1,11 @@
-//! Structs and lists of them by themselves, so that what reads them alone needs no `Object`.
+//! Structs and lists of structs by themselves, so that readers of only these need no `Object`.
 use crate::place::Place;
 use capnp_units::sizes::StructSize;
 
 /// A struct in the segment of the pointer to it.
 #[derive(Clone, Copy, Debug, PartialEq, Eq)]
 pub struct NearStruct {
-    /// Where its data words begin.
+    /// The place of its data words.
     pub start: Place,
     pub size: StructSize,
 }
@@ -13,9 +13,9 @@ pub struct NearStruct {
 /// A list of structs in the segment of the pointer to it.
 #[derive(Clone, Copy, Debug, PartialEq, Eq)]
 pub struct NearStructs {
-    /// Where its first element begins, behind the tag.
+    /// The place of the first element, after the tag.
     pub start: Place,
-    /// How many words the pointer claims for the elements, which they needn't fill.
+    /// The number of words that the pointer claims for the elements, which they needn't fill.
     pub words: u32,
     pub count: u32,
     /// The sizes of each element.

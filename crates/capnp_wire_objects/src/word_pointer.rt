@@ -1,4 +1,4 @@
-//! What pointer words say.
+//! The contents of pointer words.
 ghost use Rattle.std.specs.Prelude.{◌≡◌};
 ghost use Rattle.capnp_model.specs.Pointers.{pointer_of};
 ghost use Rattle.capnp_wire_objects.specs.Places.{pointer_view};
@@ -6,14 +6,14 @@ ghost use Rattle.capnp_wire_objects.specs.Places.{pointer_view};
 use crate::place::{OFFSETS, Place, UPPER_HALF, place_in_word};
 use capnp_units::sizes::{ElementSize, WirePointerKind};
 
-/// How many kinds the lowest two bits have; the other parts of a word stand behind them.
+/// The number of kinds in the lowest two bits; the other parts of a word are above them.
 const KINDS: u64 = 4;
-/// How many sizes a section of a struct can have, by sixteen bits.
+/// The number of sizes of a struct's section, in sixteen bits.
 const SECTION_SIZES: u64 = 0x1_0000;
-/// How many sizes the elements of a list can have, by three bits.
+/// The number of sizes of a list's elements, in three bits.
 const ELEMENT_SIZES: u64 = 8;
 
-/// What a pointer word says by itself. An offset is the thirty bits as they stand.
+/// The contents of a pointer word by itself. An offset is its thirty bits, unchanged.
 #[derive(Clone, Copy)]
 pub enum WordPointer {
     Struct {
@@ -40,7 +40,8 @@ pub enum WordPointer {
     Unknown,
 }
 
-/// What a pointer word says. Its bits are drawn in `specs/Pointers.antt` of the model.
+/// Returns the contents of a pointer word. Its bits are drawn in `specs/Pointers.antt` of the
+/// model.
 #[inline(always)]
 pub fn pointer_of_word(word: u64) -> WordPointer
     ensures { pointer_view result ≡ pointer_of word }

@@ -219,3 +219,12 @@ pub fn call<'a>(alloc: Global, id: &'a str, value_name: &'a str, help: &'a str) 
         .allow_hyphen_values(true)
         .help(help)
 }
+
+/// The condition that messages have to keep.
+pub fn condition<'a>(alloc: Global, help: &'a str) -> Arg<'a> {
+    Arg::new(alloc, "where")
+        .long("where")
+        .value_name("EXPR")
+        .allow_hyphen_values(true)
+        .help(help)
+}

@@ -6,7 +6,9 @@ use crate::arguments::{
     schema, stats, strict, style,
 };
 use crate::options::{Options, Taken};
+use crate::picking_words::{edited, filter, hash, with_picks};
 use crate::proof_statement::VERSION;
+use crate::{diffs, makes, redacts};
 use clap::{Arg, ArgAction, Command};
 use std::alloc::{AllocError, Global};
 
@@ -101,7 +103,7 @@ fn canonical<'a, 'w>(alloc: Global, taken: Taken<'w>) -> Result<Options<'a, 'w>,
 }
 
 fn show<'a, 'w>(alloc: Global, taken: Taken<'w>) -> Result<Options<'a, 'w>, AllocError> {
-    Options::new(
+    let options = Options::new(
         alloc,
         taken,
         "show",
@@ -116,30 +118,31 @@ fn show<'a, 'w>(alloc: Global, taken: Taken<'w>) -> Result<Options<'a, 'w>, Allo
         "from",
         "The first message that is shown, counted from 1",
     ))?
-    .arg(number(alloc, "to", "The last message that is read"))?
-    .arg(
-        Arg::new(alloc, "count")
-            .long("count")
-            .action(ArgAction::SetTrue)
-            .help("Prints how many these messages are alone"),
-    )?
-    .arg(
-        Arg::new(alloc, "json")
-            .long("json")
-            .action(ArgAction::SetTrue)
-            .help("Prints each message as a JSON object, one a line"),
-    )?
-    .arg(
-        Arg::new(alloc, "pretty")
-            .long("pretty")
-            .action(ArgAction::SetTrue)
-            .help("Prints each field on a line of its own, indented")
-            .conflicts_with("json")?,
-    )?
-    .arg(style(alloc)?)?
-    .arg(limit_of_words(alloc))?
-    .arg(nesting(alloc))?
-    .arg(files(alloc))
+    .arg(number(alloc, "to", "The last message that is read"))?;
+    with_picks(alloc, options)?
+        .arg(
+            Arg::new(alloc, "count")
+                .long("count")
+                .action(ArgAction::SetTrue)
+                .help("Prints how many these messages are alone"),
+        )?
+        .arg(
+            Arg::new(alloc, "json")
+                .long("json")
+                .action(ArgAction::SetTrue)
+                .help("Prints each message as a JSON object, one a line"),
+        )?
+        .arg(
+            Arg::new(alloc, "pretty")
+                .long("pretty")
+                .action(ArgAction::SetTrue)
+                .help("Prints each field on a line of its own, indented")
+                .conflicts_with("json")?,
+        )?
+        .arg(style(alloc)?)?
+        .arg(limit_of_words(alloc))?
+        .arg(nesting(alloc))?
+        .arg(files(alloc))
 }
 
 fn check<'a, 'w>(alloc: Global, taken: Taken<'w>) -> Result<Options<'a, 'w>, AllocError> {
@@ -276,6 +279,7 @@ fn relay<'a, 'w>(alloc: Global, taken: Taken<'w>) -> Result<Options<'a, 'w>, All
     .arg(floats_as_bits(alloc))?
     .arg(root(alloc))?;
     let options = with_calls(alloc, options)?
+        .arg(edited(alloc))?
         .arg(form(alloc, "in", "The form of the input"))?
         .arg(form(alloc, "out", "The form of the output"))?
         .arg(
@@ -334,13 +338,18 @@ fn subcommand<'a>(
 ) -> Result<Option<Command<'a>>, AllocError> {
     let options = match name {
         "show" => show(alloc, taken)?,
+        "filter" => filter(alloc, taken)?,
         "relay" => relay(alloc, taken)?,
+        "redact" => redacts::options(alloc, taken)?,
         "check" => check(alloc, taken)?,
         "schema" => schema_file(alloc, taken)?,
         "compatible" => compatible(alloc, taken)?,
         "canonical" => canonical(alloc, taken)?,
         "convert" => convert(alloc, taken)?,
         "count" => count(alloc, taken)?,
+        "diff" => diffs::options(alloc, taken)?,
+        "make" => makes::options(alloc, taken)?,
+        "hash" => hash(alloc, taken)?,
         "slice" => slice(alloc, taken)?,
         "split" => split(alloc, taken)?,
         "version" => version(alloc, taken)?,
@@ -350,15 +359,20 @@ fn subcommand<'a>(
 }
 
 /// The names of the subcommands.
-static SUBCOMMANDS: [&str; 11] = [
+static SUBCOMMANDS: [&str; 16] = [
     "show",
+    "filter",
     "relay",
+    "redact",
     "check",
     "schema",
     "compatible",
     "canonical",
     "convert",
+    "make",
+    "diff",
     "count",
+    "hash",
     "slice",
     "split",
     "version",

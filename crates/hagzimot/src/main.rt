@@ -11,29 +11,37 @@
 
 mod arguments;
 mod command_line;
+mod diffs;
 mod faults;
 mod files;
+mod filter;
 mod hints;
 mod log;
 mod log_words;
+mod makes;
 mod message_notes;
 mod options;
 mod outputs;
 mod pairs;
 mod part_names;
 mod passes;
+mod picking_words;
+mod picks;
 mod pieces;
 mod plain_log;
 mod proof_statement;
+mod redacts;
 mod relay_calls;
 mod relay_checks;
 mod relay_plan;
 mod relay_task;
+mod relay_words;
 mod reports;
 mod run_log;
 mod shows;
 mod split;
 mod stats;
+mod takers;
 mod tape;
 mod tasks;
 mod versions;
@@ -55,8 +63,13 @@ fn run_subcommand(rt: &HostRuntime, matches: &ArgMatches<'_>) -> Result<u8, Fail
         Some(("count", words)) => pieces::count(rt, words),
         Some(("slice", words)) => pieces::slice(rt, words),
         Some(("split", words)) => split::split(rt, words),
+        Some(("diff", words)) => diffs::diff(rt, words),
+        Some(("make", words)) => makes::make(rt, words),
+        Some(("redact", words)) => passes::redact(rt, words),
         Some(("relay", words)) => passes::relay(rt, words),
         Some(("show", words)) => shows::show(rt, words),
+        Some(("filter", words)) => filter::filter(rt, words),
+        Some(("hash", words)) => filter::hash(rt, words),
         Some(("check", words)) => reports::check(rt, words),
         Some(("schema", words)) => reports::schema(rt, words),
         Some(("compatible", words)) => versions::compatible(rt, words),

@@ -6,6 +6,7 @@ use crate::log::Log;
 use crate::log_words::{Lines, LogWords, OnRefused, Watch};
 use crate::outputs::Outputs;
 use crate::plain_log::PlainLog;
+use crate::redacts::{RedactTask, WatchedRedaction};
 use crate::relay_task::RelayTask;
 use crate::run_log::{LogEnd, RunLog};
 use crate::tape::Tape;
@@ -260,6 +261,15 @@ pub fn canonical(rt: &HostRuntime, matches: &ArgMatches<'_>) -> Result<u8, Failu
     let watch = shared_watch(rt, matches, &mut asked)?;
     let task = CanonicalTask { limits, watch };
     pass_all::<CanonicalTask, Log>(rt, matches, &task, asked)
+}
+
+/// `hagzimot redact`.
+pub fn redact(rt: &HostRuntime, matches: &ArgMatches<'_>) -> Result<u8, Failure> {
+    let task = RedactTask::new(rt, matches)?;
+    let mut asked = asked(rt, matches, lines(matches, Lines::Refused))?;
+    let watch = shared_watch(rt, matches, &mut asked)?;
+    let task = WatchedRedaction { task: &task, watch };
+    pass_all::<WatchedRedaction<'_>, Log>(rt, matches, &task, asked)
 }
 
 /// `hagzimot relay`.

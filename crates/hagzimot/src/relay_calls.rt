@@ -3,6 +3,7 @@
 use crate::faults::Failure;
 use crate::files::read_file;
 use crate::relay_plan::{Plan, made};
+use crate::relay_words::{PartsTrouble, parts_of};
 use capnp_calls::{Call, CallFault, Step, Verb};
 use capnp_relay_files::calls_file::{CallsFile, calls_file};
 use capnp_relay_files::fault::FileFault;
@@ -10,9 +11,7 @@ use clap::ArgMatches;
 use hagzimot_commands::float_calls::{FloatCallsTrouble, FloatRoot};
 use hagzimot_commands::sizes::check_size;
 use hagzimot_commands::strict::{Misfit, check_call};
-use hagzimot_commands::word_calls::{
-    CallParts, WordTrouble, WordVerb, call_of_words, path_of, path_text,
-};
+use hagzimot_commands::word_calls::{CallParts, WordTrouble, WordVerb, path_of, path_text};
 use hagzimot_forms::calls_form::calls_form_fault;
 use hagzimot_schemas::schemas::RootedSchema;
 use std::alloc::Global;
@@ -226,7 +225,7 @@ impl Checks<'_> {
             return None;
         }
         let (nodes, root) = (self.schema.nodes(), self.schema.root_id());
-        match check_call(alloc, nodes, root, call) {
+        match check_call(alloc, self.schema.root(), call) {
             Ok(()) => check_size(alloc, nodes, root, call, self.words).err(),
             Err(why) => Some(why),
         }
@@ -285,18 +284,9 @@ fn call_of_option(
     asked: Asked<'_>,
     plan: &mut Option<Plan>,
 ) -> Result<Call, Failure> {
-    let schema = checks.schema;
-    let spelled = call_of_words(
-        alloc,
-        schema.nodes(),
-        schema.floats(),
-        schema.root_id(),
-        asked.verb,
-        asked.text,
-    );
-    let parts = match spelled {
+    let parts = match parts_of(alloc, checks.schema, asked.verb, asked.text) {
         Ok(parts) => parts,
-        Err(WordTrouble::Memory) => return Err(Failure::Memory),
+        Err(PartsTrouble::Memory) => return Err(Failure::Memory),
         Err(why) => return Err(asked.failure(alloc, &why)),
     };
     let probe = probe_path(alloc, asked)?;

@@ -4,6 +4,7 @@ ghost use Rattle.capnp_calls.specs.Roots.{IsRoot};
 
 use crate::faults::Failure;
 use crate::files::{Input, OutSink};
+use crate::filter::{conditions_of, sight_within};
 use crate::log::TurnAndFlush;
 use crate::log_words::{Lines, Watch};
 use crate::message_notes::MessageNotes;
@@ -19,7 +20,7 @@ use capnp_relay_files::calls_file::CallsFile;
 use capnp_relay_loop::answers::Answers;
 use capnp_relay_loop::ends::Counts;
 use capnp_relay_program::ahead::BoundedForm;
-use capnp_relay_streams::at_root::CallsAtRoot;
+use capnp_relay_streams::at_root::{CallsAtRoot, PlainCallsAtRoot};
 use capnp_relay_streams::between::BetweenFault;
 use capnp_relay_streams::options::{Form, ReaderOptions, RelayOptions};
 use capnp_stream::forms::MessageForm;
@@ -27,6 +28,8 @@ use capnp_stream_io::adapters::Source;
 use clap::ArgMatches;
 use hagzimot_clears::active::ActiveClears;
 use hagzimot_commands::float_replies::FloatReplies;
+use hagzimot_conditional::conditional::Conditional;
+use hagzimot_conditions::conditions::Conditions;
 use hagzimot_outcomes::skips::Skips;
 use hagzimot_runs::asked::Asked;
 use hagzimot_runs::run::{answer_watched, relay_counted, relay_watched};
@@ -45,6 +48,8 @@ pub struct RelayTask {
     calls: Vec<Call>,
     /// Which calls run where; `None` if each runs at every message.
     plan: Option<Plan>,
+    /// Which messages are edited; `None` if each is.
+    conditions: Option<Conditions>,
     bounds: Bounds,
     is_plain: bool,
 }
@@ -113,10 +118,12 @@ impl RelayTask {
             versions.check_schemas(alloc, &renamings)?;
             versions.check_calls(alloc, &renamings)?;
         }
+        let conditions = conditions_of(alloc, matches, &schema)?;
         Ok(RelayTask {
             schema,
             calls,
             plan,
+            conditions,
             bounds,
             is_plain: matches.get_flag("plain"),
         })
@@ -133,7 +140,7 @@ impl RelayTask {
 
     /// Whether each call runs at every message.
     pub fn runs_all(&self) -> bool {
-        self.plan.is_none()
+        self.plan.is_none() && self.conditions.is_none()
     }
 
     /// Whether replies print values.
@@ -221,6 +228,9 @@ impl RelayTask {
         if let Some(plan) = &self.plan {
             return self.run_planned::<I, O, L>(alloc, source, out, log, watch, plan);
         }
+        if self.conditions.is_some() {
+            return self.run_picked::<I, O, L>(alloc, source, out, log, watch);
+        }
         let mut region = region(alloc, REGION_LEN)?;
         let notes = self.notes(watch);
         let end = relay_watched::<
@@ -271,15 +281,66 @@ impl RelayTask {
             probes: &plan.numbers,
             inactive: &inactive,
         };
-        let notes = self.notes(watch);
-        watch_all::<I, O, L, ActiveClears<'_, '_>>(
+        self.answer_picked::<I, O, L, ActiveClears<'_, '_>>(
             alloc,
             source,
             out,
             log,
             &answers,
-            notes,
+            watch,
             Some(skips),
+        )
+    }
+
+    /// As `run_watched`, where only the messages that keep the conditions are edited.
+    fn run_picked<I: BoundedForm, O: MessageForm, L: RunLog>(
+        &self,
+        alloc: Global,
+        source: &mut Source<Input>,
+        out: &mut OutSink,
+        log: &mut L,
+        watch: &Watch,
+    ) -> Result<Counts, BetweenFault> {
+        let bounds = self.bounds;
+        let Ok(calls) = RootCalls::new(alloc, self.schema.root(), &self.calls) else {
+            return Err(BetweenFault::Memory);
+        };
+        if self.is_plain {
+            let answers = PlainCallsAtRoot { calls, bounds };
+            return self.answer_picked::<I, O, L, PlainCallsAtRoot<'_>>(
+                alloc, source, out, log, &answers, watch, None,
+            );
+        }
+        let answers = CallsAtRoot { calls, bounds };
+        self.answer_picked::<I, O, L, CallsAtRoot<'_>>(
+            alloc, source, out, log, &answers, watch, None,
+        )
+    }
+
+    /// Answers the messages of a source that keep the conditions, if there are some, and passes on
+    /// the others.
+    fn answer_picked<I: BoundedForm, O: MessageForm, L: RunLog, A: Answers>(
+        &self,
+        alloc: Global,
+        source: &mut Source<Input>,
+        out: &mut OutSink,
+        log: &mut L,
+        answers: &A,
+        watch: &Watch,
+        skips: Option<Skips<'_, '_>>,
+    ) -> Result<Counts, BetweenFault> {
+        let notes = self.notes(watch);
+        let Some(conditions) = &self.conditions else {
+            return watch_all::<I, O, L, A>(alloc, source, out, log, answers, notes, skips);
+        };
+        let picked = Conditional {
+            answers,
+            conditions,
+            sight: sight_within(&self.schema, self.bounds),
+            inactive: skips.map(|skips| skips.inactive),
+        };
+        watch_all::<I, O, L, Conditional<'_, '_, '_, A>>(
+            alloc, source, out, log, &picked, notes, skips,
         )
     }
 }

@@ -2,6 +2,7 @@
 
 use crate::faults::Failure;
 use crate::files::{Input, OutFile, OutSink, open_source};
+use crate::filter::{is_picked, show_picked};
 use crate::hints::{Beginning, beginning_of, hint};
 use crate::log::{Lines, Log, Refusals, TurnAndFlush};
 use crate::tape::Tape;
@@ -181,6 +182,20 @@ fn showing_of<'a>(matches: &ArgMatches<'_>, schema: &'a RootedSchema) -> Showing
     }
 }
 
+/// Refuses a form of cells without cells.
+fn check_cells(alloc: Global, matches: &ArgMatches<'_>) -> Result<(), Failure> {
+    if matches.get_str("fields").is_some() {
+        return Ok(());
+    }
+    for id in ["csv", "tsv"] {
+        if matches.get_flag(id) {
+            let option = format!(in alloc; "--{id}")?;
+            return Err(Failure::words(alloc, option.as_str(), &"it needs --fields"));
+        }
+    }
+    Ok(())
+}
+
 /// `hagzimot show`.
 pub fn show(rt: &HostRuntime, matches: &ArgMatches<'_>) -> Result<u8, Failure> {
     let alloc = rt.alloc();
@@ -192,8 +207,12 @@ pub fn show(rt: &HostRuntime, matches: &ArgMatches<'_>) -> Result<u8, Failure> {
     if first > last {
         return Err(Failure::contradiction(alloc, first, last));
     }
+    check_cells(alloc, matches)?;
     let schema = words::rooted(rt, matches, "schema")?;
     let showing = showing_of(matches, &schema);
+    if is_picked(matches) {
+        return show_picked(rt, matches, &schema, showing.manner);
+    }
     let kept = OutFile::standard(rt)?;
     let mut out = kept.sink(alloc)?;
     let mut log = Log::new(rt, Lines::All, Refusals::unseen())?;

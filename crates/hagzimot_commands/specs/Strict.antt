@@ -1,8 +1,10 @@
--- Calls that some record could take.
-use Rattle.std.specs.Prelude.{◌≡◌, ℕ, ◌-◌, ◌^◌, ◌==◌, ℤ, pos, negsuc, int_lt, Bool, true, false, not, ◌||◌, ◌&&◌, if◌then◌else◌, ◌⊎◌, Option, Some, None, is_some, List, length, slice_get}
+-- What is wrong with calls that no record takes.
+use Rattle.std.specs.Prelude.{◌≡◌, ℕ, ◌-◌, ◌^◌, ◌==◌, ℤ, pos, negsuc, int_lt, Bool, true, false, not, ◌||◌, ◌&&◌, if◌then◌else◌, ◌⊎◌, Option, Some, None, is_some, List, length, map, slice_get}
 use Rattle.capnp_model.specs.Calls.{Step as ModelStep, name, index, CallValue as ModelValue, whole_number, truth, enumerant, text_value, blob_value, message, Verb as ModelVerb, get, set_to, init, initn, clear}
 use Rattle.capnp_records.specs.declared.node.BaseType.{BaseType}
 use Rattle.capnp_records.specs.declared.node.BaseType.TheVariants as base
+use Rattle.capnp_model.specs.Schemas.{Node}
+use Rattle.capnp_records.specs.NodeViews.{node_of}
 use Rattle.capnp_records.specs.declared.node.NodeRecord.{NodeRecord}
 use Rattle.hagzimot_commands.specs.declared.paths.Landing.{Landing}
 use Rattle.hagzimot_commands.specs.declared.paths.Landing.TheVariants as landing
@@ -138,13 +140,13 @@ is_found_index (Some s) = is_index s
 abbrev pub ends_with_index : List ModelStep → Bool
 ends_with_index path = is_found_index (slice_get path (length path - 1))
 
--- Whether a call can be made where its path leads. No untyped pointer of a list can be set, and no element is made anew or cleared.
-abbrev pub can_take : Landing → List ModelStep → ModelVerb → Bool
-can_take at path get = true
-can_take at path (set_to v) = has_sort_of v at && (is_in_range_there v at && not (is_untyped_there at && ends_with_index path))
-can_take at path init = not (ends_with_index path) && (is_struct_there at || is_untyped_there at)
-can_take at path (initn n) = is_many_there at
-can_take at path clear = not (ends_with_index path)
+-- Whether a call can be made where its path leads, as far as types tell: messages aren't looked into. No untyped pointer of a list can be set, and no element is made anew or cleared.
+abbrev pub fits_there : Landing → List ModelStep → ModelVerb → Bool
+fits_there at path get = true
+fits_there at path (set_to v) = has_sort_of v at && (is_in_range_there v at && not (is_untyped_there at && ends_with_index path))
+fits_there at path init = not (ends_with_index path) && (is_struct_there at || is_untyped_there at)
+fits_there at path (initn n) = is_many_there at
+fits_there at path clear = not (ends_with_index path)
 
 -- A number is not one of the type that stands there, which has these.
 abbrev pub IsOutOfRange : ℤ → Landing → Misfit → Type 0
@@ -155,17 +157,18 @@ IsOutOfRange z at _ = ⊥
 abbrev pub IsMisfitThere : Landing → List ModelStep → ModelVerb → Misfit → Type 0
 IsMisfitThere at path verb (misfit.Path m) = ⊥
 IsMisfitThere at path verb (misfit.Sort given there) = (v : ModelValue) × (verb ≡ set_to v) × (has_sort_of v at ≡ false)
+IsMisfitThere at path verb (misfit.Value there) = fits_there at path verb ≡ true
 IsMisfitThere at path verb (misfit.Range z there least greatest) = (verb ≡ set_to (whole_number z)) × (has_sort_of (whole_number z) at ≡ true) × IsOutOfRange z at (misfit.Range z there least greatest)
 IsMisfitThere at path verb (misfit.NotMade told wanted there) = ((verb ≡ init) × (is_struct_there at ≡ false) × (is_untyped_there at ≡ false)) ⊎ ((n : ℕ) × (verb ≡ initn n) × (is_many_there at ≡ false))
 IsMisfitThere at path verb (misfit.AtElement told) = ((verb ≡ init) ⊎ (verb ≡ clear)) × (ends_with_index path ≡ true)
 IsMisfitThere at path verb (misfit.Size count words limit) = ⊥
 IsMisfitThere at path verb misfit.UntypedElement = (v : ModelValue) × (verb ≡ set_to v) × (is_untyped_there at ≡ true) × (ends_with_index path ≡ true)
 
--- Some record could take the call: its path leads somewhere, and the call can be made there.
-abbrev pub CouldBeTaken : List NodeRecord → ℕ → List ModelStep → ModelVerb → Type 0
-CouldBeTaken nodes root path verb = (at : Landing) × (walked nodes (struct_landing root) path ≡ Some at) × (can_take at path verb ≡ true)
-
 -- Why no record could take it.
 abbrev pub IsMisfit : List NodeRecord → ℕ → List ModelStep → ModelVerb → Misfit → Type 0
 IsMisfit nodes root path verb (misfit.Path m) = Misses nodes (struct_landing root) path m
 IsMisfit nodes root path verb e = (at : Landing) × (walked nodes (struct_landing root) path ≡ Some at) × IsMisfitThere at path verb e
+
+-- The same, where what is known of the nodes are their views.
+abbrev pub IsMisfitUnder : List Node → ℕ → List ModelStep → ModelVerb → Misfit → Type 0
+IsMisfitUnder views root path verb m = (nodes : List NodeRecord) × (map node_of nodes ≡ views) × IsMisfit nodes root path verb m

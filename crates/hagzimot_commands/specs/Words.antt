@@ -1,5 +1,5 @@
 -- Calls that are given as words, as `lines[0].count=3`.
-use Rattle.std.specs.Prelude.{◌≡◌, ℕ, pos, ◌==◌, ◌⊎◌, if◌then◌else◌, Option, Some, None, Ok, List, [], ◌++◌, map, find, codes, decimal, string_bytes}
+use Rattle.std.specs.Prelude.{◌≡◌, ℕ, pos, ◌==◌, ◌⊎◌, if◌then◌else◌, Option, Some, None, Ok, List, [], ◌∷◌, ◌++◌, map, find, codes, decimal, string_bytes}
 use Rattle.std.specs.List.{flat_map, position, before_first, after_first}
 use Rattle.std.specs.Str.{bytes_eq}
 use Rattle.std.specs.Str.Parse.{IsNumeral, digits_value, without_leading_plus, without_leading_sign, signed_digits_value}
@@ -7,6 +7,7 @@ use Rattle.hex.specs.Hex.{decode_of}
 use Rattle.capnp_model.specs.Calls.{Step as ModelStep, name, index}
 use Rattle.capnp_calls.specs.CallViews.{step_view}
 use Rattle.capnp_calls.specs.declared.call.Step.{Step}
+use Rattle.capnp_calls.specs.declared.call.Step.TheVariants as step
 use Rattle.capnp_calls.specs.declared.call.Verb.{Verb}
 use Rattle.capnp_calls.specs.declared.call.Verb.TheVariants as verb
 use Rattle.capnp_calls.specs.declared.call.CallValue.{CallValue}
@@ -29,6 +30,12 @@ step_text (index i) = codes "[" ++ (decimal i ++ codes "]")
 -- A text spells a path; it begins without a point.
 abbrev pub SpellsPath : List ℕ → List Step → Type 0
 SpellsPath text path = codes "." ++ text ≡ flat_map (λ s. step_text (step_view s)) path
+
+-- The text of a path: that of its steps, but for the point before a first name.
+abbrev pub path_told : List Step → List ℕ
+path_told [] = []
+path_told (step.Name n ∷ path) = string_bytes n ++ flat_map (λ s. step_text (step_view s)) path
+path_told (step.Index i ∷ path) = flat_map (λ s. step_text (step_view s)) (step.Index i ∷ path)
 
 -- The number of the first enumerant of a name.
 abbrev pub enumerant_numbered : NodeRecord → List ℕ → Option ℕ

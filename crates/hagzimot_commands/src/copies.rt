@@ -28,10 +28,7 @@ fn push_copy(alloc: Global, copies: &mut Vec<Vec<u8>>, bytes: &[u8]) -> Result<(
 
 /// Copies of the whole words of the segments of a message, in their order. `Size`: there are more
 /// than 511 of them. `Memory`: memory for them was refused, or one has 2^29 words or more.
-pub(crate) fn copy_segments<S: ReaderSegments>(
-    alloc: Global,
-    segments: &S,
-) -> Result<Vec<Vec<u8>>, Want>
+pub fn copy_segments<S: ReaderSegments>(alloc: Global, segments: &S) -> Result<Vec<Vec<u8>>, Want>
     ensures copies { IfOk result
         (λ copies. CopiesWholeWords (S.segments segments.now) (each_segment_bytes copies)) }
     ensures size { result ≡ Err Want.Size → 511 < length (S.segments segments.now) }

@@ -3,7 +3,7 @@
 
 pub mod canonical;
 pub mod convert;
-mod copies;
+pub mod copies;
 pub mod float_calls;
 mod float_fields;
 pub mod float_replies;

@@ -1,13 +1,17 @@
 //! Calls that no record could take, refused before any message is read.
-ghost use Rattle.std.specs.Prelude.{◌≡◌, true, IfErr, OnOk, map};
+ghost use Rattle.std.specs.Prelude.{◌≡◌, true, false, IfErr, OnErr, OnOk, map};
 ghost use Rattle.capnp_model.specs.Calls.{set_to, init};
+ghost use Rattle.capnp_values_queries.specs.Structs.{nodes_around, schema_around, id_of};
 ghost use Rattle.capnp_calls.specs.CallViews.{step_view, slot_value_view, action_view, call_view};
+ghost use Rattle.capnp_calls_replies.specs.Checks.{can_take};
 ghost use Rattle.hagzimot_commands.specs.Sorts.{sort_told};
-ghost use Rattle.hagzimot_commands.specs.Strict.{numbers_of, is_number_among, base_takes_number, base_takes, is_whole_message, has_sort_of, is_in_type, is_in_range_there, numbers_there, is_struct_there, is_untyped_there, is_many_there, is_index, ends_with_index, can_take, IsOutOfRange, IsMisfitThere, CouldBeTaken, IsMisfit};
+ghost use Rattle.hagzimot_commands.specs.Strict.{numbers_of, is_number_among, base_takes_number, base_takes, is_whole_message, has_sort_of, is_in_type, is_in_range_there, numbers_there, is_struct_there, is_untyped_there, is_many_there, is_index, ends_with_index, fits_there, IsOutOfRange, IsMisfitThere, IsMisfit, IsMisfitUnder};
 
 use crate::paths::{Landing, Misstep, landing_from};
 use capnp_calls::{Action, Call, SlotValue, Step};
+use capnp_calls_replies::checks::could_be_taken;
 use capnp_records::node::{BaseType, NodeRecord, TypeRecord};
+use capnp_values_queries::structs::StructSchema;
 use std::alloc::Global;
 use std::fmt;
 use std::fmt::{Display, Formatter, Write};
@@ -20,6 +24,10 @@ pub enum Misfit {
     /// A value of another sort than what is there.
     Sort {
         given: &'static str,
+        there: &'static str,
+    },
+    /// A message whose value doesn't fit what is there.
+    Value {
         there: &'static str,
     },
     /// A number that the type doesn't have, which has those from the least to the greatest.
@@ -85,6 +93,10 @@ impl Display for Misfit {
             Misfit::Sort { given, there } => write!(
                 f,
                 "{given} can't be set where the path leads to {there}"
+            ),
+            Misfit::Value { there } => write!(
+                f,
+                "the value of the message doesn't fit where the path leads to {there}"
             ),
             Misfit::Range {
                 number,
@@ -260,7 +272,7 @@ fn check_number(number: i128, at: Landing) -> Result<(), Misfit>
 
 /// Whether a value can be set where a path leads.
 fn check_set(value: &SlotValue, at: Landing, path: &[Step]) -> Result<(), Misfit>
-    ensures ok { OnOk result (can_take at (map step_view path.now)
+    ensures ok { OnOk result (fits_there at (map step_view path.now)
         (set_to (slot_value_view value.now)) ≡ true) }
     ensures err { IfErr result (IsMisfitThere at (map step_view path.now)
         (set_to (slot_value_view value.now))) }
@@ -282,7 +294,7 @@ fn check_set(value: &SlotValue, at: Landing, path: &[Step]) -> Result<(), Misfit
 
 /// Whether a value can be made anew where a path leads.
 fn check_init(at: Landing, path: &[Step]) -> Result<(), Misfit>
-    ensures ok { OnOk result (can_take at (map step_view path.now) init ≡ true) }
+    ensures ok { OnOk result (fits_there at (map step_view path.now) init ≡ true) }
     ensures err { IfErr result (IsMisfitThere at (map step_view path.now) init) }
 {
     if ends_at_element(path) {
@@ -301,7 +313,7 @@ fn check_init(at: Landing, path: &[Step]) -> Result<(), Misfit>
 /// Whether an action can be made where a path leads.
 fn check_there(action: &Action, at: Landing, path: &[Step]) -> Result<(), Misfit>
     ensures ok { OnOk result
-        (can_take at (map step_view path.now) (action_view action.now) ≡ true) }
+        (fits_there at (map step_view path.now) (action_view action.now) ≡ true) }
     ensures err { IfErr result
         (IsMisfitThere at (map step_view path.now) (action_view action.now)) }
 {
@@ -320,29 +332,46 @@ fn check_there(action: &Action, at: Landing, path: &[Step]) -> Result<(), Misfit
     }
 }
 
-/// Whether some record could take a call under a schema, from the struct of an id on: its path
-/// leads to a field or an element, and what it does there fits the type. A refusal says what is
-/// wrong, and that each record would refuse the call:
+/// What is wrong with a call that no record takes: the first of these that holds. `Value` if none of
+/// the others does, as what it sets is a message then.
+fn misfit_of(alloc: Global, nodes: &[NodeRecord], root: u64, call: &Call) -> Misfit
+    ensures { IsMisfit nodes.now root (call_view call.now).path (call_view call.now).verb result }
+{
+    let path = call.path();
+    let at = match landing_from(alloc, nodes, root, path) {
+        Ok(at) => at,
+        Err(misstep) => return Misfit::Path(misstep),
+    };
+    match check_there(call.action(), at, path) {
+        Ok(()) => Misfit::Value {
+            there: there_at(at),
+        },
+        Err(misfit) => misfit,
+    }
+}
+
+/// Whether some record could take a call under the schema of a root: its path leads to a field or an
+/// element, and what it does there fits. A call is refused exactly if every record refuses it. The
+/// refusal says what is wrong:
 /// - `Path`: a step of its path leads nowhere;
 /// - `Sort`: a value of another sort than what is there;
 /// - `UntypedElement`: `set` of an element of a list of untyped pointers;
 /// - `Range`: a number that the type there doesn't have;
 /// - `AtElement`: `init` or `clear` of an element;
 /// - `NotMade`: `init` where no struct, group or untyped pointer is, `initn` where no list, text or
-///   data is.
-///
-/// A message is taken for each struct, group and list: whether its root is one, with elements of
-/// their type, shows only when the call runs.
-pub fn check_call(alloc: Global, nodes: &[NodeRecord], root: u64, call: &Call) -> Result<(), Misfit>
-    ensures ok { OnOk result
-        (CouldBeTaken nodes.now root (call_view call.now).path (call_view call.now).verb) }
-    ensures err { IfErr result
-        (IsMisfit nodes.now root (call_view call.now).path (call_view call.now).verb) }
+///   data is;
+/// - `Value`: a message whose value is no struct, no list of such elements, or a struct that the
+///   group can't be set to.
+pub fn check_call(alloc: Global, root: StructSchema<'_>, call: &Call) -> Result<(), Misfit>
+    ensures taken { OnOk result
+        (can_take (schema_around root.entry) (id_of root.entry) (call_view call.now) ≡ true) }
+    ensures refused { OnErr result
+        (can_take (schema_around root.entry) (id_of root.entry) (call_view call.now) ≡ false) }
+    ensures misfit { IfErr result (IsMisfitUnder (nodes_around root.entry) (id_of root.entry)
+        (call_view call.now).path (call_view call.now).verb) }
 {
-    let path = call.path();
-    let at = match landing_from(alloc, nodes, root, path) {
-        Ok(at) => at,
-        Err(misstep) => return Err(Misfit::Path(misstep)),
-    };
-    check_there(call.action(), at, path)
+    if could_be_taken(root, call) {
+        return Ok(());
+    }
+    Err(misfit_of(alloc, root.set().nodes(), root.raw().id, call))
 }

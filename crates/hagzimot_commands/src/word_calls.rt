@@ -1,9 +1,9 @@
 //! Calls that are given as words, as `customer.name=Ada`.
-ghost use Rattle.std.specs.Prelude.{◌≡◌, ◌++◌, true, IfOk, OnOk, List, []};
+ghost use Rattle.std.specs.Prelude.{◌≡◌, ◌++◌, true, IfOk, OnOk, List, [], string_bytes};
 ghost use Rattle.std.specs.List.{flat_map};
 ghost use Rattle.capnp_calls.specs.CallViews.{step_view};
 ghost use Rattle.capnp_relay_requests.specs.declared.request.FloatField.{FloatField};
-ghost use Rattle.hagzimot_commands.specs.Words.{step_text, enumerant_numbered, SpellsPath, SpellsEnumerant, SpellsValue, SpellsValueThere, MayBeBits, MakeCall};
+ghost use Rattle.hagzimot_commands.specs.Words.{step_text, path_told, enumerant_numbered, SpellsPath, SpellsEnumerant, SpellsValue, SpellsValueThere, MayBeBits, MakeCall};
 
 use crate::float_fields::is_float_at;
 use crate::paths::{Landing, Misstep, landing_from};
@@ -99,26 +99,26 @@ fn push_indices(path: &mut Vec<Step>, text: &str) -> Result<(), WordTrouble> {
 }
 
 /// Adds the text of a step: a name behind a point, an index in brackets.
-fn push_step(alloc: Global, text: &mut Vec<u8>, step: &Step) -> Result<(), AllocError>
-    ensures { OnOk result (text.new.items ≡ text.old.items ++ step_text (step_view step.now)) }
+fn push_step(alloc: Global, text: &mut String, step: &Step) -> Result<(), AllocError>
+    ensures { OnOk result
+        (string_bytes text.new ≡ string_bytes text.old ++ step_text (step_view step.now)) }
 {
     match step {
         Step::Name(name) => {
-            text.push(b'.')?;
-            text.extend_from_slice(name.as_bytes())?;
+            text.push_str(".")?;
+            text.push_str(name.as_str())
         }
         Step::Index(index) => {
             let told = format!(in alloc; "[{index}]")?;
-            text.extend_from_slice(told.as_bytes())?;
+            text.push_str(told.as_str())
         }
     }
-    Ok(())
 }
 
 /// Adds the text of each step.
-fn push_steps(alloc: Global, text: &mut Vec<u8>, path: &[Step]) -> Result<(), AllocError>
-    ensures { OnOk result (text.new.items
-        ≡ text.old.items ++ flat_map (λ s. step_text (step_view s)) path.now) }
+fn push_steps(alloc: Global, text: &mut String, path: &[Step]) -> Result<(), AllocError>
+    ensures { OnOk result (string_bytes text.new
+        ≡ string_bytes text.old ++ flat_map (λ s. step_text (step_view s)) path.now) }
 {
     for step in path {
         push_step(alloc, text, step)?;
@@ -127,14 +127,18 @@ fn push_steps(alloc: Global, text: &mut Vec<u8>, path: &[Step]) -> Result<(), Al
 }
 
 /// Returns the text of a path, as `lines[0].count`. An error if an allocation is refused.
-pub fn path_text(alloc: Global, path: &[Step]) -> Result<String, AllocError> {
-    let mut text = Vec::new(alloc);
-    push_steps(alloc, &mut text, path)?;
-    let told = match str::from_utf8(&text) {
-        Ok(told) => told,
-        Err(_) => "",
-    };
-    String::from_str(alloc, told.strip_prefix('.').unwrap_or(told))
+pub fn path_text(alloc: Global, path: &[Step]) -> Result<String, AllocError>
+    ensures { IfOk result (λ text. string_bytes text ≡ path_told path.now) }
+{
+    let mut text = String::new(alloc);
+    match path {
+        [Step::Name(name), others @ ..] => {
+            text.push_str(name.as_str())?;
+            push_steps(alloc, &mut text, others)?;
+        }
+        _ => push_steps(alloc, &mut text, path)?,
+    }
+    Ok(text)
 }
 
 /// Whether a text spells a path: it is the only text of these steps. An error where a growth was
@@ -142,12 +146,12 @@ pub fn path_text(alloc: Global, path: &[Step]) -> Result<String, AllocError> {
 fn spells(alloc: Global, text: &str, path: &[Step]) -> Result<bool, AllocError>
     ensures { IfOk result (λ is. is ≡ true → SpellsPath text.now path.now) }
 {
-    let mut given = Vec::new(alloc);
-    given.push(b'.')?;
-    given.extend_from_slice(text.as_bytes())?;
-    let mut told = Vec::new(alloc);
+    let mut given = String::new(alloc);
+    given.push_str(".")?;
+    given.push_str(text)?;
+    let mut told = String::new(alloc);
     push_steps(alloc, &mut told, path)?;
-    Ok(given.as_slice() == told.as_slice())
+    Ok(given.as_bytes() == told.as_bytes())
 }
 
 /// The steps of a path, as `lines[0].count`. `Path`: the text is no path, or its numbers have a

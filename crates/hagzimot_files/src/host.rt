@@ -45,8 +45,12 @@ pub struct HostFile {
 }
 
 impl Host {
+    ghost use Rattle.std.specs.Prelude.{◌≡◌, []};
+
     /// The files of the operating system, with no call noted.
-    pub fn new(rt: &HostRuntime) -> Host {
+    pub fn new(rt: &HostRuntime) -> Host
+        ensures { result.log.calls ≡ [] }
+    {
         Host {
             rt: *rt,
             log: Record::new(),

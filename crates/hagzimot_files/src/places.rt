@@ -1,5 +1,6 @@
 //! Where the name of an output leads, and which names lead to one file.
-ghost use Rattle.std.specs.Prelude.{◌↔◌, IsTrue};
+ghost use Rattle.std.specs.Prelude.{◌≡◌, ◌↔◌, Err, [], IsTrue};
+ghost use Rattle.hagzimot_files.specs.declared.places.PlaceError.{PlaceError};
 ghost use Rattle.hagzimot_files.specs.Places.{IsAt, AreOneFile, IsStandardName};
 
 use crate::files::Owners;
@@ -212,8 +213,11 @@ fn look(rt: &HostRuntime, path: &str) -> Result<Step, PlaceError> {
     }
 }
 
-/// The output that a name leads to, behind all symbolic links. Nothing is opened.
-pub fn resolve(rt: &HostRuntime, name: &str) -> Result<Target, PlaceError> {
+/// The output that a name leads to, behind all symbolic links. Nothing is opened. An empty name is
+/// refused as such.
+pub fn resolve(rt: &HostRuntime, name: &str) -> Result<Target, PlaceError>
+    ensures { name.now ≡ [] → result ≡ Err PlaceError.Empty }
+{
     if name.is_empty() {
         return Err(PlaceError::Empty);
     }

@@ -1,0 +1,4 @@
+//! Messages that schema sources embed.
+#![tactic(auto)]
+
+pub mod embeds;

@@ -1,0 +1,96 @@
+//! The words of the subcommands that pick messages.
+
+use crate::arguments::{
+    condition, files, floats_as_bits, form, limit_of_words, nesting, no_sync, output, root, schema,
+};
+use crate::options::{Options, Taken};
+use clap::{Arg, ArgAction};
+use std::alloc::{AllocError, Global};
+
+/// Adds the options of `show` that pick messages, and fields of them.
+pub fn with_picks<'a, 'w>(
+    alloc: Global,
+    options: Options<'a, 'w>,
+) -> Result<Options<'a, 'w>, AllocError> {
+    options
+        .arg(condition(
+            alloc,
+            "Shows only the messages that keep a condition, as 'status = sent and not has customer.email'",
+        ))?
+        .arg(
+            Arg::new(alloc, "fields")
+                .long("fields")
+                .value_name("PATHS")
+                .help(
+                    "Prints a table of these fields, one row a message, as number,customer.name,lines[0].count",
+                ),
+        )?
+        .arg(
+            Arg::new(alloc, "tsv")
+                .long("tsv")
+                .action(ArgAction::SetTrue)
+                .help("Puts tabs between the cells of --fields, as is done by default")
+                .requires_arg("fields")?,
+        )?
+        .arg(
+            Arg::new(alloc, "csv")
+                .long("csv")
+                .action(ArgAction::SetTrue)
+                .help("Puts commas between the cells of --fields")
+                .requires_arg("fields")?
+                .conflicts_with("tsv")?,
+        )
+}
+
+/// Returns the option of `relay` that picks messages.
+pub fn edited<'a>(alloc: Global) -> Arg<'a> {
+    condition(
+        alloc,
+        "Edits only the messages that keep a condition, as 'status = sent and not has customer.email'; the others are written unedited",
+    )
+}
+
+/// Returns the words of `filter`.
+pub fn filter<'a, 'w>(alloc: Global, taken: Taken<'w>) -> Result<Options<'a, 'w>, AllocError> {
+    Options::new(
+        alloc,
+        taken,
+        "filter",
+        "Writes the messages that keep a condition, each with the same segments",
+    )
+    .arg(schema(alloc))?
+    .arg(floats_as_bits(alloc))?
+    .arg(root(alloc))?
+    .arg(condition(
+        alloc,
+        "The condition, as 'status = sent and not has customer.email'",
+    )
+    .required(true))?
+    .arg(form(alloc, "in", "The form of the input"))?
+    .arg(form(alloc, "out", "The form of the output"))?
+    .arg(limit_of_words(alloc))?
+    .arg(nesting(alloc))?
+    .arg(
+        Arg::new(alloc, "stats")
+            .long("stats")
+            .action(ArgAction::SetTrue)
+            .help("Report at the end how many messages match"),
+    )?
+    .arg(output(alloc))?
+    .arg(no_sync(alloc))?
+    .arg(files(alloc))
+}
+
+/// Returns the words of `hash`.
+pub fn hash<'a, 'w>(alloc: Global, taken: Taken<'w>) -> Result<Options<'a, 'w>, AllocError> {
+    Options::new(
+        alloc,
+        taken,
+        "hash",
+        "Prints the SHA-256 of each message's canonical bytes and the message's number, which needs no schema",
+    )
+    .arg(form(alloc, "in", "The form of the input"))?
+    .arg(limit_of_words(alloc))?
+    .arg(nesting(alloc))?
+    .arg(files(alloc))
+}
