@@ -58,8 +58,10 @@ class Schema:
         self.generic = set(re.findall(r"(\w+) @\d+ :(?:List\()*P\d", source))
 
     def root(self, name):
-        """The id of the struct of a name."""
-        found = [node["id"] for node in self.nodes.values() if "fields" in node and not node.get("group") and re.split(r"[:.]", node["name"])[-1] == name]
+        """The id of the struct of a name: a path from its file wins over a last part."""
+        structs = [node for node in self.nodes.values() if "fields" in node and not node.get("group")]
+        whole = [node["id"] for node in structs if node["name"].rpartition(":")[2] == name]
+        found = whole or [node["id"] for node in structs if re.split(r"[:.]", node["name"])[-1] == name]
         return found[0] if len(found) == 1 else None
 
     def active(self, node, value):
