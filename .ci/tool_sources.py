@@ -5,18 +5,23 @@
 - The sources of crates/hagzimot/data/sources: `hagzimot schema -I . NAME.capnp` has to print the nodes of NAME.json, which `hagzimot schema` printed of the request that the C++ compiler wrote.
 - Those of crates/hagzimot/data/sources/bad: the command has to refuse NAME.capnp with the lines of NAME.txt, which were written by hand, and status 4.
 - Those of crates/hagzimot/data/peers/make.jsonl: `hagzimot compile` has to write the nodes of the request beside each source, which the C++ compiler wrote.
-- If `capnp` is on the PATH, the same of all sources that are stored or lie below /usr/include/capnp, against what it writes of them now.
+- Each of 1,500 mutations of these sources: the command has to write a whole request, or to refuse the source with lines that begin with a place, within ten seconds.
+- If `capnp` is on the PATH, the same of all sources that are stored or lie below /usr/include/capnp, against what it writes of them now. So with 60 random sets of files with every construct. A mutation that both compile has to give the same nodes.
 
 Requests are compared node by node, by their ids: data sections without zeros at their end, pointers without null ones and empty structs at their end, and empty lists as null. Not compared are the order of the nodes, comments and the version of the compiler. A case that differs
 is shown, and the status is 1. Nothing is written below the repository.
 """
 import json
 import pathlib
+import random
+import re
 import shutil
 import struct
 import subprocess
 import sys
 import tempfile
+
+import source_texts
 
 TOP = pathlib.Path(__file__).resolve().parent.parent
 DATA = TOP / "crates" / "hagzimot" / "data"
@@ -24,6 +29,11 @@ SOURCES = DATA / "sources"
 PROGRAM = TOP / "crates" / "hagzimot" / "out" / "hagzimot"
 INSTALLED = pathlib.Path("/usr/include/capnp")
 FAULT = 4
+SEED, MUTATIONS, RANDOM_SETS = 64, 1500, 60
+# The first line of what is said of a source: its path, a line and a column.
+PLACE = re.compile(r"[^\n]*\.capnp:[1-9][0-9]*:[1-9][0-9]*: [^\n]+\n")
+# What the C++ compiler says of sources that it doesn't compile although they are right.
+OF_THE_COMPILER = b"Uncaught exception"
 # The bits of an element, by the number of its size in a pointer; structs and pointers are read by themselves.
 BITS = {0: 0, 1: 1, 2: 8, 3: 16, 4: 32, 5: 64}
 POINTERS, STRUCTS = 6, 7
@@ -215,15 +225,72 @@ def compiled_cases(program):
         yield is_compiled(program, "/", path, theirs.stdout, path)
 
 
+def is_answered(program, folder, text):
+    """Whether the command compiles a source to a whole request, or refuses it with places; and the request."""
+    (folder / "mutated.capnp").write_bytes(text)
+    try:
+        got = subprocess.run([str(program), "compile", "mutated.capnp"], cwd=folder, capture_output=True, timeout=10, check=False)
+    except subprocess.TimeoutExpired:
+        print(f"a mutation takes more than ten seconds:\n{text!r}")
+        return False, b""
+    said = got.stderr.decode("utf-8", "backslashreplace")
+    if got.returncode == 0 and not said:
+        try:
+            nodes_and_files(got.stdout)
+            return True, got.stdout
+        except (ValueError, IndexError, KeyError, struct.error) as fault:
+            said = f"the request can't be read: {fault}"
+    elif (got.returncode, got.stdout) == (FAULT, b"") and PLACE.match(said):
+        return True, b""
+    print(f"a mutation has status {got.returncode}: {said[:500]}\n{text!r}")
+    return False, b""
+
+
+def mutated_cases(program, has_compiler):
+    """Mutations of sources, each with whether it is answered; as the compiler does, if both compile it."""
+    chance = random.Random(SEED)
+    lines = (DATA / "peers" / "make.jsonl").read_text().splitlines()
+    texts = [json.loads(line)["capnp"].encode() for line in lines]
+    texts += [path.read_bytes() for path in sorted(SOURCES.glob("**/*.capnp"))] * 9
+    with tempfile.TemporaryDirectory() as room:
+        folder = pathlib.Path(room)
+        for place in range(MUTATIONS):
+            text = source_texts.mutated(chance, chance.choice(texts), texts)
+            is_right, request = is_answered(program, folder, text)
+            if request and has_compiler and place % 8 == 0:
+                theirs = run(("capnp", "compile", "-o-", "mutated.capnp"), folder)
+                is_right = bool(theirs.returncode) or not differences(request, theirs.stdout)
+                if not is_right:
+                    print(f"a mutation has other nodes than the compiler's:\n{text!r}")
+            yield is_right
+
+
+def random_cases(program):
+    """Random sets of files, each with whether the command compiles the last as the compiler does."""
+    for seed in range(RANDOM_SETS):
+        with tempfile.TemporaryDirectory() as folder:
+            files = source_texts.schema(seed)
+            for name, text in files.items():
+                (pathlib.Path(folder) / name).write_text(text)
+            theirs = run(("capnp", "compile", "-o-", "-I.", name), folder)
+            if theirs.returncode and OF_THE_COMPILER in theirs.stderr:
+                continue
+            if theirs.returncode:
+                print(f"random files {seed}: the compiler refuses them: {theirs.stderr.decode()}")
+            yield not theirs.returncode and is_compiled(program, folder, name, theirs.stdout, f"random files {seed}", ("-I.",))
+
+
 def main():
     program = pathlib.Path(sys.argv[1]).resolve() if len(sys.argv) > 1 else PROGRAM
     if not program.exists():
         raise SystemExit(f"{program} is not built")
-    results = list(stored_cases(program))
+    has_compiler = shutil.which("capnp") is not None
+    results = [*stored_cases(program), *mutated_cases(program, has_compiler)]
     count = len(results)
-    if shutil.which("capnp"):
-        results += compiled_cases(program)
-    print(f"sources: {count} that are stored, {len(results) - count} by the installed compiler, {results.count(False)} differ")
+    if has_compiler:
+        results += [*compiled_cases(program), *random_cases(program)]
+    stored, compiled = count - MUTATIONS, len(results) - count
+    print(f"sources: {stored} that are stored, {MUTATIONS} mutations, {compiled} by the installed compiler, {results.count(False)} wrong")
     return 0 if count and all(results) else 1
 
 
