@@ -118,30 +118,28 @@ fn annotations_of<'a>(
     Ok(all)
 }
 
-/// Puts annotations at a part of a node.
-fn put(node: &mut Node, spot: Spot, annotations: Vec<Annotation>) {
+/// Puts annotations at a part of a node. Returns false if the node has no such part.
+fn put(node: &mut Node, spot: Spot, annotations: Vec<Annotation>) -> bool {
     let Spot::Part(part) = spot else {
         node.annotations = annotations;
-        return;
+        return true;
     };
     match &mut node.body {
-        NodeBody::Struct(structure) => {
-            if let Some(field) = structure.fields.get_mut(part) {
-                field.annotations = annotations;
-            }
-        }
-        NodeBody::Enum(enumerants) => {
-            if let Some(enumerant) = enumerants.get_mut(part) {
-                enumerant.annotations = annotations;
-            }
-        }
-        NodeBody::Interface(interface) => {
-            if let Some(method) = interface.methods.get_mut(part) {
-                method.annotations = annotations;
-            }
-        }
-        _ => {}
+        NodeBody::Struct(structure) => match structure.fields.get_mut(part) {
+            Some(field) => field.annotations = annotations,
+            None => return false,
+        },
+        NodeBody::Enum(enumerants) => match enumerants.get_mut(part) {
+            Some(enumerant) => enumerant.annotations = annotations,
+            None => return false,
+        },
+        NodeBody::Interface(interface) => match interface.methods.get_mut(part) {
+            Some(method) => method.annotations = annotations,
+            None => return false,
+        },
+        _ => return false,
     }
+    true
 }
 
 /// Gives all nodes and their parts their annotations.
@@ -152,11 +150,15 @@ pub fn settle_annotations<'a>(
 ) -> Result<(), Stop> {
     for index in 0..work.drafts.marks.len() {
         let Some(job) = work.drafts.marks.get(index).copied() else {
-            continue;
+            return Err(Stop::Known);
         };
         let annotations = annotations_of(work, resolver, problems, job)?;
-        if let Some(node) = work.drafts.nodes.get_mut(job.node) {
-            put(node, job.spot, annotations);
+        let is_put = match work.drafts.nodes.get_mut(job.node) {
+            Some(node) => put(node, job.spot, annotations),
+            None => false,
+        };
+        if !is_put {
+            problems.kept::<()>(Err(Stop::Known))?;
         }
     }
     Ok(())

@@ -119,9 +119,14 @@ impl<'k, 'a> Known<'k, 'a> {
         let NodeBody::Constant { ty, value } = &node.body else {
             return Ok(None);
         };
-        let is_ready = self.ready.get(index).copied().unwrap_or(true);
-        if !is_ready && (self.are_pointers || !is_pointer(ty)) {
-            return Err(ValueFault::Pending(node.id));
+        match self.ready.get(index) {
+            Some(true) => {}
+            Some(false) => {
+                if self.are_pointers || !is_pointer(ty) {
+                    return Err(ValueFault::Pending(node.id));
+                }
+            }
+            None => return Err(reported(self.alloc)),
         }
         let scope = self.scope_name(entry);
         Ok(Some(Constant { ty, value, scope }))

@@ -1,6 +1,7 @@
 //! The nodes that the requested files need.
 
 use capnp_source_drafts::drafts::Drafts;
+use capnp_source_names::problems::Stop;
 use capnp_source_names::table::Table;
 use capnp_source_nodes::nodes::{Annotation, FieldBody, Node, NodeBody};
 use capnp_source_nodes::types::{Binding, BrandScope, Type};
@@ -109,87 +110,103 @@ struct Search {
 }
 
 impl Search {
-    /// Notes that an entry is needed.
-    fn need(&mut self, entry: usize) -> Result<(), AllocError> {
+    /// Returns a search in which no entry is needed.
+    fn new(alloc: Global, count: usize) -> Result<Search, AllocError> {
+        let mut needed = Vec::new(alloc);
+        for _ in 0..count {
+            needed.push(false)?;
+        }
+        Ok(Search {
+            needed,
+            waiting: Vec::new(alloc),
+        })
+    }
+
+    /// Notes that an entry is needed. `Known` if there is no such entry.
+    fn need(&mut self, entry: usize) -> Result<(), Stop> {
         match self.needed.get_mut(entry) {
             Some(needed) if !*needed => *needed = true,
-            _ => return Ok(()),
+            Some(_) => return Ok(()),
+            None => return Err(Stop::Known),
         }
         self.waiting.push(entry)?;
         Ok(())
     }
 
-    /// Notes the entries that a node needs.
-    fn need_of_node(
-        &mut self,
-        drafts: &Drafts,
-        node: &Node,
-        alloc: Global,
-    ) -> Result<(), AllocError> {
+    /// Notes the entries that a node needs. `Known` if one of them has no node.
+    fn need_of_node(&mut self, drafts: &Drafts, node: &Node, alloc: Global) -> Result<(), Stop> {
         let mut ids = Vec::new(alloc);
         add_annotations(&node.annotations, &mut ids)?;
         add_body(&node.body, &mut ids)?;
         for id in &ids {
-            if let Some(index) = drafts.by_id.get(id) {
-                if let Some(entry) = drafts.entries.get(*index) {
-                    self.need(*entry)?;
-                }
-            }
+            let Some(index) = drafts.by_id.get(id) else {
+                return Err(Stop::Known);
+            };
+            let Some(entry) = drafts.entries.get(*index) else {
+                return Err(Stop::Known);
+            };
+            self.need(*entry)?;
+        }
+        Ok(())
+    }
+
+    /// Notes what an entry needs: the scope around it, and what its nodes need.
+    fn need_of_entry(
+        &mut self,
+        table: &Table,
+        drafts: &Drafts,
+        nodes: &[usize],
+        entry: usize,
+    ) -> Result<(), Stop> {
+        if let Some(scope) = table.scope_of(entry) {
+            self.need(scope)?;
+        }
+        for index in nodes {
+            let Some(node) = drafts.nodes.get(*index) else {
+                return Err(Stop::Known);
+            };
+            self.need_of_node(drafts, node, table.alloc)?;
         }
         Ok(())
     }
 }
 
-/// Returns the nodes of each entry, by index.
-fn nodes_of_entries(table: &Table, drafts: &Drafts) -> Result<Vec<Vec<usize>>, AllocError> {
+/// Returns the nodes of each entry, by index. `Known` if a node has no entry.
+fn nodes_of_entries(table: &Table, drafts: &Drafts) -> Result<Vec<Vec<usize>>, Stop> {
     let mut all = Vec::new(table.alloc);
     for _ in &table.entries {
         all.push(Vec::new(table.alloc))?;
     }
     for (node, entry) in drafts.entries.iter().enumerate() {
-        if let Some(list) = all.get_mut(*entry) {
-            list.push(node)?;
-        }
+        let Some(list) = all.get_mut(*entry) else {
+            return Err(Stop::Known);
+        };
+        list.push(node)?;
     }
     Ok(all)
 }
 
 /// Returns whether each entry is needed: the entries of the requested files, what their nodes need,
-/// the scopes around, and what these need in turn.
-pub fn needed_entries(table: &Table, drafts: &Drafts) -> Result<Vec<bool>, AllocError> {
-    let alloc = table.alloc;
+/// the scopes around, and what these need in turn. `Known` if a part of this is missing.
+pub fn needed_entries(table: &Table, drafts: &Drafts) -> Result<Vec<bool>, Stop> {
     let nodes = nodes_of_entries(table, drafts)?;
-    let mut search = Search {
-        needed: Vec::new(alloc),
-        waiting: Vec::new(alloc),
-    };
-    for _ in &table.entries {
-        search.needed.push(false)?;
-    }
+    let mut search = Search::new(table.alloc, table.entries.len())?;
     for (index, entry) in table.entries.iter().enumerate() {
-        if table
-            .files
-            .get(entry.file)
-            .is_some_and(|file| file.is_requested)
-        {
-            search.need(index)?;
+        match table.files.get(entry.file) {
+            Some(file) if file.is_requested => search.need(index)?,
+            Some(_) => {}
+            None => return Err(Stop::Known),
         }
     }
+    // Each entry waits once.
     for _ in 0..table.entries.len() {
         let Some(entry) = search.waiting.pop() else {
             break;
         };
-        if let Some(scope) = table.scope_of(entry) {
-            search.need(scope)?;
-        }
         let Some(list) = nodes.get(entry) else {
-            continue;
+            return Err(Stop::Known);
         };
-        for index in list {
-            if let Some(node) = drafts.nodes.get(*index) {
-                search.need_of_node(drafts, node, alloc)?;
-            }
-        }
+        search.need_of_entry(table, drafts, list, entry)?;
     }
     let Search { needed, .. } = search;
     Ok(needed)

@@ -42,26 +42,30 @@ fn set_defaults(alloc: Global, body: &mut NodeBody) {
 impl<'a> Work<'a> {
     /// Returns the work on nodes, with the values that are not written.
     pub fn new(alloc: Global, drafts: Drafts<'a>) -> Result<Work<'a>, AllocError> {
-        let mut work = Work {
-            alloc,
-            drafts,
-            ready: Vec::new(alloc),
-            jobs: Vec::new(alloc),
-        };
-        for node in work.drafts.nodes.iter_mut() {
-            set_defaults(alloc, &mut node.body);
-            work.ready.push(true)?;
-            work.jobs.push(None)?;
+        let mut ready = Vec::new(alloc);
+        let mut jobs = Vec::new(alloc);
+        for _ in &drafts.nodes {
+            ready.push(true)?;
+            jobs.push(None)?;
         }
-        for (index, job) in work.drafts.constants.iter().enumerate() {
-            if let Some(slot) = work.jobs.get_mut(job.node) {
+        for (index, job) in drafts.constants.iter().enumerate() {
+            if let Some(slot) = jobs.get_mut(job.node) {
                 *slot = Some(index);
             }
-            if let Some(ready) = work.ready.get_mut(job.node) {
+            if let Some(ready) = ready.get_mut(job.node) {
                 *ready = false;
             }
         }
-        Ok(work)
+        let mut drafts = drafts;
+        for node in drafts.nodes.iter_mut() {
+            set_defaults(alloc, &mut node.body);
+        }
+        Ok(Work {
+            alloc,
+            drafts,
+            ready,
+            jobs,
+        })
     }
 
     /// Returns what is known in the scope of an entry.
@@ -182,13 +186,14 @@ fn settle<'a>(
 ) -> Result<(), Stop> {
     let mut waiting = Vec::new(work.alloc);
     waiting.push(first)?;
-    for _ in 0..work
+    // Each constant is added once, gets its value once, and is taken off once.
+    let turns = work
         .drafts
         .constants
         .len()
-        .saturating_mul(2)
-        .saturating_add(2)
-    {
+        .saturating_mul(3)
+        .saturating_add(3);
+    for _ in 0..turns {
         let Some(node) = waiting.last().copied() else {
             break;
         };
@@ -221,11 +226,14 @@ fn settle_constants<'a>(
 ) -> Result<(), Stop> {
     for index in 0..work.drafts.constants.len() {
         let Some(job) = work.drafts.constants.get(index).copied() else {
-            continue;
+            return Err(Stop::Known);
         };
         let is_wanted = match work.constant_type(job.node) {
             Some(ty) => is_pointer(ty) == are_pointers,
-            None => false,
+            None => {
+                problems.kept::<()>(Err(Stop::Known))?;
+                false
+            }
         };
         if !is_wanted || is_ready(work, job.node) {
             continue;
@@ -287,11 +295,15 @@ fn settle_defaults<'a>(
 ) -> Result<(), Stop> {
     for index in 0..work.drafts.defaults.len() {
         let Some(job) = work.drafts.defaults.get(index).copied() else {
-            continue;
+            return Err(Stop::Known);
         };
         let ty = match work.field_type(job.node, job.field) {
             Some(ty) if is_pointer(ty) == are_pointers => copy_type(ty, work.alloc)?,
-            _ => continue,
+            Some(_) => continue,
+            None => {
+                problems.kept::<()>(Err(Stop::Known))?;
+                continue;
+            }
         };
         let outcome = default_value(work, resolver, job, &ty);
         if let Some(value) = problems.kept(outcome)? {
