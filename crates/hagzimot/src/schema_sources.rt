@@ -84,7 +84,11 @@ fn failure(alloc: Global, fault: SourcesFault) -> Failure {
     match fault {
         SourcesFault::Problems(text) => Failure::Source(text),
         SourcesFault::Missing(path) => {
-            Failure::about(alloc, path.as_str(), &"there is no such file (write its path)")
+            Failure::about(
+                alloc,
+                path.as_str(),
+                &"there is no such file (write its path)",
+            )
         }
         SourcesFault::Unreadable { path, why } => Failure::about(alloc, path.as_str(), &why),
         SourcesFault::TooLarge => Failure::about(
