@@ -119,6 +119,9 @@ CASES = (
     ("compile shop.capnp | hagzimot compatible - shop.request", COMPATIBLE, "", 0),
     ("compile < shop.capnp | hagzimot check -", "-: 4 nodes keep all rules", "", 0),
     ("compile shop.capnp -o shop.capnp", "", "hagzimot: -o shop.capnp: the same file as the input shop.capnp (name another file)", USAGE),
+    ("check constants.capnp", "", "hagzimot: constants.capnp: the source declares no struct and no enum (declare one)", FAULT),
+    ("check long.capnp", "", "hagzimot: long.capnp: it has more than 64 MiB (make it smaller)", FAULT),
+    ("compile long.capnp", "", "hagzimot: long.capnp: it has more than 64 MiB (make it smaller)", FAULT),
     ("compile gone.capnp", "", "hagzimot: gone.capnp: there is no such file (write its path)", FAULT),
     ("compatible schemas_store.capnp schemas_store_sub.capnp --root Holder", 'not compatible: Holder: field "s" has another interface in the newer schema', "", NO),
     ("show --json --schema schemas_map_text.capnp --root R schemas_map.bin", '{"m":{"e":[{"k":"a","v":"b"}]}}', "", 0),
@@ -153,6 +156,8 @@ def lay_files(folder):
         (folder / name).write_text(json.dumps(nodes))
     (folder / "shop.gz").write_bytes(gzip.compress((DATA / "shop.request").read_bytes(), mtime=0))
     (folder / "orders.text").write_text("(number = 1, status = new)\n")
+    (folder / "constants.capnp").write_text("@0xf01c9dbc938ea2ed;\nconst answer :UInt8 = 42;\n")
+    (folder / "long.capnp").write_text("@0xf01c9dbc938ea2ed;\n" + " " * (64 << 20))
 
 
 def is_right(program, folder, case):

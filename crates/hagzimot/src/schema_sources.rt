@@ -24,6 +24,9 @@ struct Disk {
     rt: HostRuntime,
 }
 
+/// What is said of a source with more bytes.
+const TOO_LONG: &str = "it has more than 64 MiB (make it smaller)";
+
 /// Why a file can't be read, for the system's reason.
 fn unreadable(alloc: Global, why: io::Error) -> ReadFault {
     match format!(in alloc; "{why}") {
@@ -39,8 +42,7 @@ fn all_bytes(alloc: Global, file: File) -> Result<Vec<u8>, ReadFault> {
         return Err(unreadable(alloc, why));
     }
     if bytes.len() as u64 > MOST_BYTES {
-        let why = "it has more than 64 MiB (make it smaller)";
-        return Err(ReadFault::Unreadable(String::from_str(alloc, why)?));
+        return Err(ReadFault::Unreadable(String::from_str(alloc, TOO_LONG)?));
     }
     Ok(bytes)
 }
@@ -138,6 +140,9 @@ pub fn compiled_bytes(
 ) -> Result<Vec<u8>, Failure> {
     if !is_source(name, &bytes) {
         return Ok(bytes);
+    }
+    if bytes.len() as u64 > MOST_BYTES {
+        return Err(Failure::about(rt.alloc(), name, &TOO_LONG));
     }
     let mut asked = Vec::new(rt.alloc());
     if name == "-" {

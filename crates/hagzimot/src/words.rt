@@ -131,6 +131,9 @@ pub fn schema_bytes(
 /// What is said of a file that holds no schema.
 pub fn schema_failure(alloc: Global, name: &str, why: &SchemaTrouble) -> Failure {
     let text = match why {
+        SchemaTrouble::NoNodes if name.ends_with(".capnp") => format!(in alloc;
+            "{name}: the source declares no struct and no enum (declare one)"
+        ),
         SchemaTrouble::Gzip => format!(in alloc;
             "{name}: this is gzip data; decompress it first: gzip -dc {name} | hagzimot .. --schema -"
         ),
