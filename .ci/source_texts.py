@@ -128,7 +128,7 @@ class Writer:
     def value(self, name, depth=0):
         """A value of a type; None if none can be written."""
         chance = self.chance
-        named = [it for it, (of, _) in self.constants.items() if of == name]
+        named = [] if name in self.enums else [it for it, (of, _) in self.constants.items() if of == name]
         if named and chance.random() < 0.3:
             return chance.choice(named)
         if name in INTEGERS:
