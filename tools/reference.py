@@ -270,7 +270,7 @@ def index_page(book):
         out.append(f'<dt><a href="{door.page}">{door.name}</a></dt><dd>{text} {len(door.entries())} items.</dd>')
     out.append(f'<dt><a href="{DEFINITIONS}">Definitions</a></dt><dd>The definitions that contracts cite: {len(book.cited)} of them.</dd>')
     out.append(f'<dt><a href="{BELOW}">Definitions below</a></dt><dd>The definitions that those cite in turn: {len(book.below)} of them.</dd></dl>')
-    out.append("<h2>How to read a contract</h2><p>A contract is the clauses between a signature and the body. A check of the crate proves that the body meets them for every input that meets the <code>requires</code>. A name in a clause leads to its definition; a name without a link belongs to Rattle's standard library, or is a parameter, a field or a ghost member of a trait.</p><dl class=list>")
+    out.append("<h2>How to read a contract</h2><p>A contract is the clauses between a signature and the body. A check of the crate proves that the body meets them for every input that meets the <code>requires</code>. A name in a clause leads to its definition; a name without a link belongs to Rattle's libraries, or is a parameter, a field or a ghost member of a trait.</p><dl class=list>")
     out += [f"<dt><code>{escaped(form)}</code></dt><dd>{escaped(text)}</dd>" for form, text in FORMS]
     out.append("</dl><p>A <i>law</i> is a function that does nothing: a proof calls it for its contract. A <i>ghost</i> member or field exists only in contracts.</p><h2>All items</h2><ul class=columns>")
     entries = [(it.title.rpartition("::")[2].lower(), it, door) for door in book.doors for it in door.entries() if (door.page, it.anchor) == place_on(book, it, door)]

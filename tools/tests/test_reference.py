@@ -300,6 +300,21 @@ class Whole(unittest.TestCase):
         for line in source.split("\n")[1:]:
             self.assertIn(line.strip(), relay)
 
+    def test_contracts_are_those_of_the_sources(self):
+        """Each line of a contract is a line of the crate that the item is from."""
+        lines, count = {}, 0
+        for name, page in self.made.items():
+            for item in re.findall(r"<section class=item.*?</section>", page, re.S):
+                crate = re.search(r"<p class=from>(\w+)/src/", item)[1]
+                if crate not in lines:
+                    paths = [f"{at}/{it}" for at, _, names_there in os.walk(f"{TOP}/crates/{crate}/src") for it in names_there]
+                    lines[crate] = {line.strip().removesuffix(";") for path in paths for line in sources.text_of(path).split("\n")}
+                for contract in re.findall(r"<pre class=contract>(.*?)</pre>", item, re.S):
+                    for line in text_in(contract).split("\n"):
+                        count += 1
+                        self.assertIn(line.strip(), lines[crate], name)
+        self.assertGreater(count, 2000)
+
     def test_no_network(self):
         for name, page in self.made.items():
             self.assertNotRegex(page, r"<script|src=|url\(", name)
