@@ -9,7 +9,7 @@ import re
 import sys
 import tempfile
 import unittest
-from contextlib import redirect_stdout
+from contextlib import redirect_stderr, redirect_stdout
 
 TOP = os.path.dirname(os.path.dirname(os.path.dirname(os.path.realpath(__file__))))
 sys.dont_write_bytecode = True
@@ -172,8 +172,8 @@ def section(page, anchor):
 class Small(unittest.TestCase):
     """A repository of one door over one crate."""
 
-    def pages(self, **changed):
-        """The pages of the small repository; a file is replaced where a text is given for its name."""
+    def pages(self, work=None, **changed):
+        """The pages of the small repository, or what `work` makes of it; texts replace the files of their names."""
         files = {**FILES, **{f"crates/shelves/src/{name}.rt": text for name, text in changed.items()}}
         with tempfile.TemporaryDirectory() as room:
             for name, text in files.items():
@@ -184,7 +184,7 @@ class Small(unittest.TestCase):
             sources.TOP, reference.DOORS = room, ("room",)
             self.forget()
             try:
-                return reference.pages()
+                return (work or reference.pages)()
             finally:
                 sources.TOP, reference.DOORS = before
                 self.forget()
@@ -241,6 +241,25 @@ class Small(unittest.TestCase):
         self.assertEqual((faults, notes), (["crates/shelves/src/laws.rt: laws::shelves_stay has no doc comment"], []))
         _, faults, notes = self.pages(shelf=SHELF.replace("    /// Returns the number of books.\n", ""))
         self.assertEqual((faults, notes), ([], ["crates/shelves/src/shelf.rt: Shelf::count has no doc comment"]))
+
+    def test_status(self):
+        """--check keeps nothing and ends with status 1 if there is a fault; --out writes the pages."""
+
+        def said(*words):
+            text = io.StringIO()
+            with redirect_stdout(text), redirect_stderr(text):
+                return reference.main(list(words)), text.getvalue()
+
+        self.assertEqual(self.pages(lambda: said("--check")), (0, "reference: 4 pages, 0 faults\n"))
+        line = "reference: crates/shelves/src/laws.rt: laws::shelves_stay has no doc comment\n"
+        bare = SHELF_LAWS.replace("/// A shelf stays.\n", "")
+        self.assertEqual(self.pages(lambda: said("--check"), laws=bare), (1, f"{line}reference: 4 pages, 1 faults\n"))
+        status, text = self.pages(lambda: said("--check"), laws="//! Laws.\n")
+        self.assertEqual(status, 1)
+        self.assertIn("reference: shelves::laws::shelves_stay: it can't be read", text)
+        with tempfile.TemporaryDirectory() as room:
+            self.assertEqual(self.pages(lambda: said("--out", f"{room}/new")), (0, f"reference: 4 pages in {room}/new, 0 faults\n"))
+            self.assertEqual(sorted(os.listdir(f"{room}/new")), ["definitions.html", "definitions_below.html", "index.html", "room.html", "style.css"])
 
     def test_lost_item(self):
         with self.assertRaisesRegex(names.Lost, "shelves::laws::shelves_stay"):
