@@ -294,7 +294,9 @@ class Page:
             note = ", which is never returned"
         elif kinds and item.clauses:
             note = "; the contract says when, by the definitions that it cites"
-        return f"<h5>Errors</h5><p>{head}{note}</p>{table}"
+        others = ", ".join(f"<code>{self.code_name(it, scope)}</code>" for it in models_of(doc))
+        others = f"<p>The text also refers to the refusals of {others}.</p>" if others else ""
+        return f"<h5>Errors</h5><p>{head}{note}</p>{table}{others}"
 
 
 def partition_comment(line):
@@ -383,6 +385,15 @@ def kinds_of(key):
         if member.kind == "field" and found and item_at(found).kind == "enum":
             return found, item_at(found)
     return None
+
+
+def models_of(doc):
+    """The functions like which a function is refused, as its doc comment says."""
+    found = []
+    for sentence in re.split(r"(?<=\.)\s", " ".join(doc.split())):
+        if "refused like `" in sentence:
+            found += re.findall(r"\blike `([\w:]+)`", sentence)
+    return found
 
 
 def names_kind(name, doc, clauses):

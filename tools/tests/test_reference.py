@@ -293,6 +293,10 @@ class Parts(unittest.TestCase):
         self.assertFalse(texts.names_kind("Full", "`IsFull`, and Full of books.", ["ensures { IsFull result }"]))
 
 
+    def test_models(self):
+        self.assertEqual(texts.models_of("It is refused like `put`, then like\n`Shelf::take`. It is like `count`."), ["put", "Shelf::take"])
+
+
 class Whole(unittest.TestCase):
     """The pages of this repository."""
 
