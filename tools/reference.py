@@ -79,14 +79,17 @@ class ItemWriter:
 
     def variants(self, item):
         """The variants of an enum or the public fields of a struct, with what their doc comments say."""
-        rows = []
+        rows, bare = [], []
         for member in item.members:
             if item.kind == "struct" and not (member.is_public and member.doc):
                 continue
             inner = "".join(f"<dt class=inner><code>{escaped(it.name)}</code></dt><dd class=inner>{self.page.inline(' '.join(it.doc.split()), self.scope)}</dd>" for it in member.members if it.doc)
             inner_name = member.name if item.kind == "enum" else f"field.{member.name}"
+            if not member.doc and not inner:
+                bare.append(f'<span id="{self.entry.anchor}.{inner_name}"></span>')
+                continue
             rows.append(f'<dt id="{self.entry.anchor}.{inner_name}"><code>{escaped(member.name)}</code></dt><dd>{self.page.doc(member.doc, self.scope)}</dd>{inner}')
-        return f"<dl>{''.join(rows)}</dl>" if rows else ""
+        return "".join(bare) + (f"<dl>{''.join(rows)}</dl>" if rows else "")
 
     def members(self, members, scope, block_doc=""):
         """The functions, constants, types and ghost members of a trait or an implementation."""

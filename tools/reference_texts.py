@@ -175,6 +175,11 @@ class Page:
             if is_head:
                 return None, False
             found = names.definition_at(path)
+            if found and found[0] == "item" and inner:
+                item = item_at(names.key_of(*found[1:4]))
+                if item and (inner in inner_names(item) or word != item.name):
+                    variant = inner if inner in inner_names(item) else None
+                    return self.book.link_to_definition((*found[:4], variant), self.name), True
             if found:
                 return self.book.link_to_definition(found, self.name), False
             found = names.definition_at((*path, inner)) if inner else None

@@ -32,6 +32,7 @@ SHELF = """//! Shelves.
 ghost use Rattle.std.specs.Prelude.{◌≡◌, OnOk, length};
 ghost use Rattle.shelves.specs.Shelves.{count_of, IsFull, ◌▹◌};
 ghost use Rattle.shelves.specs.declared.shelf.Trouble.TheVariants.{Full};
+ghost use Rattle.shelves.specs.declared.shelf.Trouble.TheVariants as trouble;
 
 use std::alloc::Global;
 
@@ -75,6 +76,7 @@ impl Shelf {
     /// Returns the number of books.
     pub fn count(&self) -> usize
         ensures { result ≡ count_of self.now }
+        ensures never { (trouble.High 0) ≢ Full }
     {
         self.books
     }
@@ -212,6 +214,7 @@ class Small(unittest.TestCase):
         self.assertIn('<a href="definitions.html#shelves.Shelves.count_of">count_of</a>', put)
         self.assertIn('<a href="definitions.html#shelves.Shelves.◌▹◌">▹</a>', put)
         self.assertNotIn("let text", put)
+        self.assertIn('(<a href="#Trouble.High">trouble.High</a> 0) ≢ <a href="#Trouble.Full">Full</a>', section(page, "Shelf.count"))
         self.assertIn('<dt><code><a href="#Trouble.Full">Full</a></code></dt><dd><p>The shelf has no room.</p></dd>', put)
         self.assertIn('<li>See <code><a href="#Shelf.count">count</a></code>.</li>', put)
         self.assertNotIn("<h5>Errors</h5>", section(page, "Shelf.count"))
