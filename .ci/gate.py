@@ -118,6 +118,7 @@ def all_stages():
         stages.Stage("a workspace outside", works_outside),
         stages.Stage("the judges", script("test_judges.py")),
         stages.Stage("the scripts of the front door", stages.command(sys.executable, "tools/tests/test_scripts.py", cwd=TOP)),
+        stages.Stage("the reference of the library", stages.command(sys.executable, "tools/tests/test_reference.py", cwd=TOP)),
     ]
     proof = stages.Stage(PROOF, proves, tuple(it.name for it in first))
     return [*first, proof, *(stages.Stage(name, run, (PROOF,)) for name, run in stages_after_proof())]

@@ -104,6 +104,8 @@ def main(program, relay):
         first = files_below(root)
         install("--built", built, root)
         expect(files_below(root) == first, "a second installation has other files")
+        pages = [f"share/doc/hagzimot/html/{it}" for it in ("index.html", "capnp_relay.html", "definitions.html", "style.css")]
+        expect(set(pages) <= set(first), "the reference of the library isn't there")
         try_programs(root)
         pages, options = try_manual(root)
         try_uninstall(root)

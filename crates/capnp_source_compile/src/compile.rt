@@ -1,5 +1,11 @@
 //! Whole sets of files.
 
+ghost use Rattle.std.specs.Prelude.{◌≡◌, ◌+◌, ◌*◌, ◌^◌, ◌<◌, ◌≤◌, length, All, IfOk, IfErr, OnOk};
+ghost use Rattle.std.specs.List.Sorted.{IsPermutation, IsNonDecreasingBy};
+ghost use Rattle.capnp_source_compile.specs.Faults.{place_of, AreProblems, IsCompileFault};
+ghost use Rattle.capnp_source_compile.specs.Requests.{IsRequestOf};
+ghost use Rattle.capnp_source_compile.specs.declared.compile.CompileFault.{CompileFault};
+
 use crate::annotations::settle_annotations;
 use crate::requests::request_of;
 use crate::values::{Work, settle_values};
@@ -27,19 +33,31 @@ pub enum CompileFault {
 }
 
 impl From<AllocError> for CompileFault {
+    ghost use Rattle.std.specs.Prelude.{◌≡◌};
+    ghost use Rattle.capnp_source_compile.specs.declared.compile.CompileFault.{CompileFault};
+
+    ghost from_gives = { λ _ fault. fault ≡ CompileFault.Memory };
+
     fn from(_e: AllocError) -> CompileFault {
         CompileFault::Memory
     }
 }
 
 impl<T: Drop> From<AllocFailed<T>> for CompileFault {
+    ghost use Rattle.std.specs.Prelude.{◌≡◌};
+    ghost use Rattle.capnp_source_compile.specs.declared.compile.CompileFault.{CompileFault};
+
+    ghost from_gives = { λ _ fault. fault ≡ CompileFault.Memory };
+
     fn from(_e: AllocFailed<T>) -> CompileFault {
         CompileFault::Memory
     }
 }
 
 /// Returns the request of files. What is wrong is noted.
-fn compiled(alloc: Global, files: &[Loaded], problems: &mut Problems) -> Result<Request, Stop> {
+fn compiled(alloc: Global, files: &[Loaded], problems: &mut Problems) -> Result<Request, Stop>
+    ensures { IfOk result (IsRequestOf files.now) }
+{
     let table = Table::new(alloc, files, problems)?;
     for (number, file) in files.iter().enumerate() {
         check_names(alloc, number, file, problems)?;
@@ -58,7 +76,9 @@ fn compiled(alloc: Global, files: &[Loaded], problems: &mut Problems) -> Result<
 }
 
 /// Returns a problem without a place, for sources that are refused for no other reason.
-fn unknown_problem(alloc: Global) -> Result<Problem, AllocError> {
+fn unknown_problem(alloc: Global) -> Result<Problem, AllocError>
+    ensures { IfOk result (λ p. (p.file ≡ 0) × (p.start ≤ p.end)) }
+{
     let text = String::from_str(alloc, "the sources are not supported (simplify them)")?;
     Ok(Problem {
         file: 0,
@@ -69,7 +89,12 @@ fn unknown_problem(alloc: Global) -> Result<Problem, AllocError> {
 }
 
 /// Returns problems, each in one of the files; if there is none, one that says that.
-fn placed(alloc: Global, problems: Vec<Problem>, count: usize) -> Result<Vec<Problem>, AllocError> {
+fn placed(alloc: Global, problems: Vec<Problem>, count: usize) -> Result<Vec<Problem>, AllocError>
+    ensures some { IfOk result (λ v. 0 < length v.items) }
+    ensures few { IfOk result (λ v. length v.items ≤ 100) }
+    ensures inside { 0 < count → IfOk result (λ v. All (λ p. p.file < count) v.items) }
+    ensures spans { IfOk result (λ v. All (λ p. p.start ≤ p.end) v.items) }
+{
     let mut all = Vec::new(alloc);
     for problem in problems {
         let Problem {
@@ -94,25 +119,34 @@ fn placed(alloc: Global, problems: Vec<Problem>, count: usize) -> Result<Vec<Pro
 }
 
 /// Returns where a problem is, in the order of files and places.
-fn place_of(problem: &Problem) -> u128 {
+fn place_of(problem: &Problem) -> u128
+    ensures { result ≡ place_of problem.now }
+{
     problem.file as u128 * (1 << 64) + problem.start as u128
 }
 
 /// Puts problems in the order of files and places.
-fn put_in_order(problems: &mut Vec<Problem>) -> Result<(), AllocError> {
+fn put_in_order(problems: &mut Vec<Problem>) -> Result<(), AllocError>
+    ensures same { IsPermutation problems.old.items problems.new.items }
+    ensures order { OnOk result (IsNonDecreasingBy place_of problems.new.items) }
+{
     problems.sort_by_key(|problem| place_of(problem))?;
     Ok(())
 }
 
 /// Returns that files are refused for these problems.
-fn refused(alloc: Global, problems: Problems, count: usize) -> Result<CompileFault, AllocError> {
+fn refused(alloc: Global, problems: Problems, count: usize) -> Result<CompileFault, AllocError>
+    ensures { IfOk result (IsCompileFault count) }
+{
     let mut list = placed(alloc, problems.into_list(), count)?;
     put_in_order(&mut list)?;
     Ok(CompileFault::Problems(list))
 }
 
 /// Notes why files are not compiled. `Memory` is passed on.
-fn note(problems: &mut Problems, stop: Stop) -> Result<(), CompileFault> {
+fn note(problems: &mut Problems, stop: Stop) -> Result<(), CompileFault>
+    ensures { IfErr result (λ fault. fault ≡ CompileFault.Memory) }
+{
     match problems.kept::<()>(Err(stop)) {
         Err(Stop::Memory) => Err(CompileFault::Memory),
         _ => Ok(()),
@@ -120,7 +154,10 @@ fn note(problems: &mut Problems, stop: Stop) -> Result<(), CompileFault> {
 }
 
 /// Compiles files to the nodes of those that are requested, and of what these need.
-pub fn compile(alloc: Global, files: &[Loaded]) -> Result<Request, CompileFault> {
+pub fn compile(alloc: Global, files: &[Loaded]) -> Result<Request, CompileFault>
+    ensures request { IfOk result (IsRequestOf files.now) }
+    ensures fault { IfErr result (IsCompileFault (length files.now)) }
+{
     let mut problems = Problems::new(alloc);
     match compiled(alloc, files, &mut problems) {
         Ok(request) => {

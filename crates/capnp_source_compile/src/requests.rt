@@ -1,5 +1,10 @@
 //! Requests: the nodes that files need, and the files.
 
+ghost use Rattle.std.specs.Prelude.{◌≡◌, ◌≢◌, map, nat_eq, All, AllPairs, IfOk, IsTrue};
+ghost use Rattle.std.specs.HashSet as set;
+ghost use Rattle.std.specs.List.{list_all};
+ghost use Rattle.capnp_source_compile.specs.Requests.{listed, given, asked_of, is_file, has_file, IsRequestOf};
+
 use crate::needed::needed_entries;
 use capnp_source_drafts::drafts::Drafts;
 use capnp_source_names::problems::{Stop, wrong};
@@ -58,7 +63,9 @@ fn imports_of(table: &Table, file: &Loaded) -> Result<Vec<Import>, Stop> {
 }
 
 /// Returns a file that was asked for. `Known` if it has no id, which is reported.
-fn requested_file(table: &Table, file: &Loaded) -> Result<RequestedFile, Stop> {
+fn requested_file(table: &Table, file: &Loaded) -> Result<RequestedFile, Stop>
+    ensures { IfOk result (λ f. listed f ≡ given file.now) }
+{
     let Some(number) = &file.file.id else {
         return Err(Stop::Known);
     };
@@ -69,7 +76,9 @@ fn requested_file(table: &Table, file: &Loaded) -> Result<RequestedFile, Stop> {
 }
 
 /// Returns the files that were asked for, in their order.
-fn requested_files(table: &Table, files: &[Loaded]) -> Result<Vec<RequestedFile>, Stop> {
+fn requested_files(table: &Table, files: &[Loaded]) -> Result<Vec<RequestedFile>, Stop>
+    ensures { IfOk result (λ v. map listed v.items ≡ asked_of files.now) }
+{
     let mut all = Vec::new(table.alloc);
     let mut left = files;
     while let [file, others @ ..] = left {
@@ -82,29 +91,39 @@ fn requested_files(table: &Table, files: &[Loaded]) -> Result<Vec<RequestedFile>
 }
 
 /// Whether a node is a file.
-fn is_file(body: &NodeBody) -> bool {
+fn is_file(body: &NodeBody) -> bool
+    ensures { result ≡ is_file body.now }
+{
     matches!(body, NodeBody::File)
 }
 
 /// Whether one of the nodes is the file with an id.
-fn has_file(nodes: &[Node], id: u64) -> bool {
+fn has_file(nodes: &[Node], id: u64) -> bool
+    ensures { result ≡ has_file nodes.now id }
+{
     nodes
         .iter()
         .any(|node| node.id == id && is_file(&node.body))
 }
 
 /// Whether each of the files is one of the nodes.
-fn have_files(nodes: &[Node], files: &[RequestedFile]) -> bool {
+fn have_files(nodes: &[Node], files: &[RequestedFile]) -> bool
+    ensures { result ≡ list_all (λ f. has_file nodes.now f.id) files.now }
+{
     files.iter().all(|file| has_file(nodes, file.id))
 }
 
 /// Returns the ids of nodes.
-fn ids_of(alloc: Global, nodes: &[Node]) -> Result<HashSet<u64>, AllocError> {
+fn ids_of(alloc: Global, nodes: &[Node]) -> Result<HashSet<u64>, AllocError>
+    ensures { IfOk result (set.IsFromIterResult nat_eq (map (λ n. n.id) nodes.now)) }
+{
     nodes.iter().map(|node| node.id).collect(alloc)
 }
 
 /// Whether no two nodes have the same id.
-fn are_distinct(alloc: Global, nodes: &[Node]) -> Result<bool, AllocError> {
+fn are_distinct(alloc: Global, nodes: &[Node]) -> Result<bool, AllocError>
+    ensures { IfOk result (λ b. IsTrue b → AllPairs (λ x y. x ≢ y) (map (λ n. n.id) nodes.now)) }
+{
     let ids = ids_of(alloc, nodes)?;
     Ok(ids.len() == nodes.len())
 }
@@ -130,7 +149,9 @@ fn same_ids(table: &Table, nodes: &[Node]) -> Result<Stop, Stop> {
 }
 
 /// Returns the request of files that are compiled.
-pub fn request_of(table: &Table, files: &[Loaded], drafts: Drafts) -> Result<Request, Stop> {
+pub fn request_of(table: &Table, files: &[Loaded], drafts: Drafts) -> Result<Request, Stop>
+    ensures { IfOk result (IsRequestOf files.now) }
+{
     let files = requested_files(table, files)?;
     let nodes = needed_nodes(table, drafts)?;
     if !are_distinct(table.alloc, &nodes)? {

@@ -79,7 +79,8 @@ fn resolve(
 ) -> Result<(), Stop> {
     let mut waiting = Vec::new(table.alloc);
     waiting.push(first)?;
-    for _ in 0..table.entries.len().saturating_mul(2).saturating_add(2) {
+    // Each alias of a chain takes three turns: it is pushed, settled and dropped.
+    for _ in 0..table.entries.len().saturating_mul(3).saturating_add(2) {
         let Some(index) = waiting.last().copied() else {
             break;
         };

@@ -1,7 +1,6 @@
 //! `hagzimot compatible`.
 
 use crate::faults::Failure;
-use crate::pairs::pairs_of;
 use crate::reports::print_line;
 use crate::words;
 use capnp_calls_versions::renamings::Renamings;
@@ -10,6 +9,7 @@ use capnp_relay_requests::request::Floats;
 use clap::ArgMatches;
 use hagzimot_schemas::breaks::{Version, breaks_between, interface_sentence, sentence};
 use hagzimot_schemas::interfaces::{Interfaces, interface_breaks};
+use hagzimot_schemas::pairs::pairs_of;
 use hagzimot_schemas::schemas::{CheckedSchema, SchemaTrouble, read_set, root_of};
 use std::collections::HashSet;
 

@@ -1,2 +1,5 @@
 mod Escapes
 mod Colons
+mod BreakExamples
+mod KnownPairs
+mod Walks

@@ -117,6 +117,10 @@ structs_onto test ids (n ∷ ns) = structs_onto test (with_id ids n.id (n.is_str
 abbrev pub structs_where : (NamesOfNode → Bool) → List NamesOfNode → List ℕ
 structs_where test names = structs_onto test [] names
 
+-- A path has no scope and no arguments.
+abbrev pub has_no_scope : NamesOfNode → Bool
+has_no_scope n = not (list_any (λ b. b == 46) n.path) && not (list_any (λ b. b == 40) n.path)
+
 -- The first of two lists that has an element.
 abbrev pub first_some : List ℕ → List ℕ → List ℕ
 first_some xs ys = if length xs == 0 then ys else xs

@@ -1,5 +1,5 @@
 //! What breaks the compatibility of two versions of a schema, in sentences.
-ghost use Rattle.std.specs.Prelude.{◌≡◌, ◌==◌, ◌≤◌, true, false, length, option_map, option_copied, slice_get, All, IfOk, IfErr};
+ghost use Rattle.std.specs.Prelude.{◌≡◌, ◌==◌, ◌≤◌, true, false, length, option_map, option_copied, slice_get, string_bytes, All, IfOk, IfErr};
 ghost use Rattle.std.specs.Bool.{MatchBool};
 ghost use Rattle.capnp_model.specs.Accepted.{fields_of_kind};
 ghost use Rattle.capnp_records.specs.NodeViews.{node_kind};
@@ -8,6 +8,7 @@ ghost use Rattle.capnp_calls_versions.specs.Roots.{AreRootsCompatibleWith};
 ghost use Rattle.capnp_calls_versions.specs.Breaks.{IsBreakFrom};
 ghost use Rattle.capnp_calls_versions.specs.AllBreaks.{AreAllBreaks};
 ghost use Rattle.capnp_calls_versions.specs.Renamed.{renamings_of};
+ghost use Rattle.hagzimot_schemas.specs.Sentences.{names_text, node_text, field_in, name_text, enum_depth, depth_of_enums, are_enums, how_text, pair_view, nodes_text, fields_text, field_text, due_text, taken_text, missing_text, rule_text, pair_of, interface_text, sentence_text};
 
 use crate::interfaces::InterfaceBreak;
 use crate::nodes::{fields_of, node_of_id};
@@ -19,8 +20,6 @@ use capnp_calls_versions::root::Root;
 use capnp_records::node::{BaseType, FieldBody, FieldRecord, NodeRecord};
 use capnp_units::errors::Result;
 use std::alloc::{AllocError, Global};
-use std::fmt;
-use std::fmt::{Display, Formatter, Write};
 
 /// What breaks a newer schema's compatibility with an older from the two roots on, where fields are
 /// renamed: the first break alone or, with `all`, that of each pair of structs. None exactly where
@@ -53,6 +52,9 @@ pub fn breaks_between(
     Ok(breaks)
 }
 
+/// A sentence, or a part of it.
+type Told = std::result::Result<String, AllocError>;
+
 /// A version of a schema: its nodes, and its age, `older` or `newer`, by which sentences call it.
 #[derive(Clone, Copy)]
 pub struct Version<'a> {
@@ -73,41 +75,20 @@ pub fn field_name(node: &NodeRecord, index: usize) -> Option<&str>
 
 /// A name in one version, and in the other of this age where it is another there. Each stands
 /// between two marks.
-#[derive(Clone, Copy)]
-struct Names<'a> {
-    older: &'a str,
-    newer: &'a str,
-    age: &'a str,
-    mark: &'a str,
-}
-
-impl Display for Names<'_> {
-    fn fmt<W: Write>(&self, f: &mut Formatter<W>) -> fmt::Result {
-        let mark = self.mark;
-        write!(f, "{mark}{}{mark}", self.older)?;
-        if self.older != self.newer {
-            write!(
-                f,
-                " (in the {} schema {mark}{}{mark})",
-                self.age, self.newer
-            )?;
-        }
-        Ok(())
+fn names_told(alloc: Global, mark: &str, older: &str, newer: &str, age: &str) -> Told
+    ensures { IfOk result (λ s. string_bytes s
+        ≡ names_text mark.now older.now newer.now age.now) }
+{
+    if older == newer {
+        return format!(in alloc; "{mark}{older}{mark}");
     }
-}
-
-/// A break between two nodes, the second in the version of this age. A node that is missing is
-/// `None`.
-#[derive(Clone, Copy)]
-struct Broken<'a> {
-    older: Option<&'a NodeRecord>,
-    newer: Option<&'a NodeRecord>,
-    age: &'a str,
-    rule: Rule,
+    format!(in alloc; "{mark}{older}{mark} (in the {age} schema {mark}{newer}{mark})")
 }
 
 /// The name of a node.
-fn node_name(node: Option<&NodeRecord>) -> &str {
+fn node_name(node: Option<&NodeRecord>) -> &str
+    ensures { result.now ≡ node_text (option_copied node.entry) }
+{
     match node {
         Some(node) => node.display_name.as_str(),
         None => "a node that is missing",
@@ -115,137 +96,184 @@ fn node_name(node: Option<&NodeRecord>) -> &str {
 }
 
 /// The field of an index.
-fn field_at(node: Option<&NodeRecord>, index: usize) -> Option<&FieldRecord> {
+fn field_at(node: Option<&NodeRecord>, index: usize) -> Option<&FieldRecord>
+    ensures { option_copied result ≡ field_in (option_copied node.entry) index }
+{
     match node {
         Some(node) => fields_of(node).get(index),
         None => None,
     }
 }
 
-/// The name of the field of an index, `?` where there is none.
-fn name_at(node: Option<&NodeRecord>, index: usize) -> &str {
-    match node {
-        Some(node) => field_name(node, index).unwrap_or("?"),
+/// The name of a field, `?` where there is none.
+fn name_of(field: Option<&FieldRecord>) -> &str
+    ensures { result.now ≡ name_text (option_copied field.entry) }
+{
+    match field {
+        Some(field) => field.name.as_str(),
         None => "?",
     }
 }
 
+/// How many times a list of enums a type is that is so many times a list of a base; `None` of
+/// another base.
+fn enum_depth(count: u32, base: BaseType) -> Option<u32>
+    ensures { result ≡ enum_depth count base }
+{
+    match base {
+        BaseType::Enum(_) => Some(count),
+        _ => None,
+    }
+}
+
 /// How many times a slot is a list of enums; `None` where it is of another type, or a group.
-fn depth_of_enums(field: &FieldRecord) -> Option<u32> {
+fn depth_of_enums(field: &FieldRecord) -> Option<u32>
+    ensures { result ≡ depth_of_enums field.now.body }
+{
     match &field.body {
-        FieldBody::Slot { ty, .. } => match ty.base {
-            BaseType::Enum(_) => Some(ty.list_count),
-            _ => None,
-        },
+        FieldBody::Slot { ty, .. } => enum_depth(ty.list_count, ty.base),
         FieldBody::Group { .. } => None,
     }
 }
 
 /// Whether both fields are of enums, in lists of one depth.
-fn are_enums(older: Option<&FieldRecord>, newer: Option<&FieldRecord>) -> bool {
-    let (Some(older), Some(newer)) = (older, newer) else {
+fn are_enums(older: Option<&FieldRecord>, newer: Option<&FieldRecord>) -> bool
+    ensures { result ≡ are_enums (option_copied older.entry) (option_copied newer.entry) }
+{
+    let Some(older) = older else {
         return false;
     };
-    match depth_of_enums(older) {
-        Some(depth) => depth_of_enums(newer) == Some(depth),
-        None => false,
+    let Some(newer) = newer else {
+        return false;
+    };
+    match (depth_of_enums(older), depth_of_enums(newer)) {
+        (Some(depth), Some(other)) => depth == other,
+        _ => false,
     }
 }
 
-impl<'a> Broken<'a> {
-    /// A break between nodes of these versions.
-    fn new(older: Version<'a>, newer: Version<'a>, broken: Break) -> Broken<'a> {
-        Broken {
-            older: node_of_id(older.nodes, broken.older),
-            newer: node_of_id(newer.nodes, broken.newer),
-            age: newer.age,
-            rule: broken.rule,
-        }
-    }
-
-    /// The nodes by their names.
-    fn nodes(&self) -> Names<'a> {
-        Names {
-            older: node_name(self.older),
-            newer: node_name(self.newer),
-            age: self.age,
-            mark: "",
-        }
-    }
-
-    /// A field of each by its name.
-    fn fields(&self, older: usize, newer: usize) -> Names<'a> {
-        Names {
-            older: name_at(self.older, older),
-            newer: name_at(self.newer, newer),
-            age: self.age,
-            mark: "\"",
-        }
-    }
-
-    /// Says that a newer field has the value of an older member, where an older field is due.
-    fn put_taken<W: Write>(&self, f: &mut Formatter<W>, due: usize, newer: usize) -> fmt::Result {
-        let age = self.age;
-        let name = name_at(self.newer, newer);
-        write!(
-            f,
-            "the field \"{name}\" of the {age} schema takes the union value of an older member"
-        )?;
-        match field_at(self.older, due) {
-            Some(field) => write!(f, ", and stands before \"{}\"", field.name.as_str()),
-            None => Ok(()),
-        }
-    }
-
-    /// Says how a newer field doesn't keep the older one.
-    fn put_field<W: Write>(
-        &self,
-        f: &mut Formatter<W>,
-        older: usize,
-        newer: usize,
-        rule: FieldRule,
-    ) -> fmt::Result {
-        let age = self.age;
-        let fields = self.fields(older, newer);
-        let how = match rule {
-            FieldRule::Kind => {
-                return write!(
-                    f,
-                    "field {fields} is a group in one schema and a slot in the other"
-                );
-            }
-            FieldRule::Type
-                if are_enums(field_at(self.older, older), field_at(self.newer, newer)) =>
-                "has an enum that lacks an enumerant, or has them in another order,",
-            FieldRule::Type => "has another type",
-            FieldRule::Value => "doesn't have the same union value",
-            FieldRule::Place => "lies elsewhere",
-            FieldRule::Default => "has another default",
-        };
-        write!(f, "field {fields} {how} in the {age} schema")
+/// What is said of two fields that break a rule, of enums or not.
+fn how_told(rule: FieldRule, enums: bool) -> &'static str
+    ensures { result.now ≡ how_text rule enums }
+{
+    match rule {
+        FieldRule::Kind => "is a group in one schema and a slot in the other",
+        FieldRule::Type if enums =>
+            "has an enum that lacks an enumerant, or has them in another order,",
+        FieldRule::Type => "has another type",
+        FieldRule::Value => "doesn't have the same union value",
+        FieldRule::Place => "lies elsewhere",
+        FieldRule::Default => "has another default",
     }
 }
 
-impl Display for Broken<'_> {
-    fn fmt<W: Write>(&self, f: &mut Formatter<W>) -> fmt::Result {
-        let age = self.age;
-        write!(f, "{}: ", self.nodes())?;
-        match self.rule {
-            Rule::Roots => f.write_str("one root is a group, the other is none"),
-            Rule::Words => write!(f, "the data section has fewer words in the {age} schema"),
-            Rule::Pointers => write!(
-                f,
-                "the pointer section has fewer pointers in the {age} schema"
-            ),
-            Rule::Union => write!(f, "the union is gone or lies elsewhere in the {age} schema"),
-            Rule::Missing { older } => write!(
-                f,
-                "field \"{}\" is missing in the {age} schema, or the fields have another order there",
-                name_at(self.older, older)
-            ),
-            Rule::Taken { due, newer } => self.put_taken(f, due, newer),
-            Rule::Field { older, newer, rule } => self.put_field(f, older, newer, rule),
+/// Two nodes that break a rule, the second in the version of this age. A node that is missing is
+/// `None`.
+#[derive(Clone, Copy)]
+struct Nodes<'a> {
+    older: Option<&'a NodeRecord>,
+    newer: Option<&'a NodeRecord>,
+    age: &'a str,
+}
+
+/// The nodes by their names.
+fn nodes_told(alloc: Global, nodes: Nodes<'_>) -> Told
+    ensures { IfOk result (λ s. string_bytes s ≡ nodes_text (pair_view nodes.entry)) }
+{
+    let (older, newer) = (node_name(nodes.older), node_name(nodes.newer));
+    names_told(alloc, "", older, newer, nodes.age)
+}
+
+/// A field of each by its name.
+fn fields_told(alloc: Global, nodes: Nodes<'_>, older: usize, newer: usize) -> Told
+    ensures { IfOk result (λ s. string_bytes s ≡ fields_text (pair_view nodes.entry) older newer) }
+{
+    let older = name_of(field_at(nodes.older, older));
+    let newer = name_of(field_at(nodes.newer, newer));
+    names_told(alloc, "\"", older, newer, nodes.age)
+}
+
+/// Says how a newer field doesn't keep the older one.
+fn field_told(alloc: Global, nodes: Nodes<'_>, older: usize, newer: usize, rule: FieldRule) -> Told
+    ensures { IfOk result (λ s. string_bytes s
+        ≡ field_text (pair_view nodes.entry) older newer rule) }
+{
+    let age = nodes.age;
+    let fields = fields_told(alloc, nodes, older, newer)?;
+    let enums = are_enums(field_at(nodes.older, older), field_at(nodes.newer, newer));
+    let how = how_told(rule, enums);
+    match rule {
+        FieldRule::Kind => format!(in alloc; "field {fields} {how}"),
+        _ => format!(in alloc; "field {fields} {how} in the {age} schema"),
+    }
+}
+
+/// Says before which field another stands, if there is one.
+fn due_told(alloc: Global, due: Option<&FieldRecord>) -> Told
+    ensures { IfOk result (λ s. string_bytes s ≡ due_text (option_copied due.entry)) }
+{
+    match due {
+        Some(field) => {
+            let name = field.name.as_str();
+            format!(in alloc; ", and stands before \"{name}\"")
         }
+        None => Ok(String::new(alloc)),
+    }
+}
+
+/// Says that a newer field has the value of an older member, where an older field is due.
+fn taken_told(alloc: Global, nodes: Nodes<'_>, due: usize, newer: usize) -> Told
+    ensures { IfOk result (λ s. string_bytes s
+        ≡ taken_text (pair_view nodes.entry) due newer) }
+{
+    let age = nodes.age;
+    let name = name_of(field_at(nodes.newer, newer));
+    let due = due_told(alloc, field_at(nodes.older, due))?;
+    format!(in alloc;
+        "the field \"{name}\" of the {age} schema takes the union value of an older member{due}"
+    )
+}
+
+/// Says that an older field is missing.
+fn missing_told(alloc: Global, nodes: Nodes<'_>, older: usize) -> Told
+    ensures { IfOk result (λ s. string_bytes s
+        ≡ missing_text (pair_view nodes.entry) older) }
+{
+    let age = nodes.age;
+    let name = name_of(field_at(nodes.older, older));
+    format!(in alloc;
+        "field \"{name}\" is missing in the {age} schema, or the fields have another order there"
+    )
+}
+
+/// What is said of two nodes that break a rule.
+fn rule_told(alloc: Global, nodes: Nodes<'_>, rule: Rule) -> Told
+    ensures { IfOk result (λ s. string_bytes s ≡ rule_text (pair_view nodes.entry) rule) }
+{
+    let age = nodes.age;
+    match rule {
+        Rule::Roots => String::from_str(alloc, "one root is a group, the other is none"),
+        Rule::Words => { format!(in alloc; "the data section has fewer words in the {age} schema") }
+        Rule::Pointers => {
+            format!(in alloc; "the pointer section has fewer pointers in the {age} schema")
+        }
+        Rule::Union => {
+            format!(in alloc; "the union is gone or lies elsewhere in the {age} schema")
+        }
+        Rule::Missing { older } => missing_told(alloc, nodes, older),
+        Rule::Taken { due, newer } => taken_told(alloc, nodes, due, newer),
+        Rule::Field { older, newer, rule } => field_told(alloc, nodes, older, newer, rule),
+    }
+}
+
+/// The nodes of two ids in two versions.
+fn nodes_of<'a>(older: Version<'a>, newer: Version<'a>, ids: (u64, u64)) -> Nodes<'a>
+    ensures { pair_view result ≡ pair_of older.entry newer.entry ids.0 ids.1 }
+{
+    Nodes {
+        older: node_of_id(older.nodes, ids.0),
+        newer: node_of_id(newer.nodes, ids.1),
+        age: newer.age,
     }
 }
 
@@ -255,26 +283,27 @@ pub fn interface_sentence(
     older: Version<'_>,
     newer: Version<'_>,
     broken: InterfaceBreak,
-) -> std::result::Result<String, AllocError> {
-    let nodes = Broken {
-        older: node_of_id(older.nodes, broken.older),
-        newer: node_of_id(newer.nodes, broken.newer),
-        age: newer.age,
-        rule: Rule::Roots,
-    };
-    let fields = nodes.fields(broken.older_field, broken.newer_field);
-    let (names, age) = (nodes.nodes(), newer.age);
+) -> Told
+    ensures { IfOk result (λ s. string_bytes s ≡ interface_text
+        (pair_of older.entry newer.entry broken.older broken.newer)
+        broken.older_field broken.newer_field) }
+{
+    let nodes = nodes_of(older, newer, (broken.older, broken.newer));
+    let names = nodes_told(alloc, nodes)?;
+    let fields = fields_told(alloc, nodes, broken.older_field, broken.newer_field)?;
+    let age = nodes.age;
     format!(in alloc; "{names}: field {fields} has another interface in the {age} schema")
 }
 
 /// What is said of a break of the newer version's compatibility with the older, as
 /// `shop.capnp:Order: field "total" lies elsewhere in the newer schema`. A name that is another in
 /// the newer version is told in both. An error where a growth was refused.
-pub fn sentence(
-    alloc: Global,
-    older: Version<'_>,
-    newer: Version<'_>,
-    broken: Break,
-) -> std::result::Result<String, AllocError> {
-    format!(in alloc; "{}", Broken::new(older, newer, broken))
+pub fn sentence(alloc: Global, older: Version<'_>, newer: Version<'_>, broken: Break) -> Told
+    ensures { IfOk result (λ s. string_bytes s ≡ sentence_text
+        (pair_of older.entry newer.entry broken.older broken.newer) broken.rule) }
+{
+    let nodes = nodes_of(older, newer, (broken.older, broken.newer));
+    let names = nodes_told(alloc, nodes)?;
+    let why = rule_told(alloc, nodes, broken.rule)?;
+    format!(in alloc; "{names}: {why}")
 }

@@ -1,4 +1,9 @@
 //! Fields whose interfaces differ in two versions of a schema.
+ghost use Rattle.std.specs.Prelude.{◌≡◌, ◌++◌, IfOk, OnOk};
+ghost use Rattle.std.specs.Option.{option_to_list};
+ghost use Rattle.capnp_model.specs.Partners.{partner_name};
+ghost use Rattle.capnp_calls_versions.specs.Renamed.{renamings_of};
+ghost use Rattle.hagzimot_schemas.specs.Interfaces.{interface_of, is_capability_base, is_capability, struct_of_base, target_of, partner_index, lead, leads_of, change, changes_of, AreReached, AreInterfaceBreaks};
 
 use crate::breaks::Version;
 use crate::nodes::{fields_of, node_of_id};
@@ -25,55 +30,138 @@ pub struct InterfaceBreak {
 }
 
 /// The interface of the field of an index; 0 of any interface.
-fn interface_of(fields: &[InterfaceField], node: u64, index: usize) -> u64 {
-    for field in fields {
+fn interface_of(fields: &[InterfaceField], node: u64, index: usize) -> u64
+    ensures { result ≡ interface_of fields.now node index }
+{
+    let mut left = fields;
+    while let [field, others @ ..] = left {
         if field.node == node && field.index as usize == index {
             return field.interface;
         }
+        left = others;
     }
     0
 }
 
 /// The name that a field has in the newer version.
-fn newer_name<'a>(renamings: &'a Renamings, node: u64, name: &'a str) -> &'a str {
-    for renaming in renamings.list() {
+fn newer_name<'a>(renamings: &'a Renamings, node: u64, name: &'a str) -> &'a str
+    ensures { result.now ≡ partner_name (renamings_of renamings.now) node name.now }
+{
+    let mut left = renamings.list();
+    while let [renaming, others @ ..] = left {
         if renaming.node == node && renaming.older.as_str() == name {
             return renaming.newer.as_str();
         }
+        left = others;
     }
     name
 }
 
+/// Whether a base is a capability.
+fn is_capability_base(base: BaseType) -> bool
+    ensures { result ≡ is_capability_base base }
+{
+    matches!(base, BaseType::Capability)
+}
+
 /// Whether a field is a capability, or a list of them.
-fn is_capability(field: &FieldRecord) -> bool {
+fn is_capability(field: &FieldRecord) -> bool
+    ensures { result ≡ is_capability field.now.body }
+{
     match &field.body {
         FieldBody::Group { .. } => false,
-        FieldBody::Slot { ty, .. } => matches!(ty.base, BaseType::Capability),
+        FieldBody::Slot { ty, .. } => is_capability_base(ty.base),
+    }
+}
+
+/// The struct of a base.
+fn struct_of_base(base: BaseType) -> Option<u64>
+    ensures { result ≡ struct_of_base base }
+{
+    match base {
+        BaseType::Struct(id) => Some(id),
+        _ => None,
     }
 }
 
 /// The node that a field leads to: its struct, or its group.
-fn target(field: &FieldRecord) -> Option<u64> {
+fn target(field: &FieldRecord) -> Option<u64>
+    ensures { result ≡ target_of field.now.body }
+{
     match &field.body {
         FieldBody::Group { node } => Some(*node),
-        FieldBody::Slot { ty, .. } => match ty.base {
-            BaseType::Struct(id) => Some(id),
-            _ => None,
-        },
+        FieldBody::Slot { ty, .. } => struct_of_base(ty.base),
     }
 }
 
-/// The index of the field of a name.
-fn index_of(fields: &[FieldRecord], name: &str) -> Option<usize> {
-    for (index, field) in fields.iter().enumerate() {
-        if field.name.as_str() == name {
-            return Some(index);
-        }
-    }
-    None
+/// The index of the partner of an older node's field among the newer node's.
+fn partner_index(
+    renamings: &Renamings,
+    node: u64,
+    field: &FieldRecord,
+    others: &[FieldRecord],
+) -> Option<usize>
+    ensures { result ≡ partner_index (renamings_of renamings.now) node field.now others.now }
+{
+    let name = newer_name(renamings, node, field.name.as_str());
+    others.iter().position(|other| other.name.as_str() == name)
 }
 
-/// The pairs of nodes that are reached.
+/// The pair of nodes that a field and its partner lead to.
+fn lead(
+    renamings: &Renamings,
+    old: &NodeRecord,
+    new: &NodeRecord,
+    field: &FieldRecord,
+) -> Option<(u64, u64)>
+    ensures { result ≡ lead (renamings_of renamings.now) old.now new.now field.now }
+{
+    let others = fields_of(new);
+    let index = partner_index(renamings, old.id, field, others)?;
+    let other = others.get(index)?;
+    let older = target(field)?;
+    let newer = target(other)?;
+    Some((older, newer))
+}
+
+/// Puts a pair behind others, if there is one.
+pub(crate) fn push_pair(
+    pairs: &mut Vec<(u64, u64)>,
+    pair: Option<(u64, u64)>,
+) -> Result<(), AllocError>
+    ensures { OnOk result (pairs.new.items ≡ pairs.old.items ++ option_to_list pair) }
+{
+    if let Some(pair) = pair {
+        pairs.push(pair)?;
+    }
+    Ok(())
+}
+
+/// The pairs that the fields of a pair lead to.
+fn leads(
+    alloc: Global,
+    older: Version<'_>,
+    newer: Version<'_>,
+    renamings: &Renamings,
+    pair: (u64, u64),
+) -> Result<Vec<(u64, u64)>, AllocError>
+    ensures { IfOk result (λ ps. ps.items ≡ leads_of (renamings_of renamings.now)
+        older.entry.nodes.now newer.entry.nodes.now pair) }
+{
+    let Some(old) = node_of_id(older.nodes, pair.0) else {
+        return Ok(Vec::new(alloc));
+    };
+    let Some(new) = node_of_id(newer.nodes, pair.1) else {
+        return Ok(Vec::new(alloc));
+    };
+    let mut leads = Vec::new(alloc);
+    for field in fields_of(old) {
+        push_pair(&mut leads, lead(renamings, old, new, field))?;
+    }
+    Ok(leads)
+}
+
+/// The pairs of nodes that are reached, each once.
 #[derive(Drop)]
 struct Pairs {
     pairs: Vec<(u64, u64)>,
@@ -81,80 +169,156 @@ struct Pairs {
 }
 
 impl Pairs {
+    ghost use Rattle.std.specs.Prelude.{◌≡◌, [], IfOk};
+    ghost use Rattle.hagzimot_schemas.specs.Interfaces.{with_pair, with_pairs, IsKnown};
+
+    /// No pairs.
+    fn new(alloc: Global) -> Pairs
+        ensures none { result.pairs.items ≡ [] }
+        ensures known { IsKnown result }
+    {
+        Pairs {
+            pairs: Vec::new(alloc),
+            known: HashSet::new(alloc),
+        }
+    }
+
     /// Puts a pair behind the others, unless it is there.
-    fn reach(&mut self, pair: (u64, u64)) -> Result<(), AllocError> {
+    fn reach(&mut self, pair: (u64, u64)) -> Result<(), AllocError>
+        requires { IsKnown self.old }
+        ensures pairs { IfOk result (λ _.
+            self.new.pairs.items ≡ with_pair self.old.pairs.items pair) }
+        ensures known { IfOk result (λ _. IsKnown self.new) }
+    {
         if self.known.insert(pair)? {
             self.pairs.push(pair)?;
         }
         Ok(())
     }
+
+    /// Puts pairs behind the others, each unless it is there.
+    fn reach_all(&mut self, pairs: &[(u64, u64)]) -> Result<(), AllocError>
+        requires { IsKnown self.old }
+        ensures pairs { IfOk result (λ _.
+            self.new.pairs.items ≡ with_pairs self.old.pairs.items pairs.now) }
+        ensures known { IfOk result (λ _. IsKnown self.new) }
+    {
+        let mut left = pairs;
+        while let [pair, others @ ..] = left {
+            self.reach(*pair)?;
+            left = others;
+        }
+        Ok(())
+    }
 }
 
-/// Compares the fields of two nodes, and reaches those that they lead to.
-fn compare(
+/// The pairs of nodes that are reached from two, each once.
+#[tactic(auto, unfolding(crate::specs::Interfaces::reached))]
+fn reached(
+    alloc: Global,
+    older: Version<'_>,
+    newer: Version<'_>,
+    renamings: &Renamings,
+    roots: (u64, u64),
+) -> Result<Vec<(u64, u64)>, AllocError>
+    ensures { IfOk result (λ ps. AreReached (leads_of (renamings_of renamings.now)
+        older.entry.nodes.now newer.entry.nodes.now) roots ps.items) }
+{
+    let mut known = Pairs::new(alloc);
+    known.reach(roots)?;
+    for i in 0..usize::MAX {
+        let Some(pair) = known.pairs.get(i).copied() else {
+            return Ok(known.pairs);
+        };
+        let leads = leads(alloc, older, newer, renamings, pair)?;
+        known.reach_all(&leads)?;
+    }
+    // No memory holds as many pairs as the loop counts.
+    Err(AllocError)
+}
+
+/// What is told of a field of an index, if it is a capability whose partner is of another
+/// interface.
+fn change(
     older: Interfaces<'_>,
     newer: Interfaces<'_>,
     renamings: &Renamings,
-    nodes: (&NodeRecord, &NodeRecord),
-    pairs: &mut Pairs,
+    old: &NodeRecord,
+    new: &NodeRecord,
+    index: usize,
+    field: &FieldRecord,
+) -> Option<InterfaceBreak>
+    ensures { result ≡ change (renamings_of renamings.now) older.entry newer.entry
+        old.now new.now (index, field.now) }
+{
+    let other = partner_index(renamings, old.id, field, fields_of(new))?;
+    let was = interface_of(older.fields, old.id, index);
+    let is = interface_of(newer.fields, new.id, other);
+    if is_capability(field) && was != is {
+        Some(InterfaceBreak {
+            older: old.id,
+            newer: new.id,
+            older_field: index,
+            newer_field: other,
+        })
+    } else {
+        None
+    }
+}
+
+/// Puts a break behind others, if there is one.
+fn push_break(
+    breaks: &mut Vec<InterfaceBreak>,
+    broken: Option<InterfaceBreak>,
+) -> Result<(), AllocError>
+    ensures { OnOk result (breaks.new.items ≡ breaks.old.items ++ option_to_list broken) }
+{
+    if let Some(broken) = broken {
+        breaks.push(broken)?;
+    }
+    Ok(())
+}
+
+/// Puts what is told of the fields of a pair behind others.
+fn push_changes(
     found: &mut Vec<InterfaceBreak>,
-) -> Result<(), AllocError> {
-    let (old, new) = nodes;
-    let others = fields_of(new);
-    for (older_field, field) in fields_of(old).iter().enumerate() {
-        let name = newer_name(renamings, old.id, field.name.as_str());
-        let Some(newer_field) = index_of(others, name) else {
-            continue;
-        };
-        let other = others.get(newer_field).and_then(target);
-        if let (Some(a), Some(b)) = (target(field), other) {
-            pairs.reach((a, b))?;
-        }
-        if !is_capability(field) {
-            continue;
-        }
-        let was = interface_of(older.fields, old.id, older_field);
-        if was != interface_of(newer.fields, new.id, newer_field) {
-            found.push(InterfaceBreak {
-                older: old.id,
-                newer: new.id,
-                older_field,
-                newer_field,
-            })?;
-        }
+    older: Interfaces<'_>,
+    newer: Interfaces<'_>,
+    renamings: &Renamings,
+    pair: (u64, u64),
+) -> Result<(), AllocError>
+    ensures { IfOk result (λ _. found.new.items ≡ found.old.items
+        ++ changes_of (renamings_of renamings.now) older.entry newer.entry pair) }
+{
+    let Some(old) = node_of_id(older.version.nodes, pair.0) else {
+        return Ok(());
+    };
+    let Some(new) = node_of_id(newer.version.nodes, pair.1) else {
+        return Ok(());
+    };
+    for (index, field) in fields_of(old).iter().enumerate() {
+        let broken = change(older, newer, renamings, old, new, index, field);
+        push_break(found, broken)?;
     }
     Ok(())
 }
 
 /// The fields, from the two roots on, whose interface is another in the newer version. Fields are
-/// paired by their names, and by renamings.
+/// paired by their names, and by renamings. They are in the order in which their nodes are reached.
 pub fn interface_breaks(
     alloc: Global,
     older: Interfaces<'_>,
     newer: Interfaces<'_>,
     roots: (u64, u64),
     renamings: &Renamings,
-) -> Result<Vec<InterfaceBreak>, AllocError> {
+) -> Result<Vec<InterfaceBreak>, AllocError>
+    ensures { IfOk result (λ bs. AreInterfaceBreaks (renamings_of renamings.now)
+        older.entry newer.entry roots bs.items) }
+{
+    let pairs = reached(alloc, older.version, newer.version, renamings, roots)?;
     let mut found = Vec::new(alloc);
-    if older.fields.is_empty() && newer.fields.is_empty() {
-        return Ok(found);
-    }
-    let mut pairs = Pairs {
-        pairs: Vec::new(alloc),
-        known: HashSet::new(alloc),
-    };
-    pairs.reach(roots)?;
-    for i in 0..usize::MAX {
-        let Some((a, b)) = pairs.pairs.get(i).copied() else {
-            return Ok(found);
-        };
-        let nodes = (
-            node_of_id(older.version.nodes, a),
-            node_of_id(newer.version.nodes, b),
-        );
-        if let (Some(a), Some(b)) = nodes {
-            compare(older, newer, renamings, (a, b), &mut pairs, &mut found)?;
-        }
+    for pair in &pairs {
+        push_changes(&mut found, older, newer, renamings, *pair)?;
     }
     Ok(found)
 }

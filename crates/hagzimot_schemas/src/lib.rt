@@ -7,6 +7,7 @@ pub mod interfaces;
 pub mod json_text;
 pub mod names;
 pub mod nodes;
+pub mod pairs;
 pub mod roots;
 pub mod rules;
 mod same_nodes;

@@ -1,6 +1,6 @@
 //! The struct that words name as the root of messages.
 ghost use Rattle.std.specs.Prelude.{◌≡◌, ◌&&◌, [], ◌∷◌, map, IfOk, IfErr};
-ghost use Rattle.hagzimot_schemas.specs.Roots.{names_view, names_exactly, names_last, with_id, roots_named, IsRootRefusal};
+ghost use Rattle.hagzimot_schemas.specs.Roots.{names_view, names_exactly, names_last, with_id, roots_named, has_no_scope, structs_where, IsRootRefusal};
 
 use crate::names::{NodeName, NodeSort, names_exactly, names_last};
 use std::alloc::{AllocError, AllocFailed, Global};
@@ -265,13 +265,24 @@ pub fn single_root(
     }
 }
 
+/// Whether a node is a struct whose path has no scope and no arguments.
+fn is_unscoped(name: &NodeName) -> bool
+    ensures { let n = names_view name.now in result ≡ (n.is_struct && has_no_scope n) }
+{
+    let path = name.path.as_bytes();
+    is_struct(name) && !path.contains(&b'.') && !path.contains(&b'(')
+}
+
 /// The structs whose paths have no scope and no arguments: those at the top of a schema file.
-pub fn unscoped(alloc: Global, names: &[NodeName]) -> Result<Vec<u64>, AllocError> {
+pub fn unscoped(alloc: Global, names: &[NodeName]) -> Result<Vec<u64>, AllocError>
+    ensures { IfOk result (λ ids. ids.items
+        ≡ structs_where has_no_scope (map names_view names.now)) }
+{
     let mut ids = Vec::new(alloc);
-    for name in names {
-        if is_struct(name) && !name.path.contains('.') && !name.path.contains('(') {
-            ids.push(name.id)?;
-        }
+    let mut left = names;
+    while let [name, others @ ..] = left {
+        push_if(&mut ids, name.id, is_unscoped(name))?;
+        left = others;
     }
     Ok(ids)
 }
