@@ -84,7 +84,7 @@ fn current_folder(rt: &HostRuntime) -> Result<String, AllocError> {
 /// The failure of sources that don't compile.
 fn failure(alloc: Global, fault: SourcesFault) -> Failure {
     match fault {
-        SourcesFault::Problems(text) => Failure::Source(text),
+        SourcesFault::Problems(report) => Failure::Source(report.into_text()),
         SourcesFault::Missing(path) => {
             Failure::about(
                 alloc,

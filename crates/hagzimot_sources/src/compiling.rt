@@ -1,5 +1,8 @@
 //! Sources as a request of the schema compiler.
 
+ghost use Rattle.std.specs.Prelude.{IfOk};
+ghost use Rattle.capnp_source_request.specs.Frames.{IsFramed};
+
 use crate::faults::SourcesFault;
 use crate::files::{Loading, open_asked};
 use crate::imports::{Search, open_imported};
@@ -16,7 +19,9 @@ pub fn compile_sources<S: Sources>(
     sources: &mut S,
     search: Search<'_>,
     asked: Vec<Asked>,
-) -> Result<Vec<u8>, SourcesFault> {
+) -> Result<Vec<u8>, SourcesFault>
+    ensures { IfOk result (λ bytes. IsFramed bytes.items) }
+{
     let mut loading = open_asked(alloc, sources, asked, search.current)?;
     open_imported(alloc, sources, search, &mut loading)?;
     let Loading {

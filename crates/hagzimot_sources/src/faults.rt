@@ -1,14 +1,43 @@
 //! Why sources don't compile.
 
+ghost use Rattle.std.specs.Prelude.{◌<◌, string_len};
+
 use capnp_source_request::faults::RequestFault;
-use std::alloc::{AllocError, AllocFailed};
+use std::alloc::{AllocError, AllocFailed, Global};
 use std::fmt;
+
+/// What is wrong with sources, as lines for people: each problem begins with its file, line and column.
+#[derive(Debug, Drop)]
+pub struct Report {
+    text: String,
+    // A refusal is never without words.
+    ghost said: { 0 < string_len text },
+}
+
+impl Report {
+    /// Returns a report with a text, or with a fixed one if the text is empty.
+    pub fn new(alloc: Global, text: String) -> Result<Report, AllocError> {
+        if text.is_empty() {
+            let text = String::from_str(alloc, "the sources can't be compiled (simplify them)")?;
+            return Ok(Report { text });
+        }
+        Ok(Report { text })
+    }
+
+    /// Returns the lines. There is at least one.
+    pub fn into_text(self) -> String
+        ensures { 0 < string_len result }
+    {
+        let Report { text } = self;
+        text
+    }
+}
 
 /// Why sources don't compile.
 #[derive(Debug, Drop)]
 pub enum SourcesFault {
-    /// For what these lines say: each problem begins with its file, line and column.
-    Problems(String),
+    /// For what these lines say.
+    Problems(Report),
     /// The file of this path isn't there.
     Missing(String),
     /// A file that was asked for can't be read: its path, and why.

@@ -1,5 +1,6 @@
 //! Mistakes in sources, as lines for people.
 
+use crate::faults::Report;
 use crate::files::Opened;
 use capnp_source_nodes::problems::Problem;
 use capnp_source_text::positions::position_behind;
@@ -109,7 +110,7 @@ fn add_problem(shown: &mut String, file: &Opened, problem: &Problem) -> Result<(
 
 /// Returns problems as lines: for each its file, line, column and text, and below them the line of the source with
 /// carets. At most twenty are shown, and then how many are left out.
-pub fn report(alloc: Global, files: &[Opened], problems: &[Problem]) -> Result<String, AllocError> {
+pub fn report(alloc: Global, files: &[Opened], problems: &[Problem]) -> Result<Report, AllocError> {
     let mut shown = String::new(alloc);
     for problem in problems.iter().take(MOST_SHOWN) {
         let Some(file) = files.get(problem.file) else {
@@ -124,5 +125,5 @@ pub fn report(alloc: Global, files: &[Opened], problems: &[Problem]) -> Result<S
     if left > 0 {
         write!(shown, "\n{left} more (mend these first)")?;
     }
-    Ok(shown)
+    Report::new(alloc, shown)
 }

@@ -74,7 +74,7 @@ pub fn problems(
 ) -> Result<String, AllocError> {
     match outcome {
         Ok(_) => String::from_str(alloc, "compiled"),
-        Err(SourcesFault::Problems(text)) => Ok(text),
+        Err(SourcesFault::Problems(report)) => Ok(report.into_text()),
         Err(SourcesFault::Missing(path)) => format!(in alloc; "missing {path}"),
         Err(SourcesFault::Unreadable { path, why }) => format!(in alloc;
             "unreadable {path}: {why}"
