@@ -97,13 +97,12 @@ def refusals(room):
 
 def others(room, out):
     """Tries C++ and Python."""
-    if shutil.which("c++"):
-        words = ("c++", "-std=c++17", "-Wall", "-Wextra", "-Werror", "-O1", f"-I{out}", f"{TOP}/.ci/c_calls.cpp", f"{out}/libhagzimot.a")
-        run(*words, "-o", f"{room}/cpp")
-        run(f"{room}/cpp")
-        print("C++ is as it must be")
-    else:
-        print("there is no C++ compiler, and C++ isn't tried")
+    if not shutil.which("c++"):
+        raise Wrong("c++: it isn't on the PATH (install a C++ compiler)")
+    words = ("c++", "-std=c++17", "-Wall", "-Wextra", "-Werror", "-O1", f"-I{out}", f"{TOP}/.ci/c_calls.cpp", f"{out}/libhagzimot.a")
+    run(*words, "-o", f"{room}/cpp")
+    run(f"{room}/cpp")
+    print("C++ is as it must be")
     env = {**os.environ, "HAGZIMOT_LIBRARY": f"{out}/libhagzimot.so.1"}
     edited = run(sys.executable, f"{TOP}/bindings/python/edit.py", env=env)
     if not edited.endswith('(a = 9, t = "hi")'):
