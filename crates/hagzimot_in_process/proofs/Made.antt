@@ -1,5 +1,6 @@
 -- Calls that are made one after the other.
-use Rattle.std.proofs.Common.{◌≡◌, ℕ, List, [], ◌∷◌, ◌++◌, Ok, refl, sym, ap, ◌∙◌, subst, length, append_assoc, append-nil, nil_from_length}
+use Rattle.std.proofs.Common.{◌≡◌, List, [], ◌∷◌, ◌++◌, Ok, sym, ap, ◌∙◌, subst, length, append_assoc, append-nil}
+use Rattle.std.proofs.lemmas.List.{nil_from_length}
 use Rattle.capnp_calls.specs.CallViews.{call_view, call_from}
 use Rattle.capnp_calls.specs.declared.call.Call.{Call}
 use Rattle.hagzimot_in_process.specs.Relays.{Parts, AreMade}

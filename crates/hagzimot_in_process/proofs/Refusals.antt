@@ -1,15 +1,11 @@
 -- Walks that are stopped, and copies that find no room.
-use Rattle.std.proofs.Common.{arith, ◌≡◌, ◌≢◌, ℕ, ◌+◌, ◌*◌, ◌^◌, ◌<◌, min, false, not, List, [], ◌∷◌, ◌++◌, length, Option, Some, None, Result, Ok, Err, ◌⊎◌, inl, inr, ap, sym, ◌∙◌, subst}
-use Rattle.capnp_model.specs.Chains.{◌provided◌}
+use Rattle.std.proofs.Common.{arith, ◌≡◌, ◌≢◌, ℕ, ◌+◌, ◌<◌, false, List, [], ◌∷◌, ◌++◌, Option, Some, Result, Ok, Err, ◌⊎◌, inl, inr, ap, sym, ◌∙◌, subst}
 use Rattle.capnp_model.specs.Segments.{Segments, Place, root}
 use Rattle.capnp_model.specs.Trees.{Tree, has_capability}
-use Rattle.capnp_model.specs.Trimming.{trim}
 use Rattle.capnp_model.specs.Traversal.{tree_at, cost_at}
-use Rattle.capnp_model.specs.Encoding.{canonical_words}
-use Rattle.capnp_model.specs.Canonical.{canonical_at}
 use Rattle.capnp_model.specs.Messages.{flat_at}
 use Rattle.capnp_model.specs.Visits.{Visit, visits, visits_cost}
-use Rattle.capnp_model.proofs.lemmas.Chaining.{bind_some, some_is, provided_some}
+use Rattle.capnp_model.proofs.lemmas.Chaining.{bind_some, some_is}
 use Rattle.capnp_units.specs.Limits.{left_of}
 use Rattle.capnp_units.specs.declared.errors.Error.{Error}
 use Rattle.capnp_units.specs.declared.kinds.ErrorKind.TheVariants.{BufferNotLargeEnough}
@@ -20,7 +16,7 @@ use Rattle.capnp_wire_canonical.specs.Copies.{CopyState, copy_visits, Filled, Un
 use Rattle.capnp_wire_canonical.specs.Objects.{canonical_copy}
 use Rattle.hagzimot_in_process.specs.declared.frames.Limits.{Limits}
 use Rattle.hagzimot_in_process.specs.declared.frames.FrameFault.{FrameFault}
-use Rattle.hagzimot_in_process.specs.Frames.{framed, IsBeyond, HasNoForm, HasNoRoom}
+use Rattle.hagzimot_in_process.specs.Frames.{IsBeyond, HasNoForm}
 
 pub err_is : (e f : FrameFault) → ◌≡◌ {A = Result ℕ FrameFault} (Err e) (Err f) → e ≡ f
 err_is e f is = cc

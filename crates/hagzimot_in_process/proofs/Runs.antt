@@ -1,5 +1,5 @@
 -- How a relay in memory ended, from what is known of its streams.
-use Rattle.std.proofs.Common.{◌≡◌, ℕ, List, [], ◌++◌, Option, Some, Result, Ok, Err, ◌⊎◌, inl, inr, IfSome, refl, sym, subst}
+use Rattle.std.proofs.Common.{◌≡◌, ℕ, List, [], Result, Ok, Err, inl, inr, IfSome, sym, subst}
 use Rattle.capnp_model.specs.Runs.{End, finished, broken}
 use Rattle.capnp_units.specs.Errors.{kind_of}
 use Rattle.capnp_units.specs.declared.kinds.ErrorKind.{ErrorKind}
@@ -17,7 +17,7 @@ use Rattle.capnp_relay_streams.specs.Relaying.{relay_work}
 use Rattle.capnp_relay_streams.specs.Again.{RunsOver}
 use Rattle.capnp_relay_streams.specs.declared.options.RelayOptions.{RelayOptions}
 use Rattle.hagzimot_in_process.specs.declared.relay.Relay.{Relay}
-use Rattle.hagzimot_in_process.specs.Relays.{IsRootIn, work_of, in_memory, Ran, Stopped, EndsInFault, Ends}
+use Rattle.hagzimot_in_process.specs.Relays.{IsRootIn, work_of, in_memory, EndsInFault, Ends}
 
 -- The work of calls whose output and log take memory.
 abbrev pub growing : StructSchema → List Call → RelayOptions → LoopWork

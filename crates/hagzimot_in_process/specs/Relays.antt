@@ -1,5 +1,5 @@
 -- A relay over messages in memory: what it is made of, and what it does.
-use Rattle.std.specs.Prelude.{◌≡◌, ℕ, List, [], ◌∷◌, Option, Some, None, Result, Ok, Err, Vec, map, string_bytes}
+use Rattle.std.specs.Prelude.{◌≡◌, ℕ, List, [], ◌∷◌, Option, Some, None, Result, Ok, Err, Vec}
 use Rattle.std.specs.declared.alloc.Global.{Global}
 use Rattle.capnp_model.specs.Runs.{End, finished, broken}
 use Rattle.capnp_units.specs.Errors.{kind_of}

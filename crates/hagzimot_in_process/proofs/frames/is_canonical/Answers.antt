@@ -1,8 +1,5 @@
 use Rattle.capnp_units.specs.Segments.{words_in}
 use Rattle.capnp_stream.specs.Buffers.{found_segments}
-use Rattle.capnp_wire_objects.specs.Walks.{Stopped}
-use Rattle.capnp_model.specs.Segments.{root}
-use Rattle.capnp_model.specs.Visits.{visits}
 use Rattle.hagzimot_in_process.proofs.Refusals.{beyond_of}
 use Rattle.hagzimot_in_process.proofs.frames.is_canonical.Goals as goal
 
