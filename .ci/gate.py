@@ -107,6 +107,7 @@ def stages_after_proof():
         yield f"the command: {os.path.basename(path)}", script(os.path.basename(path), command)
     yield "faults of files", script("faults_of_files.py", command)
     yield "devices that fail at each byte", script("faults_at_each_byte.py", built("cases_devices"), "crates/cases_devices")
+    yield "the library for C", script("c_library.py")
     yield "growths refused in each call", script("faults_at_each_growth.py", built("cases_growths"), "crates/cases_growths")
 
 

@@ -80,8 +80,9 @@ def faults_of_storeys():
         storey += line.startswith("# ----")
         head, _, uses = line.split("#")[0].partition(":")
         if head.strip():
-            storeys[head.strip()] = storey
-            above += [(head.strip(), it) for it in uses.split()]
+            crate = head.split()[0]
+            storeys[crate] = storey
+            above += [(crate, it) for it in uses.split()]
     for crate, used in above:
         if storeys.get(used, 0) > storeys[crate]:
             yield f"crates.txt: {crate} uses {used} of a storey above its own"

@@ -2,7 +2,9 @@
 """Checks or builds crates like `rt check` and `rt lib`, but sums each crate once.
 
 usage: tools/check.py check NAME [FLAG..]     proves a crate; the flags are those of `rt check`, as --only or --jobs
-       tools/check.py build [-j N] NAME..     builds libraries with those below them, N at a time (one for each processor)
+       tools/check.py build [-j N] NAME..     builds libraries with those below them, N at a time (one for each processor); a static
+                                              library is linked too
+       tools/check.py link NAME..             links static libraries over the libraries that are there, as `rt ci` leaves them
        tools/check.py must-fail NAME          tries the wrong bodies of a crate
 
 `rt` finds what has changed by a sum of each crate's files. In this toolchain the sum of a crate is made anew for each path that
@@ -100,6 +102,20 @@ def build_libraries(crates, at_once):
     return NOT_PROVED if failed else PROVED
 
 
+def link(crates):
+    """Proves static libraries over the libraries below them, links them, and returns the status."""
+    for crate in crates:
+        missing = [it.name for it in crate.below() if not os.path.isdir(it.rlib)]
+        if missing:
+            print(f"{crate.name}: {missing[0]} isn't built (tools/check.py build {crate.name} builds it)")
+            return NOT_PROVED
+        os.makedirs(f"{crate.folder}/out", exist_ok=True)
+        if crate.build_static(["--jobs", "1"]):
+            return NOT_PROVED
+        print(f"{crate.name}: proved and linked", flush=True)
+    return PROVED
+
+
 def try_edits(rt, crate):
     """Tries the wrong bodies of a crate, and returns the status."""
     good, bad = rt.edits_of(crate)
@@ -110,7 +126,7 @@ def try_edits(rt, crate):
 
 
 def main(words):
-    if len(words) < 2 or words[0] not in ("check", "build", "must-fail"):
+    if len(words) < 2 or words[0] not in ("check", "build", "link", "must-fail"):
         print(__doc__)
         return PROVED if words in (["-h"], ["--help"]) else WRONG_WORDS
     verb, words = words[0], words[1:]
@@ -119,16 +135,19 @@ def main(words):
         at_once, words = max(1, int(words[1])), words[2:]
     rt = toolchain()
     known = {it.name: it for it in rt.rtlib.crates_below(TOP)}
-    names, flags = (words, []) if verb == "build" else (words[:1], words[1:])
+    names, flags = (words, []) if verb in ("build", "link") else (words[:1], words[1:])
     unknown = [it for it in names if it not in known]
     if unknown:
         print(f"{unknown[0]}: crates.txt lists no such crate")
         return WRONG_WORDS
     asked = [known[it] for it in names]
+    static = [it for it in asked if it.is_static]
+    if verb == "link":
+        return link(static)
     below = {it.name: it for crate in asked for it in crate.below()}
     status = build_libraries([*below.values(), *(asked if verb == "build" else [])], at_once)
     if status or verb == "build":
-        return status
+        return status or link(static)
     return asked[0].check(flags) if verb == "check" else try_edits(rt, asked[0])
 
 

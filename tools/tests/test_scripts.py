@@ -16,6 +16,7 @@ from contextlib import redirect_stdout
 TOP = os.path.dirname(os.path.dirname(os.path.dirname(os.path.realpath(__file__))))
 sys.dont_write_bytecode = True
 sys.path.insert(0, f"{TOP}/tools")
+import c_library
 import check
 import command_help
 import completions
@@ -311,7 +312,7 @@ class Files(unittest.TestCase):
             self.assertEqual(re.search(r"(?m)^## (\d+\.\d+\.\d+)", file.read())[1], statement.version())
 
     def test_each_script_has_help(self):
-        for name in ("try", "test", "install", "release", "tools/reproducible", "packaging/build_packages"):
+        for name in ("try", "test", "install", "release", "tools/reproducible", "tools/c_library.py", "packaging/build_packages", "packaging/build_library"):
             run = subprocess.run([sys.executable, f"{TOP}/{name}", "--help"], capture_output=True, text=True, check=False)
             self.assertEqual(run.returncode, 0, name)
             self.assertIn("usage: ", run.stdout, name)
@@ -319,6 +320,13 @@ class Files(unittest.TestCase):
     def test_costs_are_json(self):
         with open(f"{TOP}/packaging/costs.json", encoding="utf-8") as file:
             self.assertTrue(all(isinstance(it, int) for it in json.load(file)["seconds"].values()))
+
+    def test_each_export_is_a_function_of_the_header_and_of_python(self):
+        functions = c_library.functions()
+        self.assertEqual(sorted(it.replace("hz_", "hagzimot_") for it in c_library.exports()), sorted(functions))
+        with open(f"{TOP}/bindings/python/hagzimot.py", encoding="utf-8") as file:
+            declared = re.findall(r'_declare\("(\w+)"', file.read())
+        self.assertEqual(sorted(declared), sorted(functions))
 
 
 if __name__ == "__main__":

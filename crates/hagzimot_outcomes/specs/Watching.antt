@@ -1,9 +1,15 @@
 -- Answers that are watched.
-use Rattle.std.specs.Prelude.{◌≡◌, ℕ, Bool, true, false, Option, Some, None}
+use Rattle.std.specs.Prelude.{◌≡◌, ℕ, Bool, true, false, Option, Some, None, List, map}
 use Rattle.std.specs.List.{position}
 use Rattle.capnp_model.specs.Segments.{Segments}
 use Rattle.capnp_model.specs.Answers.{Answer, refused_value, refused_root, refused_depth, written}
-use Rattle.hagzimot_outcomes.specs.Outcomes.{is_refusal}
+use Rattle.capnp_calls.specs.declared.reply.Reply.{Reply}
+use Rattle.capnp_relay_loop.specs.declared.answer.MessageAnswer.{MessageAnswer}
+use Rattle.capnp_relay_loop.specs.declared.answer.MessageAnswer.TheVariants as made
+use Rattle.hagzimot_outcomes.specs.Outcomes.{is_refusal, reply_told, told_each}
+use Rattle.hagzimot_outcomes.specs.declared.outcomes.Cause.TheVariants as cause
+use Rattle.hagzimot_outcomes.specs.declared.outcomes.Outcome.{Outcome}
+use Rattle.hagzimot_outcomes.specs.declared.outcomes.Outcome.TheVariants as outcome
 
 -- The place of the first call of an answer that is refused.
 abbrev pub refused_call : Answer → Option ℕ
@@ -25,3 +31,17 @@ strict_answer a = answer_unless (refused_call a) a
 abbrev pub IsWatched : Bool → (Segments → Answer → Type 0) → Segments → Answer → Type 0
 IsWatched false is_answer = is_answer
 IsWatched true is_answer = λ s a. (b : Answer) × is_answer s b × (a ≡ strict_answer b)
+
+-- A message was written after calls with these replies.
+abbrev pub TellsReplies : List Reply → Outcome → Type 0
+TellsReplies replies (outcome.Written calls) = map reply_told calls.items ≡ told_each replies
+TellsReplies replies (outcome.Done n) = ⊥
+TellsReplies replies (outcome.Unedited c) = ⊥
+TellsReplies replies (outcome.Refused c) = ⊥
+
+-- What became of a message with this answer, whose calls all ran.
+abbrev pub IsOutcomeOf : MessageAnswer → Outcome → Type 0
+IsOutcomeOf (made.Written count replies) o = TellsReplies replies.items o
+IsOutcomeOf (made.Done count calls) o = o ≡ outcome.Done calls
+IsOutcomeOf (made.Several segments replies) o = TellsReplies replies.items o
+IsOutcomeOf (made.Refused reason) o = o ≡ outcome.Refused (cause.Message reason)

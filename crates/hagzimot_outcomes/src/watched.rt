@@ -1,13 +1,11 @@
 //! Answers of which it is noted what becomes of each message and its calls.
-ghost use Rattle.std.specs.Prelude.{◌≡◌, ℕ, List};
+ghost use Rattle.std.specs.Prelude.{◌≡◌, ℕ, List, IfOk};
 ghost use Rattle.capnp_relay_loop.specs.MessageAnswers.{answer_view};
 ghost use Rattle.hagzimot_outcomes.specs.Outcomes.{refused_place};
-ghost use Rattle.hagzimot_outcomes.specs.Watching.{refused_call};
+ghost use Rattle.hagzimot_outcomes.specs.Watching.{refused_call, IsOutcomeOf};
 
 use crate::notes::Notes;
-use crate::outcomes::{
-    CallOutcome, Cause, Outcome, RefusedCall, first_refusal, outcomes_of, refused_calls,
-};
+use crate::outcomes::{Cause, Outcome, RefusedCall, first_refusal, outcomes_of, refused_calls};
 use crate::skips::Skips;
 use capnp_calls::reply::Reply;
 use capnp_relay_loop::answer::{MessageAnswer, Reason, Want};
@@ -86,33 +84,19 @@ pub struct Watched<'a, 'n, 'p, 'i, A, N> {
 }
 
 /// Returns what became of a message with this answer, whose calls all ran.
-fn outcome_of(alloc: Global, answer: &MessageAnswer) -> Result<Outcome, AllocError> {
+fn outcome_of(alloc: Global, answer: &MessageAnswer) -> Result<Outcome, AllocError>
+    ensures { IfOk result (IsOutcomeOf answer.now) }
+{
     match answer {
         MessageAnswer::Done { count: _, calls } => Ok(Outcome::Done(*calls)),
         MessageAnswer::Refused(reason) => Ok(Outcome::Refused(Cause::Message(*reason))),
-        written => Ok(Outcome::Written(outcomes_of(alloc, replies_of(written))?)),
-    }
-}
-
-/// Returns what became of a message, with the calls that did not run among the others.
-fn with_skips(
-    alloc: Global,
-    outcome: Outcome,
-    skips: Skips<'_, '_>,
-) -> Result<Outcome, AllocError> {
-    if skips.are_none() {
-        return Ok(outcome);
-    }
-    match outcome {
-        Outcome::Written(calls) => Ok(Outcome::Written(skips.among(alloc, calls)?)),
-        Outcome::Done(count) => {
-            let mut calls = Vec::new(alloc);
-            for _call in 0..count {
-                calls.push(CallOutcome::Done)?;
-            }
-            Ok(Outcome::Written(skips.among(alloc, calls)?))
+        MessageAnswer::Written { count: _, replies } => {
+            Ok(Outcome::Written(outcomes_of(alloc, replies)?))
         }
-        other => Ok(other),
+        MessageAnswer::Several {
+            segments: _,
+            replies,
+        } => Ok(Outcome::Written(outcomes_of(alloc, replies)?)),
     }
 }
 
@@ -125,7 +109,7 @@ impl<A, N: Notes> Watched<'_, '_, '_, '_, A, N> {
         ensures { IfErr result (λ want. want ≡ Want.Memory) }
     {
         let outcome = match (outcome_of(alloc, answer), self.skips) {
-            (Ok(outcome), Some(skips)) => with_skips(alloc, outcome, skips),
+            (Ok(outcome), Some(skips)) => skips.among(alloc, outcome),
             (outcome, _) => outcome,
         };
         match outcome {

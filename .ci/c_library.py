@@ -1,0 +1,133 @@
+#!/usr/bin/env python3
+"""Makes the library for C, and tries it from C, C++ and Python.
+
+usage: c_library.py [--unproved]     (at the top of the repository, after the proofs)
+
+The library is made of the proved crate hagzimot_c, which is linked first, or without proof. Then:
+- C calls each function with good arguments and bad ones, with sanitizers and under valgrind if they are there;
+- messages with changed bytes lie at the end of memory that can be read, and so do their outputs;
+- each allocation of each call is refused in turn;
+- C++ and the example of Python run;
+- Python relays the stored runs and compares the stored pairs of schemas.
+Ends with status 1 if one fails.
+"""
+import glob
+import os
+import shutil
+import subprocess
+import sys
+import tempfile
+
+TOP = os.path.dirname(os.path.dirname(os.path.realpath(__file__)))
+sys.dont_write_bytecode = True
+sys.path.insert(0, f"{TOP}/tools")
+import c_library
+import unproved
+
+CRATE = "hagzimot_c"
+C_WORDS = ("-std=c99", "-pedantic", "-Wall", "-Wextra", "-Werror", "-g", "-O1")
+SANITIZERS = ("-fsanitize=address,undefined", "-fno-sanitize-recover=all")
+PAGES, FEW_PAGES = "3000", "300"
+# Allocations of a run that are refused in turn; a run has fewer.
+MOST_REFUSALS = 5000
+LIMIT = 600
+
+
+class Wrong(Exception):
+    """What is wrong."""
+
+
+def run(*words, **how):
+    """Runs a command, and returns what it writes."""
+    done = subprocess.run(words, capture_output=True, text=True, errors="replace", timeout=LIMIT, check=False, **how)
+    if done.returncode:
+        raise Wrong(f"{' '.join(words)}: status {done.returncode}\n{done.stdout[-3000:]}\n{done.stderr[-3000:]}")
+    return done.stdout.strip()
+
+
+def compiles(room, *flags):
+    """Whether the compiler makes programs with these flags that run."""
+    with open(f"{room}/try.c", "w", encoding="ascii") as file:
+        file.write("int main(void) { return 0; }\n")
+    words = ("cc", *flags, f"{room}/try.c", "-o", f"{room}/try")
+    return all(not subprocess.run(it, capture_output=True, check=False).returncode for it in (words, (f"{room}/try",)))
+
+
+def calls(room, out):
+    """Tries the functions from C."""
+    source, library = f"{TOP}/.ci/c_calls.c", f"{out}/libhagzimot.a"
+    run("cc", *C_WORDS, f"-I{out}", source, library, "-o", f"{room}/calls")
+    run(f"{room}/calls", "calls")
+    print(run(f"{room}/calls", "pages", PAGES))
+    if shutil.which("valgrind"):
+        words = ("valgrind", "-q", "--leak-check=full", "--error-exitcode=9", f"{room}/calls")
+        run(*words, "calls")
+        run(*words, "pages", FEW_PAGES)
+        print("valgrind finds nothing")
+    else:
+        print("valgrind isn't there, and isn't tried")
+    if compiles(room, *SANITIZERS):
+        run("cc", *C_WORDS, *SANITIZERS, f"-I{out}", source, library, "-o", f"{room}/sanitized")
+        run(f"{room}/sanitized", "calls")
+        run(f"{room}/sanitized", "pages", FEW_PAGES)
+        print("the sanitizers find nothing")
+    else:
+        print("the compiler has no sanitizers, and they aren't tried")
+
+
+def refusals(room):
+    """Refuses each allocation of the calls in turn, until none is left to refuse."""
+    run("cc", "-shared", "-fPIC", "-O1", f"{TOP}/.ci/refuse.c", "-o", f"{room}/refuse.so")
+    for at in range(1, MOST_REFUSALS):
+        told, tell = os.pipe()
+        env = {**os.environ, "LD_PRELOAD": f"{room}/refuse.so", "REFUSE_MARKED": "1", "REFUSE_AT": str(at), "REFUSE_TOLD": str(tell)}
+        try:
+            run(f"{room}/calls", "growths", env=env, pass_fds=(tell,))
+        except Wrong as wrong:
+            raise Wrong(f"allocation {at} is refused: {wrong}") from wrong
+        finally:
+            os.close(tell)
+            was_refused = os.read(told, 1)
+            os.close(told)
+        if not was_refused:
+            print(f"{at - 1} allocations are refused in turn")
+            return
+    raise Wrong(f"{MOST_REFUSALS} refusals don't suffice")
+
+
+def others(room, out):
+    """Tries C++ and Python."""
+    if not shutil.which("c++"):
+        raise Wrong("c++: it isn't on the PATH (install a C++ compiler)")
+    words = ("c++", "-std=c++17", "-Wall", "-Wextra", "-Werror", "-O1", f"-I{out}", f"{TOP}/.ci/c_calls.cpp", f"{out}/libhagzimot.a")
+    run(*words, "-o", f"{room}/cpp")
+    run(f"{room}/cpp")
+    print("C++ is as it must be")
+    env = {**os.environ, "HAGZIMOT_LIBRARY": f"{out}/libhagzimot.so.1"}
+    edited = run(sys.executable, f"{TOP}/bindings/python/edit.py", env=env)
+    if not edited.endswith('(a = 9, t = "hi")'):
+        raise Wrong(f"the example of Python writes\n{edited}")
+    cases = sorted(glob.glob(f"{TOP}/crates/cases_relay/data/*.jsonl"))
+    print(run(sys.executable, f"{TOP}/.ci/c_runs.py", out, *cases))
+
+
+def main(words):
+    if words not in ([], ["--unproved"]):
+        print(__doc__)
+        return 2
+    try:
+        if not words:
+            print(run(sys.executable, f"{TOP}/tools/check.py", "link", CRATE).splitlines()[-1])
+        with tempfile.TemporaryDirectory(prefix="c-library-") as room:
+            c_library.make(f"{room}/out", not words, lambda _text: None)
+            calls(room, f"{room}/out")
+            refusals(room)
+            others(room, f"{room}/out")
+    except (Wrong, unproved.Failed) as wrong:
+        print(wrong)
+        return 1
+    return 0
+
+
+if __name__ == "__main__":
+    sys.exit(main(sys.argv[1:]))

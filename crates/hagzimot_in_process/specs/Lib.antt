@@ -1,0 +1,4 @@
+pub mod Frames
+pub mod Held
+pub mod Opened
+pub mod Relays
