@@ -1,12 +1,13 @@
 -- The requests that files compile to.
-use Rattle.std.specs.Prelude.{ℕ, ◌≡◌, ◌≢◌, ◌==◌, ◌&&◌, Bool, true, false, Option, Some, List, map, filter, option_map, string_bytes, IsTrue, All, AllPairs}
-use Rattle.std.specs.List.{list_any}
+use Rattle.std.specs.Prelude.{ℕ, ◌≡◌, ◌≢◌, Option, Some, List, map, filter, option_map, string_bytes, All, AllPairs, Contains}
+use Rattle.capnp_source_names.specs.declared.entries.Kind.{Kind}
 use Rattle.capnp_source_names.specs.declared.sources.Loaded.{Loaded}
 use Rattle.capnp_source_nodes.specs.declared.nodes.Node.{Node}
 use Rattle.capnp_source_nodes.specs.declared.nodes.NodeBody.{NodeBody}
 use Rattle.capnp_source_nodes.specs.declared.nodes.NodeBody.TheVariants as B
 use Rattle.capnp_source_nodes.specs.declared.nodes.Request.{Request}
 use Rattle.capnp_source_nodes.specs.declared.nodes.RequestedFile.{RequestedFile}
+use Rattle.capnp_source_compile.specs.Declarations.{declared_by_asked}
 
 -- The id and the name of a file, as a request lists them.
 abbrev pub listed : RequestedFile → Option ℕ × List ℕ
@@ -20,20 +21,21 @@ given f = (option_map (λ id. id.value) f.file.id, string_bytes f.name)
 abbrev pub asked_of : List Loaded → List (Option ℕ × List ℕ)
 asked_of files = map given (filter (λ f. f.is_requested) files)
 
-abbrev pub is_file : NodeBody → Bool
-is_file B.File = true
-is_file (B.Struct s) = false
-is_file (B.Enum es) = false
-is_file (B.Interface i) = false
-is_file (B.Constant ty value) = false
-is_file (B.Annotation ty targets) = false
+abbrev pub kind_of_node : NodeBody → Kind
+kind_of_node B.File = Kind.File
+kind_of_node (B.Struct s) = Kind.Struct
+kind_of_node (B.Enum es) = Kind.Enum
+kind_of_node (B.Interface i) = Kind.Interface
+kind_of_node (B.Constant ty value) = Kind.Constant
+kind_of_node (B.Annotation ty targets) = Kind.Annotation
 
--- Whether the file with an id is one of the nodes.
-abbrev pub has_file : List Node → ℕ → Bool
-has_file nodes id = list_any (λ n. n.id == id && is_file n.body) nodes
+-- The id and the kind of a node.
+abbrev pub node_key : Node → ℕ × Kind
+node_key n = (n.id, kind_of_node n.body)
 
--- A request lists the files that are asked for. Each of them is a node, and no two nodes have the same id.
+-- A request lists the files that are asked for. Each of them, and all that it declares, is a node. No two nodes have
+-- the same id.
 pub record IsRequestOf (files : List Loaded) (r : Request) : Type 0 where
   pub asked : map listed r.files.items ≡ asked_of files
-  pub nodes : All (λ f. IsTrue (has_file r.nodes.items f.id)) r.files.items
+  pub declared : All (λ d. Contains (map node_key r.nodes.items) d) (declared_by_asked files)
   pub ids : AllPairs (λ x y. x ≢ y) (map (λ n. n.id) r.nodes.items)

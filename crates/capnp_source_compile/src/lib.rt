@@ -3,6 +3,7 @@
 
 pub mod annotations;
 pub mod compile;
+mod declared;
 pub mod known;
 pub mod needed;
 pub mod requests;

@@ -2,16 +2,16 @@
 
 ghost use Rattle.std.specs.Prelude.{◌≡◌, ◌≢◌, map, nat_eq, All, AllPairs, IfOk, IsTrue};
 ghost use Rattle.std.specs.HashSet as set;
-ghost use Rattle.std.specs.List.{list_all};
-ghost use Rattle.capnp_source_compile.specs.Requests.{listed, given, asked_of, is_file, has_file, IsRequestOf};
+ghost use Rattle.capnp_source_compile.specs.Requests.{listed, given, asked_of, IsRequestOf};
 
+use crate::declared::{are_files_there, kinds_of};
 use crate::needed::needed_entries;
 use capnp_source_drafts::drafts::Drafts;
 use capnp_source_names::problems::{Stop, wrong};
 use capnp_source_names::references::named_imports;
 use capnp_source_names::sources::Loaded;
 use capnp_source_names::table::Table;
-use capnp_source_nodes::nodes::{Import, Node, NodeBody, Request, RequestedFile};
+use capnp_source_nodes::nodes::{Import, Node, Request, RequestedFile};
 use std::alloc::{AllocError, Global};
 use std::collections::HashSet;
 use std::str;
@@ -90,29 +90,6 @@ fn requested_files(table: &Table, files: &[Loaded]) -> Result<Vec<RequestedFile>
     Ok(all)
 }
 
-/// Whether a node is a file.
-fn is_file(body: &NodeBody) -> bool
-    ensures { result ≡ is_file body.now }
-{
-    matches!(body, NodeBody::File)
-}
-
-/// Whether one of the nodes is the file with an id.
-fn has_file(nodes: &[Node], id: u64) -> bool
-    ensures { result ≡ has_file nodes.now id }
-{
-    nodes
-        .iter()
-        .any(|node| node.id == id && is_file(&node.body))
-}
-
-/// Whether each of the files is one of the nodes.
-fn have_files(nodes: &[Node], files: &[RequestedFile]) -> bool
-    ensures { result ≡ list_all (λ f. has_file nodes.now f.id) files.now }
-{
-    files.iter().all(|file| has_file(nodes, file.id))
-}
-
 /// Returns the ids of nodes.
 fn ids_of(alloc: Global, nodes: &[Node]) -> Result<HashSet<u64>, AllocError>
     ensures { IfOk result (set.IsFromIterResult nat_eq (map (λ n. n.id) nodes.now)) }
@@ -152,13 +129,17 @@ fn same_ids(table: &Table, nodes: &[Node]) -> Result<Stop, Stop> {
 pub fn request_of(table: &Table, files: &[Loaded], drafts: Drafts) -> Result<Request, Stop>
     ensures { IfOk result (IsRequestOf files.now) }
 {
-    let files = requested_files(table, files)?;
+    let requested = requested_files(table, files)?;
     let nodes = needed_nodes(table, drafts)?;
     if !are_distinct(table.alloc, &nodes)? {
         return Err(same_ids(table, &nodes)?);
     }
-    if !have_files(&nodes, &files) {
+    let kinds = kinds_of(table.alloc, &nodes)?;
+    if !are_files_there(files, &kinds) {
         return Err(Stop::Known);
     }
-    Ok(Request { nodes, files })
+    Ok(Request {
+        nodes,
+        files: requested,
+    })
 }
