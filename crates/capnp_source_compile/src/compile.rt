@@ -71,6 +71,9 @@ fn compiled(alloc: Global, files: &[Loaded], problems: &mut Problems) -> Result<
     let mut work = Work::new(alloc, drafts)?;
     settle_values(&mut work, resolver, problems)?;
     settle_annotations(&mut work, resolver, problems)?;
+    if !problems.is_empty() {
+        return Err(Stop::Known);
+    }
     let Work { drafts, .. } = work;
     request_of(&table, files, drafts)
 }
