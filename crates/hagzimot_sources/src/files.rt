@@ -1,7 +1,7 @@
 //! The files that sources are made of, each read once.
 
 use crate::faults::SourcesFault;
-use crate::paths::{Place, asked_place};
+use crate::paths::{Place, absolute, asked_place};
 use crate::sources::{Asked, ReadFault, Sources};
 use capnp_source_names::sources::Loaded;
 use capnp_source_nodes::problems::Problem;
@@ -15,6 +15,8 @@ pub struct Opened {
     pub place: Place,
     /// The path at which it was read.
     pub path: String,
+    /// The absolute form of that path, which is the same for each spelling.
+    pub whole: String,
     pub text: Vec<u8>,
     /// Whether no folder is known for it, as for standard input.
     pub is_loose: bool,
@@ -48,11 +50,11 @@ impl Loading {
         self.opened.len().saturating_add(self.embedded)
     }
 
-    /// Returns the file that was read by a path, by its place in the list.
-    pub fn find(&self, path: &str) -> Option<usize> {
+    /// Returns the file of an absolute path, by its place in the list.
+    pub fn find(&self, whole: &str) -> Option<usize> {
         self.opened
             .iter()
-            .position(|opened| opened.path.as_str() == path)
+            .position(|opened| opened.whole.as_str() == whole)
     }
 }
 
@@ -151,7 +153,8 @@ fn add_named<S: Sources>(
 ) -> Result<(), SourcesFault> {
     let place = asked_place(alloc, name, current)?;
     let path = place.path(alloc)?;
-    if loading.find(path.as_str()).is_some() {
+    let whole = absolute(alloc, path.as_str(), current)?;
+    if loading.find(whole.as_str()).is_some() {
         return Ok(());
     }
     let text = match text {
@@ -161,6 +164,7 @@ fn add_named<S: Sources>(
     let opened = Opened {
         place,
         path,
+        whole,
         text,
         is_loose: false,
     };
@@ -180,6 +184,7 @@ fn add_standard(alloc: Global, loading: &mut Loading, text: Vec<u8>) -> Result<(
     let opened = Opened {
         place,
         path: String::from_str(alloc, STANDARD)?,
+        whole: String::from_str(alloc, STANDARD)?,
         text,
         is_loose: true,
     };

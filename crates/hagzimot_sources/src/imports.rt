@@ -3,7 +3,7 @@
 use crate::builtins::builtin;
 use crate::faults::SourcesFault;
 use crate::files::{Loading, Opened, add_file};
-use crate::paths::{Place, imported_place, relative_place};
+use crate::paths::{Place, absolute, imported_place, relative_place};
 use crate::sources::{ReadFault, Sources};
 use capnp_source_names::references::references;
 use capnp_source_names::sources::{Embedded, Imported, Reference};
@@ -90,6 +90,7 @@ fn built_in(
     Ok(Found::Read(Opened {
         place: imported_place(alloc, "", path, "/")?,
         path: String::from_str(alloc, path)?,
+        whole: String::from_str(alloc, path)?,
         text: Vec::from_slice(alloc, text.as_bytes())?,
         is_loose: false,
     }))
@@ -105,22 +106,24 @@ fn find<S: Sources>(
     path: &str,
 ) -> Result<Found, SourcesFault> {
     for place in places(alloc, search, from, path)? {
-        let whole = place.path(alloc)?;
+        let path = place.path(alloc)?;
+        let whole = absolute(alloc, path.as_str(), search.current)?;
         if let Some(known) = loading.find(whole.as_str()) {
             return Ok(Found::Known(known));
         }
-        match sources.read(whole.as_str()) {
+        match sources.read(path.as_str()) {
             Ok(Some(text)) => {
                 return Ok(Found::Read(Opened {
                     place,
-                    path: whole,
+                    path,
+                    whole,
                     text,
                     is_loose: false,
                 }));
             }
             Ok(None) => {}
             Err(ReadFault::Unreadable(why)) => {
-                let why = format!(in alloc; "{whole} can't be read: {why}")?;
+                let why = format!(in alloc; "{path} can't be read: {why}")?;
                 return Ok(Found::Nothing(why));
             }
             Err(ReadFault::Memory) => return Err(SourcesFault::Memory),

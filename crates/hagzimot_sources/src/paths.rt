@@ -80,6 +80,16 @@ fn resolved_folder(alloc: Global, folder: &str) -> Result<String, AllocError> {
     Ok(whole)
 }
 
+/// Returns the absolute form of a path, where the command runs in a folder: the same for each spelling of a path.
+pub fn absolute(alloc: Global, path: &str, current: &str) -> Result<String, AllocError> {
+    if path.starts_with('/') || current.is_empty() {
+        return resolved_folder(alloc, path);
+    }
+    let mut whole = String::from_str(alloc, "/")?;
+    whole.push_str(resolved(alloc, current, path)?.as_str())?;
+    Ok(whole)
+}
+
 /// Returns what a path has after a folder, if the folder is known and the path is in it.
 fn within<'a>(path: &'a str, folder: &str) -> Option<&'a str> {
     if folder.is_empty() {

@@ -69,6 +69,27 @@ fn folders_are_tried_in_their_order(rt: HostRuntime) -> Result<(), AllocError> {
     Ok(())
 }
 
+/// A file outside the folder of the run that imports one file by three paths.
+static SPELLINGS: [Named; 2] = [
+    (
+        "../top.capnp",
+        "@0xbf5147cbbecf4601;\nusing A = import \"work/lib/b.capnp\";\nusing B = import \"/b.capnp\";\nusing C = import \"./work/../work/lib/b.capnp\";\nstruct Top { a @0 :A.B; b @1 :B.B; c @2 :C.B; }\n",
+    ),
+    (
+        "../work/lib/b.capnp",
+        "@0xbf5147cbbecf4602;\nstruct B { n @0 :UInt8; }\n",
+    ),
+];
+
+#[test]
+fn a_file_is_one_file_by_each_of_its_paths(rt: HostRuntime) -> Result<(), AllocError> {
+    let mut files = files_of(rt.alloc(), &SPELLINGS);
+    let outcome = compiled(rt.alloc(), &mut files, "../top.capnp");
+    assert!(rt; problems(rt.alloc(), outcome)?.as_str() == "compiled");
+    assert!(rt; files.reads == 2);
+    Ok(())
+}
+
 /// A source that imports files which come with the compiler.
 static BUILT_IN: [Named; 1] = [(
     "s.capnp",
