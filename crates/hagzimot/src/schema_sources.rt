@@ -24,7 +24,7 @@ struct Disk {
     rt: HostRuntime,
 }
 
-/// What is said of a source with more bytes.
+/// The fault of a source with more bytes.
 const TOO_LONG: &str = "it has more than 64 MiB (make it smaller)";
 
 /// Why a file can't be read, for the system's reason.

@@ -6,7 +6,7 @@ use capnp_source_request::faults::RequestFault;
 use std::alloc::{AllocError, AllocFailed, Global};
 use std::fmt;
 
-/// What is wrong with sources, as lines for people: each problem begins with its file, line and column.
+/// Lines that say what is wrong with sources: each problem begins with its file, line and column.
 #[derive(Debug, Drop)]
 pub struct Report {
     text: String,
