@@ -1,0 +1,5 @@
+mod Refusals
+mod Clear
+mod Fronts
+mod Adjacent
+mod Writing

@@ -1,0 +1,7 @@
+//! Whole messages in a damaged stream.
+#![tactic(auto)]
+
+pub mod frames;
+pub mod pieces;
+pub mod roots;
+pub mod written;
