@@ -1,12 +1,12 @@
 -- Messages at the front of bytes.
-use Rattle.std.proofs.Common.{◌≡◌, ℕ, ◌+◌, ◌-◌, ◌<◌, ◌≤◌, List, [], ◌∷◌, ◌++◌, length, drop, Option, Some, None, Result, Ok, Err, refl, sym, ◌∙◌, ap, subst, arith, length-append}
+use Rattle.std.proofs.Common.{◌≡◌, ℕ, ◌-◌, ◌<◌, List, [], ◌∷◌, ◌++◌, length, drop, Option, Some, Result, Ok, ◌∙◌, ap, arith, length-append}
 use Rattle.std.proofs.lemmas.List.{drop_at}
 use Rattle.std.specs.Prelude.{Bool, true, ◌&&◌}
 use Rattle.std.specs.Result.{result_ok}
 use Rattle.capnp_model.specs.Kinds.{Kind}
 use Rattle.capnp_model.specs.Chains.{◌>>=◌, ◌provided◌}
 use Rattle.capnp_model.specs.Segments.{Segments}
-use Rattle.capnp_model.specs.Messages.{frame_at, message_at, plain_words}
+use Rattle.capnp_model.specs.Messages.{frame_at, message_at}
 use Rattle.capnp_model.specs.Spelling.{Frames}
 use Rattle.hagzimot_salvage.specs.declared.roots.SalvageLimits.{SalvageLimits}
 use Rattle.hagzimot_salvage.specs.Roots.{has_root}

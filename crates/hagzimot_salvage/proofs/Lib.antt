@@ -3,3 +3,4 @@ mod Clear
 mod Fronts
 mod Adjacent
 mod Writing
+mod Whole

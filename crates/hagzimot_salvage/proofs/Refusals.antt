@@ -1,12 +1,11 @@
 -- What is met on a walk is a fault of the bytes, or costs words.
-use Rattle.std.proofs.Common.{◌≡◌, ℕ, zero, suc, ◌+◌, ◌-◌, ◌*◌, ◌^◌, Bool, true, false, leb, eqb, ltb, List, [], ◌∷◌, ◌++◌, length, drop, Option, Some, None, Result, Ok, Err, if◌then◌else◌}
+use Rattle.std.proofs.Common.{ℕ, zero, suc, ◌+◌, ◌-◌, ◌*◌, ◌^◌, Bool, true, false, leb, eqb, ltb, List, [], ◌∷◌, ◌++◌, length, Option, Some, None, Result, Ok, Err, if◌then◌else◌}
 use Rattle.std.specs.Option.{ok_or}
 use Rattle.capnp_model.specs.Kinds.{Kind, ReadLimitExceeded, OutOfBounds}
 use Rattle.capnp_model.specs.Chains.{◌and_then◌, ◌provided◌, guard}
-use Rattle.capnp_model.specs.Sections.{bits_at, words_for}
+use Rattle.capnp_model.specs.Sections.{bits_at}
 use Rattle.capnp_model.specs.Segments.{Segments, Place, place, after, word_at, words_at}
 use Rattle.capnp_model.specs.Pointers.{Pointer, to_struct, to_list, to_pad, to_capability, to_nothing_known, pointer_of, begins, described, in_pad, Object, nothing, a_struct, a_list, a_capability, Found, found_by, found_at}
-use Rattle.capnp_model.specs.Trees.{size_bits}
 use Rattle.capnp_model.specs.Traversal.{Tag, tag_of, tag_in, ListKind, of_bits, of_pointers, of_structs, list_kind, list_words}
 use Rattle.capnp_model.specs.Coverage.{from_each, from_elements}
 use Rattle.capnp_model.specs.Visits.{Visit, visits_of, list_visits, object_visits, leaf_visits, visits}

@@ -1,5 +1,5 @@
 -- Messages in bytes that may be anything. (Encoding, "Serialization Over a Stream")
-use Rattle.std.specs.Prelude.{◌≡◌, ℕ, ◌*◌, ◌/◌, ◌%◌, ◌^◌, ◌<◌, ◌==◌, Bool, true, false, ◌&&◌, ◌||◌, Option, Some, None, is_some, List, [], length, drop, slice_get}
+use Rattle.std.specs.Prelude.{◌≡◌, ℕ, ◌*◌, ◌/◌, ◌%◌, ◌^◌, ◌<◌, ◌==◌, Bool, true, false, ◌&&◌, ◌||◌, Option, Some, None, is_some, List, length, drop, slice_get}
 use Rattle.std.specs.Result.{result_ok}
 use Rattle.capnp_model.specs.Chains.{◌>>=◌, ◌provided◌, passes}
 use Rattle.capnp_model.specs.Messages.{frame_at}

@@ -1,6 +1,6 @@
 -- The pieces of a stream: messages that follow one another, and gaps. (Encoding, "Serialization Over a Stream")
 use Rattle.std.specs.List.{flat_map}
-use Rattle.std.specs.Prelude.{◌≡◌, ◌⊎◌, ℕ, ◌<◌, ◌≤◌, Some, List, [], ◌∷◌, length, drop, slice_range, IsErr, ⊤}
+use Rattle.std.specs.Prelude.{◌≡◌, ◌⊎◌, ℕ, ◌<◌, ◌≤◌, ◌+◌, Some, List, [], ◌∷◌, length, drop, slice_range, IsErr, ⊤}
 use Rattle.capnp_model.specs.Segments.{Segments}
 use Rattle.capnp_model.specs.Messages.{plain_words, frame_at}
 use Rattle.capnp_model.specs.Runs.{BeginWith}
@@ -41,11 +41,22 @@ abbrev pub IsWithin : List ℕ → Piece → Type 0
 IsWithin bytes (piece.Messages at end count) = (at ≤ end) × (end ≤ length bytes)
 IsWithin bytes (piece.Gap at end) = ⊤
 
--- The bytes of a piece that are kept.
+-- The bytes of a piece.
+abbrev pub bytes_of : List ℕ → Piece → List ℕ
+bytes_of bytes (piece.Messages at end count) = slice_range bytes at end
+bytes_of bytes (piece.Gap at end) = slice_range bytes at end
+
+-- The bytes of a piece that are kept: those of messages.
 abbrev pub kept_of : List ℕ → Piece → List ℕ
 kept_of bytes (piece.Messages at end count) = slice_range bytes at end
 kept_of bytes (piece.Gap at end) = []
 
--- The bytes of the pieces that are kept, in order.
+-- The bytes of pieces that are kept, in order.
 abbrev pub kept_bytes : List ℕ → List Piece → List ℕ
 kept_bytes bytes ps = flat_map (kept_of bytes) ps
+
+-- How many messages pieces have.
+abbrev pub kept_count : List Piece → ℕ
+kept_count [] = 0
+kept_count (piece.Messages at end count ∷ ps) = count + kept_count ps
+kept_count (piece.Gap at end ∷ ps) = kept_count ps

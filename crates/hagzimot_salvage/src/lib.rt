@@ -2,6 +2,7 @@
 #![tactic(auto)]
 
 pub mod frames;
+pub mod laws;
 pub mod pieces;
 pub mod roots;
 pub mod written;

@@ -1,7 +1,7 @@
 //! The pieces of a stream: messages that follow one another, and what is between them.
-ghost use Rattle.std.specs.Prelude.{◌≡◌, ◌≤◌, ◌<◌, ◌-◌, length, IfOk, IfErr};
+ghost use Rattle.std.specs.Prelude.{◌≡◌, ◌≤◌, ◌<◌, length, All, IfOk, IfErr};
 ghost use Rattle.capnp_units.specs.declared.kinds.ErrorKind.{ErrorKind};
-ghost use Rattle.hagzimot_salvage.specs.Pieces.{IsRun, GapEnds, ArePieces};
+ghost use Rattle.hagzimot_salvage.specs.Pieces.{IsRun, GapEnds, ArePieces, IsWithin};
 
 use crate::frames::{frame_len, next_frame};
 use crate::roots::SalvageLimits;
@@ -59,6 +59,7 @@ fn gap_end(alloc: Global, bytes: &[u8], at: usize, limits: SalvageLimits) -> Res
 /// piece. It takes 32 bytes of memory for each piece. `OutOfMemory`: memory was refused.
 pub fn pieces(alloc: Global, bytes: &[u8], limits: SalvageLimits) -> Result<Vec<Piece>>
     ensures pieces { IfOk result (λ v. ArePieces limits bytes.now 0 v.items (length bytes.now)) }
+    ensures within { IfOk result (λ v. All (IsWithin bytes.now) v.items) }
     ensures refusal { IfErr result (λ e. e.kind ≡ ErrorKind.OutOfMemory) }
 {
     let mut pieces = Vec::new(alloc);

@@ -1,8 +1,7 @@
-use Rattle.std.proofs.Common.{◌≡◌, List, ℕ, Ok, ◌∙◌, Some, sym, ap, arith}
+use Rattle.std.proofs.Common.{List, ℕ, Ok, ◌∙◌, Some, sym, ap, arith}
 use Rattle.capnp_model.specs.Segments.{Segments}
 use Rattle.capnp_model.specs.Kinds.{Kind}
 use Rattle.std.specs.Prelude.{Result}
-use Rattle.capnp_model.specs.Messages.{frame_at}
 use Rattle.capnp_units.specs.Segments.{words_in}
 use Rattle.capnp_stream.specs.Buffers.{found_segments}
 use Rattle.hagzimot_salvage.proofs.Fronts.{behind_text, shorter}

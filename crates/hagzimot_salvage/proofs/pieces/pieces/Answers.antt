@@ -1,7 +1,8 @@
-use Rattle.std.proofs.Common.{◌≡◌, ℕ, List, ◌∷◌, [], ◌++◌, length, refl, subst, sym, arith}
+use Rattle.std.proofs.Common.{◌≡◌, ℕ, List, length, subst, sym, arith}
 use Rattle.hagzimot_salvage.specs.declared.pieces.Piece.{Piece}
 use Rattle.hagzimot_salvage.specs.Pieces.{ArePieces}
 use Rattle.hagzimot_salvage.proofs.Adjacent.{pieces_nowhere, messages_more, gap_more, no_run}
+use Rattle.hagzimot_salvage.proofs.Whole.{all_within}
 use Rattle.hagzimot_salvage.proofs.pieces.pieces.Goals as goal
 
 pub loop-at-init : goal.loop-at-init
@@ -26,3 +27,6 @@ pub returns-clause-pieces : goal.returns-clause-pieces
 returns-clause-pieces c =
     let at_end : c.loop-at.at ≡ length c.args.bytes.now = omega (arith, c.loop-at.invariant.inside) in
     subst (λ (to : ℕ). ArePieces c.args.limits c.args.bytes.now 0 c.loop-at.pieces.items to) at_end c.loop-at.invariant.pieces
+
+pub returns-clause-within : goal.returns-clause-within
+returns-clause-within c = all_within c.args.limits c.args.bytes.now 0 c.loop-at.pieces.items c.loop-at.at c.loop-at.invariant.pieces

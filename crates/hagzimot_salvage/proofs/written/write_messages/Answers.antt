@@ -1,4 +1,4 @@
-use Rattle.std.proofs.Common.{◌+◌, ◌++◌, List, Ok, length, get_or, take, drop, ap, arith}
+use Rattle.std.proofs.Common.{◌+◌, ◌++◌, Ok, get_or, take, drop, ap, arith}
 use Rattle.std.proofs.lemmas.Result.{err_from_is_err_and}
 use Rattle.capnp_model.proofs.lemmas.Lists.{take-all}
 use Rattle.capnp_stream_io.specs.Writes.{sink_seen}
