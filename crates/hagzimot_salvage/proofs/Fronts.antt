@@ -10,7 +10,7 @@ use Rattle.capnp_model.specs.Messages.{frame_at, message_at}
 use Rattle.capnp_model.specs.Spelling.{Frames}
 use Rattle.hagzimot_salvage.specs.declared.roots.SalvageLimits.{SalvageLimits}
 use Rattle.hagzimot_salvage.specs.Roots.{has_root}
-use Rattle.hagzimot_salvage.specs.Frames.{has_zero_padding, behind_frame}
+use Rattle.hagzimot_salvage.specs.Frames.{has_zero_padding, words_of_front, behind_frame}
 
 -- A message has a byte.
 some_byte : (limit : Option ℕ) (x : List ℕ) (s : Segments) → Frames limit x s → 0 < length x
@@ -29,7 +29,7 @@ pub shorter : (limit : Option ℕ) (b x rest : List ℕ) (s : Segments) → b �
 shorter limit b x rest s e h = omega (arith, ap length e, length-append x rest, some_byte limit x s h)
 
 -- A message with a root, and what is behind it.
-pub found_behind : (l : SalvageLimits) (b rest : List ℕ) (s : Segments) → frame_at (Some l.message_words) b ≡ Ok (s, rest) → has_zero_padding (length s) b ≡ true → has_root l s ≡ true → behind_frame l b ≡ Some rest
+pub found_behind : (l : SalvageLimits) (b rest : List ℕ) (s : Segments) → frame_at (Some l.message_words) b ≡ Ok (s, rest) → has_zero_padding (length s) b ≡ true → has_root l (words_of_front b rest) s ≡ true → behind_frame l b ≡ Some rest
 found_behind l b rest s framed padded rooted =
-    ap (λ (r : Result (Segments × List ℕ) Kind). result_ok r >>= λ m. m.1 provided (has_zero_padding (length m.0) b && has_root l m.0)) framed
-    ∙ ap (λ (t : Bool). rest provided (t && has_root l s)) padded ∙ ap (λ (t : Bool). rest provided t) rooted
+    ap (λ (r : Result (Segments × List ℕ) Kind). result_ok r >>= λ m. m.1 provided (has_zero_padding (length m.0) b && has_root l (words_of_front b m.1) m.0)) framed
+    ∙ ap (λ (t : Bool). rest provided (t && has_root l (words_of_front b rest) s)) padded ∙ ap (λ (t : Bool). rest provided t) rooted

@@ -1,5 +1,5 @@
 -- Messages in bytes that may be anything. (Encoding, "Serialization Over a Stream")
-use Rattle.std.specs.Prelude.{◌≡◌, ℕ, ◌*◌, ◌/◌, ◌%◌, ◌^◌, ◌<◌, ◌==◌, Bool, true, false, ◌&&◌, ◌||◌, Option, Some, None, is_some, List, length, drop, slice_get}
+use Rattle.std.specs.Prelude.{◌≡◌, ℕ, ◌-◌, ◌*◌, ◌/◌, ◌%◌, ◌^◌, ◌<◌, ◌==◌, Bool, true, false, ◌&&◌, ◌||◌, Option, Some, None, is_some, List, length, drop, slice_get}
 use Rattle.std.specs.Result.{result_ok}
 use Rattle.capnp_model.specs.Chains.{◌>>=◌, ◌provided◌, passes}
 use Rattle.capnp_model.specs.Messages.{frame_at}
@@ -11,9 +11,14 @@ use Rattle.hagzimot_salvage.specs.Roots.{has_root}
 abbrev pub has_zero_padding : ℕ → List ℕ → Bool
 has_zero_padding n bytes = (n % 2 == 1) || passes (λ w. w / 2 ^ 32 == 0) (slice_get (whole_words bytes) (n / 2))
 
+-- How many words the front of bytes has, of which the others are left.
+abbrev pub words_of_front : List ℕ → List ℕ → ℕ
+words_of_front bytes rest = (length bytes - length rest) / 8
+
 -- The bytes behind the message at the front of bytes, if its padding is zero and it has a root.
 abbrev pub behind_frame : SalvageLimits → List ℕ → Option (List ℕ)
-behind_frame l bytes = result_ok (frame_at (Some l.message_words) bytes) >>= λ m. m.1 provided (has_zero_padding (length m.0) bytes && has_root l m.0)
+behind_frame l bytes =
+    result_ok (frame_at (Some l.message_words) bytes) >>= λ m. m.1 provided (has_zero_padding (length m.0) bytes && has_root l (words_of_front bytes m.1) m.0)
 
 -- Bytes begin with a message that has a root, and nothing or another such message follows it.
 unfoldable pub is_plausible : SalvageLimits → List ℕ → Bool

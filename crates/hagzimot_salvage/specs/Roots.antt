@@ -1,5 +1,5 @@
 -- Roots of messages whose bytes may be anything. (Encoding, "Messages")
-use Rattle.std.specs.Prelude.{ℕ, ◌-◌, nat_le, Bool, true, false, not, ◌&&◌, ◌||◌, List, [], ◌∷◌, Ok, Err}
+use Rattle.std.specs.Prelude.{ℕ, ◌-◌, ◌/◌, nat_le, Bool, true, false, not, ◌&&◌, ◌||◌, List, [], ◌∷◌, Ok, Err}
 use Rattle.std.specs.Result.{result_ok}
 use Rattle.capnp_model.specs.Chains.{passes}
 use Rattle.capnp_model.specs.Segments.{Segments, root}
@@ -20,12 +20,16 @@ abbrev pub is_limit : ErrorKind → Bool
 is_limit ReadLimitExceeded = true
 is_limit _ = false
 
--- No fault is met among the first visits that cost at most n words together.
-abbrev pub is_clear : ℕ → List Visit → Bool
-is_clear left [] = true
-is_clear left (Err kind ∷ vs) = false
-is_clear left (Ok words ∷ vs) = not (nat_le words left) || is_clear (left - words) vs
+-- Visits are followed until they cost more than `left` words. No fault is met, and those that end before cost at least `least` words.
+abbrev pub is_clear : ℕ → ℕ → List Visit → Bool
+is_clear left least [] = nat_le least 0
+is_clear left least (Err kind ∷ vs) = false
+is_clear left least (Ok words ∷ vs) = not (nat_le words left) || is_clear (left - words) (least - words) vs
 
--- The root is null or a struct, and no fault is met in the first words of its value.
-unfoldable pub has_root : SalvageLimits → Segments → Bool
-has_root l s = passes (λ f. is_root f.object) (result_ok (found_at s root)) && is_clear l.root_words (visits l.nesting s root)
+-- Half of a message's words, without the first of its table and the root pointer.
+abbrev pub half_of : ℕ → ℕ
+half_of words = (words - 2) / 2
+
+-- The root of a message of n words, its table among them, is null or a struct. No fault is met in the first words of its value, which takes half of the message or more.
+unfoldable pub has_root : SalvageLimits → ℕ → Segments → Bool
+has_root l words s = passes (λ f. is_root f.object) (result_ok (found_at s root)) && is_clear l.root_words (half_of words) (visits l.nesting s root)

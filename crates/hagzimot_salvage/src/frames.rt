@@ -62,7 +62,8 @@ fn behind_frame(alloc: Global, bytes: &[u8], limits: SalvageLimits) -> Result<Op
         return Ok(None);
     }
     let segments = message.to_slice_segments(alloc)?;
-    if !has_root(segments, limits) {
+    let words = bytes.len().saturating_sub(rest.len()) / 8;
+    if !has_root(segments, words, limits) {
         return Ok(None);
     }
     Ok(Some(rest))
@@ -71,8 +72,9 @@ fn behind_frame(alloc: Global, bytes: &[u8], limits: SalvageLimits) -> Result<Op
 /// Returns whether the bytes begin with a message that has a root, and nothing or another such
 /// message follows it. (Encoding, "Serialization Over a Stream")
 ///
-/// It takes at most `2 * (511 + root_words)` steps, whatever the bytes say. `OutOfMemory`: the
-/// memory for the places of a message's segments was refused, 16 bytes each.
+/// It takes a step for each pointer that it follows, at most `2 * root_words + 2`, and two for each
+/// segment of two messages, at most 2044. `OutOfMemory`: the memory for the places of a message's
+/// segments was refused, 16 bytes each.
 #[tactic(auto, unfolding(crate::specs::Frames::is_plausible))]
 pub fn is_plausible(alloc: Global, bytes: &[u8], limits: SalvageLimits) -> Result<bool>
     ensures answer { IfOk result (λ b. b ≡ is_plausible limits bytes.now) }

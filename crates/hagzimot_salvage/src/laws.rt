@@ -1,5 +1,4 @@
-//! What the pieces of a stream say of it as a whole, each the contract of a function that does
-//! nothing.
+//! Laws of the pieces of a stream, each the contract of a function that does nothing.
 ghost use Rattle.std.specs.Prelude.{◌≡◌, ℕ, Some, List, [], length};
 ghost use Rattle.std.specs.List.{flat_map};
 ghost use Rattle.capnp_model.specs.Segments.{Segments};
