@@ -9,7 +9,7 @@ use crate::options::{Options, Taken};
 use crate::picking_words::{edited, filter, hash, with_picks};
 use crate::proof_statement::VERSION;
 use crate::schema_commands::{check, compatible, compile, id, schema_file};
-use crate::{diffs, makes, redacts};
+use crate::{diffs, makes, redacts, salvage};
 use clap::{Arg, ArgAction, Command};
 use std::alloc::{AllocError, Global};
 
@@ -301,6 +301,7 @@ fn subcommand<'a>(
         "hash" => hash(alloc, taken)?,
         "slice" => slice(alloc, taken)?,
         "split" => split(alloc, taken)?,
+        "salvage" => salvage::options(alloc, taken)?,
         "compile" => compile(alloc, taken)?,
         "id" => id(alloc, taken)?,
         "version" => version(alloc, taken)?,
@@ -310,7 +311,7 @@ fn subcommand<'a>(
 }
 
 /// The names of the subcommands.
-static SUBCOMMANDS: [&str; 18] = [
+static SUBCOMMANDS: [&str; 19] = [
     "show",
     "filter",
     "relay",
@@ -326,6 +327,7 @@ static SUBCOMMANDS: [&str; 18] = [
     "hash",
     "slice",
     "split",
+    "salvage",
     "compile",
     "id",
     "version",

@@ -38,6 +38,7 @@ mod relay_task;
 mod relay_words;
 mod reports;
 mod run_log;
+mod salvage;
 mod schema_commands;
 mod schema_sources;
 mod shows;
@@ -65,6 +66,7 @@ fn run_subcommand(rt: &HostRuntime, matches: &ArgMatches<'_>) -> Result<u8, Fail
         Some(("count", words)) => pieces::count(rt, words),
         Some(("slice", words)) => pieces::slice(rt, words),
         Some(("split", words)) => split::split(rt, words),
+        Some(("salvage", words)) => salvage::salvage(rt, words),
         Some(("diff", words)) => diffs::diff(rt, words),
         Some(("make", words)) => makes::make(rt, words),
         Some(("redact", words)) => passes::redact(rt, words),

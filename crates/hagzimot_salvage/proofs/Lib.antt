@@ -1,0 +1,6 @@
+mod Refusals
+mod Clear
+mod Fronts
+mod Adjacent
+mod Writing
+mod Whole

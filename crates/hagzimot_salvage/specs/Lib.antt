@@ -1,0 +1,3 @@
+pub mod Roots
+pub mod Frames
+pub mod Pieces
