@@ -7,7 +7,7 @@ use Rattle.capnp_source_nodes.specs.declared.nodes.NodeBody.{NodeBody}
 use Rattle.capnp_source_nodes.specs.declared.nodes.NodeBody.TheVariants as B
 use Rattle.capnp_source_nodes.specs.declared.nodes.Request.{Request}
 use Rattle.capnp_source_nodes.specs.declared.nodes.RequestedFile.{RequestedFile}
-use Rattle.capnp_source_compile.specs.Declarations.{declared_by_asked}
+use Rattle.capnp_source_compile.specs.Declarations.{NodeKey, declared_by_asked}
 
 -- The id and the name of a file, as a request lists them.
 abbrev pub listed : RequestedFile → Option ℕ × List ℕ
@@ -29,9 +29,8 @@ kind_of_node (B.Interface i) = Kind.Interface
 kind_of_node (B.Constant ty value) = Kind.Constant
 kind_of_node (B.Annotation ty targets) = Kind.Annotation
 
--- The id and the kind of a node.
-abbrev pub node_key : Node → ℕ × Kind
-node_key n = (n.id, kind_of_node n.body)
+abbrev pub node_key : Node → NodeKey
+node_key n = (n.id, (kind_of_node n.body, n.scope))
 
 -- A request lists the files that are asked for. Each of them, and all that it declares, is a node. No two nodes have
 -- the same id.

@@ -1,4 +1,4 @@
-//! What files declare, and whether it is among nodes.
+//! Checks of nodes against what files declare.
 
 ghost use Rattle.std.specs.Prelude.{◌≡◌, Some, nat_eq, map, All, IfOk, IsTrue, string_bytes};
 ghost use Rattle.std.specs.HashMap.{get, IsFromIterResult};
@@ -56,29 +56,32 @@ fn id_in(scope: u64, id: &Option<Number>, name: &str) -> u64
     }
 }
 
-/// Returns the kinds of nodes, by their ids.
-pub(crate) fn kinds_of(alloc: Global, nodes: &[Node]) -> Result<HashMap<u64, Kind>, AllocError>
+/// Returns the kinds of nodes and the ids of their scopes, by their ids.
+pub(crate) fn kinds_of(
+    alloc: Global,
+    nodes: &[Node],
+) -> Result<HashMap<u64, (Kind, u64)>, AllocError>
     ensures { IfOk result (IsFromIterResult nat_eq (map node_key nodes.now)) }
 {
     nodes
         .iter()
-        .map(|node| (node.id, kind_of_node(&node.body)))
+        .map(|node| (node.id, (kind_of_node(&node.body), node.scope)))
         .collect(alloc)
 }
 
-/// Whether there is a node of a kind with an id.
-fn has(nodes: &HashMap<u64, Kind>, id: u64, kind: Kind) -> bool
-    ensures { IsTrue result → get nat_eq nodes.now id ≡ Some kind }
+/// Whether there is a node of a kind with an id in a scope.
+fn has(nodes: &HashMap<u64, (Kind, u64)>, id: u64, kind: Kind, scope: u64) -> bool
+    ensures { IsTrue result → get nat_eq nodes.now id ≡ Some (kind, scope) }
 {
     match nodes.get(&id) {
-        Some(found) => *found == kind,
+        Some((found, around)) => *found == kind && *around == scope,
         None => false,
     }
 }
 
 /// Whether a declaration in a scope, and what is declared in it, are among nodes.
 #[cycle(declarations)]
-fn is_there(declaration: &Declaration, nodes: &HashMap<u64, Kind>, scope: u64) -> bool
+fn is_there(declaration: &Declaration, nodes: &HashMap<u64, (Kind, u64)>, scope: u64) -> bool
     ensures { IsTrue result → All (λ d. get nat_eq nodes.now d.0 ≡ Some d.1) (declared_in declaration.now scope) }
 {
     let Some(kind) = kind_of(&declaration.body) else {
@@ -88,12 +91,12 @@ fn is_there(declaration: &Declaration, nodes: &HashMap<u64, Kind>, scope: u64) -
         return true;
     };
     let id = id_in(scope, &declaration.id, name.text.as_str());
-    has(nodes, id, kind) && are_there(&declaration.members, nodes, id)
+    has(nodes, id, kind, scope) && are_there(&declaration.members, nodes, id)
 }
 
 /// Whether declarations in a scope, and what is declared in them, are among nodes.
 #[cycle(declarations)]
-fn are_there(declarations: &[Declaration], nodes: &HashMap<u64, Kind>, scope: u64) -> bool
+fn are_there(declarations: &[Declaration], nodes: &HashMap<u64, (Kind, u64)>, scope: u64) -> bool
     ensures { IsTrue result → All (λ d. get nat_eq nodes.now d.0 ≡ Some d.1) (declared_in_all scope declarations.now) }
 {
     for declaration in declarations {
@@ -105,18 +108,18 @@ fn are_there(declarations: &[Declaration], nodes: &HashMap<u64, Kind>, scope: u6
 }
 
 /// Whether a file and what it declares are among nodes.
-fn is_file_there(file: &Loaded, nodes: &HashMap<u64, Kind>) -> bool
+fn is_file_there(file: &Loaded, nodes: &HashMap<u64, (Kind, u64)>) -> bool
     ensures { IsTrue result → All (λ d. get nat_eq nodes.now d.0 ≡ Some d.1) (declared_by file.now) }
 {
     let Some(number) = &file.file.id else {
         return true;
     };
     let id = number.value;
-    has(nodes, id, Kind::File) && are_there(&file.file.declarations, nodes, id)
+    has(nodes, id, Kind::File, 0) && are_there(&file.file.declarations, nodes, id)
 }
 
 /// Whether the files that are asked for, and what they declare, are among nodes.
-pub(crate) fn are_files_there(files: &[Loaded], nodes: &HashMap<u64, Kind>) -> bool
+pub(crate) fn are_files_there(files: &[Loaded], nodes: &HashMap<u64, (Kind, u64)>) -> bool
     ensures { IsTrue result → All (λ d. get nat_eq nodes.now d.0 ≡ Some d.1) (declared_by_asked files.now) }
 {
     let mut left = files;

@@ -16,7 +16,7 @@ is_there-returns-then-has t c is =
     let kind = c.in-Some.kind in
     let name = c.in-Some-name.name in
     let id : c.id_in-id.result ≡ id_in scope o.id (string_bytes name.text) = c.id_in-id.ensures ∙ ap (id_in scope o.id) c.as_str.ensures.value in
-    let here = subst (λ (n : ℕ). get nat_eq nodes n ≡ Some kind) id (c.has.ensures c.if-has.true) in
+    let here = subst (λ (n : ℕ). get nat_eq nodes n ≡ Some (kind, scope)) id (c.has.ensures c.if-has.true) in
     let inner = subst (λ (ds : List Declaration). All (λ d. get nat_eq nodes d.0 ≡ Some d.1) (declared_in_all c.id_in-id.result ds)) c.deref.ensures.value (c.are_there.ensures is) in
     declared_some (λ d. get nat_eq nodes d.0 ≡ Some d.1) c.args.declaration.now scope kind name (sym c.kind_of.ensures ∙ c.in-Some.is) c.in-Some-name.is here
     (subst (λ (n : ℕ). All (λ d. get nat_eq nodes d.0 ≡ Some d.1) (declared_in_all n o.members.items)) id inner)

@@ -14,4 +14,4 @@ returns-then-has c is =
     let id = c.in-Some.number.value in
     let inner = subst (λ (ds : List Declaration). All (λ d. get nat_eq c.args.nodes.now d.0 ≡ Some d.1) (declared_in_all id ds)) c.deref.ensures.value (c.are_there.ensures is) in
     subst (λ (o : Option Number). All (λ d. get nat_eq c.args.nodes.now d.0 ≡ Some d.1) (declared_under o file.declarations.items)) (sym c.in-Some.is)
-    (All-cons (λ d. get nat_eq c.args.nodes.now d.0 ≡ Some d.1) (id, Kind.File) (declared_in_all id file.declarations.items) (c.has.ensures c.if-has.true) inner)
+    (All-cons (λ d. get nat_eq c.args.nodes.now d.0 ≡ Some d.1) (id, (Kind.File, 0)) (declared_in_all id file.declarations.items) (c.has.ensures c.if-has.true) inner)
