@@ -82,11 +82,10 @@ class Writer:
         return f"{front}{self.count}"
 
     def type(self, parameters=(), depth=0):
-        """A type, and what a value of it needs to know."""
+        """A type, by its name here."""
         pick = self.chance.random()
         if pick < 0.5 or depth > 2:
-            name = self.chance.choice(PLAIN)
-            return name
+            return self.chance.choice(PLAIN)
         if pick < 0.62 and self.enums:
             return self.chance.choice(list(self.enums))
         if pick < 0.74 and self.structs:
@@ -134,8 +133,8 @@ class Writer:
         if name in INTEGERS:
             return self.number(name)
         if name.startswith("List("):
-            # The C++ compiler ends with an exception at a value that is a list of capabilities.
-            if name.strip("List()") in ("Capability", *self.interfaces):
+            # The C++ compiler ends with an exception at a list of any capabilities.
+            if "(Capability)" in name:
                 return None
             items = [self.value(name[5:-1], depth + 1) for _ in range(chance.randrange(4))]
             return None if None in items or depth > 3 else "[" + ", ".join(items) + "]"
@@ -212,14 +211,14 @@ class Writer:
             self.constants[f".{name}"] = of, value
         return text
 
-    def an_annotation(self, _):
+    def an_annotation(self, depth):
         while True:
             name, of = self.new("a"), self.type()
             if self.value(of) is not None:
                 break
         targets = TARGETS if self.chance.random() < 0.3 else tuple(self.chance.sample(TARGETS, self.chance.randrange(1, 5)))
         text = f"annotation {name}({'*' if targets == TARGETS else ', '.join(targets)}) :{of}{self.applied('annotation')};"
-        if not _:
+        if depth == 0:
             self.annotations[name] = of, targets
         return text
 

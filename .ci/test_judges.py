@@ -7,6 +7,7 @@ Bytes are worked by hand from the encoding, or are the examples of its document 
 """
 import json
 import os
+import random
 import stat
 import struct
 import subprocess
@@ -23,6 +24,7 @@ import plain_judge
 import program_runs
 import quick
 import random_sets
+import source_texts
 import stored_runs
 import style
 import tool_peers
@@ -40,6 +42,24 @@ def request_of_node(number, scope, gap=0):
     tag = 1 << 2 | 5 << 32 | 6 << 48
     words = [root, nodes, 0, 0, 0, *[0] * gap, tag, number, 0, scope, 0, 0, *[0] * 6]
     return struct.pack(f"<II{len(words)}Q", 0, len(words), *words)
+
+
+class Sources(unittest.TestCase):
+    """Random sources and mutations."""
+
+    def test_a_seed_gives_one_set_of_files(self):
+        self.assertEqual(source_texts.schema(3), source_texts.schema(3))
+        self.assertNotEqual(source_texts.schema(3), source_texts.schema(4))
+
+    def test_sources_have_every_construct(self):
+        text = "".join(it for seed in range(60) for it in source_texts.schema(seed).values())
+        for word in ("struct", "union", "group", "enum", "const", "annotation", "interface", "extends", "stream", "using", "import", "List(", "AnyPointer", "= (", "= [", "$a"):
+            self.assertIn(word, text)
+
+    def test_mutations_change_a_text(self):
+        chance, text = random.Random(1), b"struct A { a @0 :UInt8; }"
+        others = {source_texts.mutated(chance, text, [text]) for _ in range(50)}
+        self.assertGreater(len(others - {text}), 30)
 
 
 class Requests(unittest.TestCase):
