@@ -23,7 +23,6 @@ mod makes;
 mod message_notes;
 mod options;
 mod outputs;
-mod part_names;
 mod passes;
 mod picking_words;
 mod picks;

@@ -3,7 +3,6 @@
 use crate::faults::Failure;
 use crate::files::{Input, OutFile, OutSink, open_source};
 use crate::outputs::open_new;
-use crate::part_names::PartNames;
 use crate::tape::Tape;
 use crate::words;
 use capnp_relay_loop::ends::Fault;
@@ -15,6 +14,7 @@ use capnp_stream_io::adapters::Source;
 use capnp_stream_io::traits::BufRead;
 use capnp_stream_packed::form::Packed;
 use clap::ArgMatches;
+use hagzimot_pieces::part_names::PartNames;
 use hagzimot_pieces::runs::{CopyFault, copy_messages};
 use std::alloc::Global;
 use std::rc::Rc;

@@ -1,8 +1,8 @@
 //! Names that a printed value can't be told apart from.
-ghost use Rattle.std.specs.Prelude.{◌≡◌};
-ghost use Rattle.hagzimot_commands.specs.Names.{is_mark, is_marked};
+ghost use Rattle.std.specs.Prelude.{◌≡◌, option_copied, option_map};
+ghost use Rattle.hagzimot_commands.specs.Names.{is_mark, is_marked, marked_field, marked_enumerant, marked_name, first_marked, member_view};
 
-use capnp_records::node::NodeRecord;
+use capnp_records::node::{EnumerantRecord, FieldRecord, NodeRecord};
 use hagzimot_schemas::nodes::{enumerants_of, fields_of};
 
 /// Whether a byte of a name can be taken for a mark of a printed value or for the end of a line.
@@ -24,18 +24,30 @@ fn is_marked(name: &str) -> bool
     name.as_bytes().iter().any(|byte| is_mark(*byte))
 }
 
-/// Returns the first name of a field or an enumerant of a node that has such a byte.
-fn marked_name(node: &NodeRecord) -> Option<&str> {
-    let field = fields_of(node)
+/// Returns the first field whose name has such a byte.
+fn marked_field(fields: &[FieldRecord]) -> Option<&FieldRecord>
+    ensures { option_copied result ≡ marked_field fields.now }
+{
+    fields.iter().find(|field| is_marked(field.name.as_str()))
+}
+
+/// Returns the first enumerant whose name has such a byte.
+fn marked_enumerant(enumerants: &[EnumerantRecord]) -> Option<&EnumerantRecord>
+    ensures { option_copied result ≡ marked_enumerant enumerants.now }
+{
+    enumerants
         .iter()
-        .find(|field| is_marked(field.name.as_str()));
-    if let Some(field) = field {
+        .find(|enumerant| is_marked(enumerant.name.as_str()))
+}
+
+/// Returns the first name of a field or an enumerant of a node that has such a byte.
+fn marked_name(node: &NodeRecord) -> Option<&str>
+    ensures { option_map (λ name. name.now) result ≡ marked_name node.now }
+{
+    if let Some(field) = marked_field(fields_of(node)) {
         return Some(field.name.as_str());
     }
-    let enumerant = enumerants_of(node)
-        .iter()
-        .find(|enumerant| is_marked(enumerant.name.as_str()));
-    match enumerant {
+    match marked_enumerant(enumerants_of(node)) {
         Some(enumerant) => Some(enumerant.name.as_str()),
         None => None,
     }
@@ -50,11 +62,15 @@ pub struct NamedMember<'a> {
 
 /// Returns the first field or enumerant whose name a printed value can't be told apart from: it has
 /// a blank, a control character or a mark of printed values. `None` exactly if no node has one.
-pub fn first_marked_name(nodes: &[NodeRecord]) -> Option<NamedMember<'_>> {
-    for node in nodes {
+pub fn first_marked_name(nodes: &[NodeRecord]) -> Option<NamedMember<'_>>
+    ensures { option_map member_view result ≡ first_marked nodes.now }
+{
+    let mut left = nodes;
+    while let [node, others @ ..] = left {
         if let Some(name) = marked_name(node) {
             return Some(NamedMember { node, name });
         }
+        left = others;
     }
     None
 }

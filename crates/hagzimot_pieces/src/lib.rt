@@ -2,4 +2,5 @@
 #![tactic(auto)]
 
 pub mod nowhere;
+pub mod part_names;
 pub mod runs;

@@ -1,4 +1,6 @@
 //! Why a message isn't shown or edited, in words.
+ghost use Rattle.std.specs.Prelude.{◌≡◌, IfOk, string_bytes};
+ghost use Rattle.hagzimot_show.specs.Explained.{message_text};
 
 use crate::names::name_steps;
 use crate::paths::{name_text, path_text};
@@ -114,7 +116,9 @@ pub fn message_line(
     origin: MessageOrigin<'_>,
     what: &str,
     why: &str,
-) -> Result<String, AllocError> {
+) -> Result<String, AllocError>
+    ensures { IfOk result (λ line. string_bytes line ≡ message_text origin.entry what.now why.now) }
+{
     let MessageOrigin { file, number, byte } = origin;
     format!(in alloc; "{file}: message {number} (byte {byte}) {what}: {why}")
 }
