@@ -49,7 +49,7 @@ enum {
   HAGZIMOT_SIZE = 8,
   /* The answer is no: the message isn't canonical, or the schemas aren't compatible. */
   HAGZIMOT_NO = 9,
-  /* A flag is unknown, or the root's name is no UTF-8. */
+  /* A flag is unknown, or the root's name is not UTF-8. */
   HAGZIMOT_FORM = 10,
   /* A pointer is NULL where it must not be, or memory that is written overlaps other memory of the call. */
   HAGZIMOT_POINTER = 11
@@ -101,7 +101,8 @@ hagzimot_status hagzimot_show(hagzimot *handle, const uint8_t *in, size_t in_len
 
 /* Writes the canonical form of the framed message at the front of `in`, framed, as words of 8 bytes. The message has at most
  * `words` words, following its pointers costs no more, and it has at most `levels` levels of them. No memory is taken.
- * OK: `*words_len` words are written. ROOM: `out_words` are too few; `words` and two suffice. Else FRAMING, VALUE or POINTER. */
+ * OK: `*words_len` words are written. ROOM: `out_words` are too few; `words` and two suffice. Else FRAMING, VALUE or POINTER. After
+ * ROOM and VALUE some words of `out` may be written, and `*words_len` is 0. */
 hagzimot_status hagzimot_canonical(const uint8_t *in, size_t in_len, uint32_t words, uint32_t levels, uint8_t (*out)[8],
                                    size_t out_words, size_t *words_len);
 

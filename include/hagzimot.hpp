@@ -50,7 +50,7 @@ inline const char *text_of(hagzimot_status status) noexcept {
   case HAGZIMOT_VALUE: return "message: it has no value within the limits";
   case HAGZIMOT_SIZE: return "message: it is too large";
   case HAGZIMOT_NO: return "no";
-  case HAGZIMOT_FORM: return "arguments: a flag is unknown, or the root is no UTF-8";
+  case HAGZIMOT_FORM: return "arguments: a flag is unknown, or the root is not UTF-8";
   case HAGZIMOT_POINTER: return "arguments: a pointer is NULL, or memory overlaps";
   default: return "unknown status";
   }

@@ -1,1 +1,4 @@
+mod Ended
 mod Fronts
+mod Texts
+mod Versions

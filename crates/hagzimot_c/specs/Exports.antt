@@ -1,8 +1,10 @@
 -- What exports do to what a handle holds, and to lent memory.
-use Rattle.std.specs.Prelude.{◌≡◌, ℕ, List, [], ◌∷◌, Option, Some, None, length, take, Ok}
+use Rattle.std.specs.Prelude.{◌≡◌, ◌≤◌, ◌==◌, ◌/◌, ◌%◌, ℕ, Bool, true, false, List, [], ◌∷◌, Option, Some, None, IsSomeAnd, length, take, Ok}
 use Rattle.capnp_model.specs.Runs.{End}
 use Rattle.capnp_values_queries.specs.declared.structs.StructSchema.{StructSchema}
 use Rattle.capnp_relay_show.specs.Answers.{shown_by}
+use Rattle.capnp_relay_streams.specs.declared.options.Form.{Form}
+use Rattle.capnp_relay_streams.specs.declared.options.Form.TheVariants.{Framed, Packed}
 use Rattle.hagzimot_in_process.specs.declared.frames.Limits.{Limits}
 use Rattle.hagzimot_in_process.specs.declared.kinds.Kind.{Kind}
 use Rattle.hagzimot_in_process.specs.declared.kinds.Kind.TheVariants as kinds
@@ -17,18 +19,23 @@ abbrev pub word_of : List ℕ → Option (List ℕ)
 word_of [] = None
 word_of (b ∷ bytes) = Some (b ∷ bytes)
 
--- Bytes are copied to the front of lent memory, and this is their number.
-pub record IsCopied (bytes lent : List ℕ) (len : ℕ) : Type 0 where
-  pub len_is : len ≡ length bytes
-  pub bytes_are : take (length bytes) lent ≡ bytes
+-- The form of messages that are packed, or aren't.
+abbrev pub form_if : Bool → Form
+form_if true = Packed
+form_if false = Framed
+
+-- The forms that flags name, whose bits are 1 for packed input, 2 for packed output, and 4 for messages as they are built.
+abbrev pub forms_in : ℕ → Forms
+forms_in flags = record { input = form_if (flags % 2 == 1); output = form_if (flags / 2 % 2 == 1); is_plain = flags / 4 % 2 == 1 }
 
 -- The relay of these files.
 abbrev pub IsOpenedKind : List ℕ → Option (List ℕ) → List ℕ → Forms → Kind → Type 0
 IsOpenedKind schema word calls forms (kinds.Relay r) = IsOpened schema word calls forms r
 
--- The same in some forms.
-abbrev pub IsOf : List ℕ → List ℕ → List ℕ → Kind → Type 0
-IsOf schema word calls kind = (forms : Forms) × IsOpenedKind schema (word_of word) calls forms kind
+-- A call reported the length of bytes, which are at the front of lent memory if they fit.
+pub record IsLent (bytes lent : List ℕ) (len : ℕ) : Type 0 where
+  pub len_is : len ≡ length bytes
+  pub front : length bytes ≤ length lent → take (length bytes) lent ≡ bytes
 
 -- Lent memory, after a call: the output and the log, each with the length that is reported.
 pub record Lent : Type 0 where
@@ -41,24 +48,38 @@ pub record Lent : Type 0 where
 abbrev pub lent : List ℕ → ℕ → List ℕ → ℕ → Lent
 lent out out_len log log_len = record { out = out; out_len = out_len; log = log; log_len = log_len }
 
--- A relay ran over bytes to an end, and its output and log are copied. It answers later bytes under the same schema, calls and limits.
-pub record Relays (bytes : List ℕ) (end : End) (l : Lent) (old new : Relay) : Type 0 where
-  pub alike : AreAlike old new
-  pub ran : Ran old bytes end new
-  pub out : IsCopied new.out.items l.out l.out_len
-  pub log : IsCopied new.log.items l.log l.log_len
+-- The output and the log fit.
+abbrev pub Fits : Lent → Type 0
+Fits l = (l.out_len ≤ length l.out) × (l.log_len ≤ length l.log)
+
+-- Lent memory has the output and the log of a relay.
+pub record HasResults (r : Relay) (l : Lent) : Type 0 where
+  pub out : IsLent r.out.items l.out l.out_len
+  pub log : IsLent r.log.items l.log l.log_len
 
 -- The same of what a handle holds.
-abbrev pub RunsInto : List ℕ → End → Lent → Kind → Kind → Type 0
-RunsInto bytes end l (kinds.Relay old) (kinds.Relay new) = Relays bytes end l old new
+abbrev pub HasResultsOf : Lent → Kind → Type 0
+HasResultsOf l (kinds.Relay r) = HasResults r l
 
--- The text of the record of the message at the front of bytes is copied, under the schema and the limits of a relay.
+-- Two values are opened alike: relays have the same schema, calls and limits.
+abbrev pub AreKindsAlike : Kind → Kind → Type 0
+AreKindsAlike (kinds.Relay old) (kinds.Relay new) = AreAlike old new
+
+-- A relay ran over bytes to an end.
+abbrev pub RanKind : List ℕ → End → Kind → Kind → Type 0
+RanKind bytes end (kinds.Relay old) (kinds.Relay new) = Ran old bytes end new
+
+-- What a handle holds ran over bytes to an end, and lent memory has the results.
+abbrev pub RunsInto : List ℕ → End → Lent → Option Kind → Option Kind → Type 0
+RunsInto bytes end l old new = IsSomeAnd old (λ k. IsSomeAnd new (λ m. RanKind bytes end k m × HasResultsOf l m))
+
+-- The text of the record of the message at the front of bytes is lent, under the schema and the limits of a relay.
 pub record Shows (bytes out : List ℕ) (len : ℕ) (r : Relay) : Type 0 where
   pub root : StructSchema
   pub is_root : IsRootIn r root
   pub text : List ℕ
   pub shown : shown_by root r.limits bytes ≡ Ok text
-  pub copied : IsCopied text out len
+  pub copied : IsLent text out len
 
 -- The same of what a handle holds.
 abbrev pub ShowsInto : List ℕ → List ℕ → ℕ → Kind → Type 0

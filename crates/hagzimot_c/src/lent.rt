@@ -1,6 +1,6 @@
 //! Results in lent memory.
-ghost use Rattle.std.specs.Prelude.{◌≡◌, ◌≤◌, ◌⊎◌, ◌++◌, true, length, drop};
-ghost use Rattle.hagzimot_c.specs.Exports.{IsCopied};
+ghost use Rattle.std.specs.Prelude.{◌≡◌, ◌≤◌, ◌<◌, ◌⊎◌, ◌++◌, true, false, length, drop};
+ghost use Rattle.hagzimot_c.specs.Exports.{IsLent, HasResults, Fits, lent};
 
 use crate::statuses::MEMORY;
 use hagzimot_in_process::relay::Relay;
@@ -17,9 +17,11 @@ fn copy_front(bytes: &[u8], out: &mut [u8])
 
 /// Copies the bytes to the front of a slice if they fit, and says how many there are. Returns
 /// whether they fit.
-#[tactic(auto, using(crate::proofs::Fronts::copied_front))]
+#[tactic(auto, using(crate::proofs::Fronts::lent_front, crate::proofs::Fronts::too_long))]
 pub(crate) fn copy_out(bytes: &[u8], out: &mut [u8], len: &mut usize) -> bool
-    ensures { result ≡ true → IsCopied bytes.now out.new len.new }
+    ensures lent { IsLent bytes.now out.new len.new }
+    ensures fits { result ≡ true → len.new ≤ length out.new }
+    ensures long { result ≡ false → length out.new < len.new }
 {
     *len = bytes.len();
     if out.len() < bytes.len() {
@@ -38,8 +40,9 @@ pub(crate) fn copy_results(
     log: &mut [u8],
     log_len: &mut usize,
 ) -> bool
-    ensures out { result ≡ true → IsCopied relay.now.out.items out.new out_len.new }
-    ensures log { result ≡ true → IsCopied relay.now.log.items log.new log_len.new }
+    ensures lent { HasResults relay.now (lent out.new out_len.new log.new log_len.new) }
+    ensures fits { result ≡ true → Fits (lent out.new out_len.new log.new log_len.new) }
+    ensures long { result ≡ false → Fits (lent out.new out_len.new log.new log_len.new) → ⊥ }
 {
     let fits = copy_out(relay.output(), out, out_len);
     let fits_log = copy_out(relay.log(), log, log_len);

@@ -2,14 +2,16 @@
 //! lent memory. `include/hagzimot.h` says how they are called.
 #![tactic(auto)]
 
-ghost use Rattle.std.specs.Prelude.{◌≡◌, ◌≢◌, true, None, IsSome, IsSomeAnd, OnOk, OnErr, option_copied};
+ghost use Rattle.std.specs.Prelude.{◌≡◌, ◌≢◌, ◌<◌, ◌≤◌, ◌⊎◌, true, length, None, IsSome, IfSome, IsSomeAnd, OnOk, OnErr, option_copied};
+ghost use Rattle.capnp_model.specs.Kinds.{Kind as Fault};
 ghost use Rattle.capnp_model.specs.Segments.{Segments};
 ghost use Rattle.capnp_model.specs.Canonical.{is_canonical_message};
-ghost use Rattle.capnp_model.specs.Runs.{finished};
+ghost use Rattle.capnp_model.specs.Runs.{finished, broken};
 ghost use Rattle.capnp_wire_canonical.specs.Writes.{filled};
-ghost use Rattle.hagzimot_in_process.specs.Frames.{BeginsWith, BeginsWithNone, IsCanonicalForm};
+ghost use Rattle.hagzimot_in_process.specs.Frames.{BeginsWith, BeginsWithNone, IsCanonicalForm, IsNotCanonical, IsBeyond, HasNoForm, HasNoRoom};
 ghost use Rattle.hagzimot_in_process.specs.declared.versions.Versions.{Versions as Pair};
-ghost use Rattle.hagzimot_c.specs.Exports.{IsOpenedKind, IsOf, RunsInto, ShowsInto, lent, AreFound, AreBroken, limits};
+ghost use Rattle.hagzimot_in_process.specs.Opened.{AreCompatible};
+ghost use Rattle.hagzimot_c.specs.Exports.{word_of, forms_in, IsOpenedKind, RunsInto, ShowsInto, HasResultsOf, AreKindsAlike, Fits, lent, AreFound, AreBroken, limits};
 
 mod kinds;
 mod lent;
@@ -35,7 +37,9 @@ const VERSION: u32 = 1;
 
 /// Returns the version of the interface.
 #[unsafe(no_mangle)]
-pub extern "C" fn hz_version() -> u32 {
+pub extern "C" fn hz_version() -> u32
+    ensures { result ≡ 1 }
+{
     VERSION
 }
 
@@ -74,10 +78,11 @@ pub extern "C" fn hz_open(
     text: &mut [u8],
     text_len: &mut usize,
 ) -> u32
-    ensures opened { result ≡ 0 →
-        IsSomeAnd handle.new.value (IsOf schema.now root.now calls.now) }
+    ensures opened { result ≡ 0 → IsSomeAnd handle.new.value
+        (IsOpenedKind schema.now (word_of root.now) calls.now (forms_in flags)) }
     ensures kept { result ≢ 0 → handle.new.value ≡ handle.old.value }
     ensures open { IsSome handle.old.value → result ≡ 3 }
+    ensures flags { 7 < flags → result ≢ 0 }
 {
     *text_len = 0;
     if let Some(kind) = handle.take(alloc) {
@@ -106,9 +111,14 @@ pub extern "C" fn hz_relay(
     log_len: &mut usize,
 ) -> u32
     ensures all { result ≡ 0 → let memory = lent out.new out_len.new log.new log_len.new in
-        IsSomeAnd handle.old.value (λ old.
-        IsSomeAnd handle.new.value (RunsInto input.now finished memory old)) }
-    ensures closed { handle.old.value ≡ None → result ≡ 2 }
+        RunsInto input.now finished memory handle.old.value handle.new.value × Fits memory }
+    ensures room { result ≡ 4 → let memory = lent out.new out_len.new log.new log_len.new in
+        RunsInto input.now finished memory handle.old.value handle.new.value }
+    ensures cut { result ≡ 6 → let memory = lent out.new out_len.new log.new log_len.new in
+        (why : Fault) × RunsInto input.now (broken why) memory handle.old.value handle.new.value }
+    ensures alike { IfSome handle.old.value
+        (λ old. IsSomeAnd handle.new.value (AreKindsAlike old)) }
+    ensures closed { handle.old.value ≡ None → (result ≡ 2) × (handle.new.value ≡ None) }
 {
     *out_len = 0;
     *log_len = 0;
@@ -129,7 +139,15 @@ pub extern "C" fn hz_take(
     out_len: &mut usize,
     log: &mut [u8],
     log_len: &mut usize,
-) -> u32 {
+) -> u32
+    ensures all { result ≡ 0 → Fits (lent out.new out_len.new log.new log_len.new) }
+    ensures room { result ≡ 4 → Fits (lent out.new out_len.new log.new log_len.new) → ⊥ }
+    ensures lent { IfSome handle.old.value
+        (HasResultsOf (lent out.new out_len.new log.new log_len.new)) }
+    ensures open { IsSome handle.old.value → (result ≡ 0) ⊎ (result ≡ 4) }
+    ensures kept { handle.new.value ≡ handle.old.value }
+    ensures closed { handle.old.value ≡ None → result ≡ 2 }
+{
     *out_len = 0;
     *log_len = 0;
     let Some(kind) = handle.take(alloc) else {
@@ -149,9 +167,13 @@ pub extern "C" fn hz_show(
     out: &mut [u8],
     out_len: &mut usize,
 ) -> u32
-    ensures text { result ≡ 0 →
+    ensures text { result ≡ 0 → (out_len.new ≤ length out.new)
+        × IsSomeAnd handle.old.value (ShowsInto input.now out.new out_len.new) }
+    ensures room { result ≡ 4 →
         IsSomeAnd handle.old.value (ShowsInto input.now out.new out_len.new) }
-    ensures closed { handle.old.value ≡ None → result ≡ 2 }
+    ensures alike { IfSome handle.old.value
+        (λ old. IsSomeAnd handle.new.value (AreKindsAlike old)) }
+    ensures closed { handle.old.value ≡ None → (result ≡ 2) × (handle.new.value ≡ None) }
 {
     *out_len = 0;
     let Some(mut kind) = handle.take(alloc) else {
@@ -184,6 +206,9 @@ pub extern "C" fn hz_canonical(
     ensures form { result ≡ 0 →
         IsCanonicalForm (limits words levels) input.now (filled out_words.new out.new) }
     ensures none { result ≡ 6 → BeginsWithNone words input.now }
+    ensures value { result ≡ 7 → HasNoForm (limits words levels) input.now }
+    ensures room { result ≡ 4 →
+        HasNoRoom (limits words levels) input.now (length out.old) }
 {
     *out_words = 0;
     match frames::canonical(input, Limits { words, levels }, out) {
@@ -200,12 +225,43 @@ pub extern "C" fn hz_canonical(
 pub extern "C" fn hz_is_canonical(input: &[u8], words: u32, levels: u32) -> u32
     ensures yes { result ≡ 0 → (s : Segments) × BeginsWith words input.now s
         × (is_canonical_message levels s ≡ true) }
+    ensures no { result ≡ 9 → IsNotCanonical (limits words levels) input.now }
     ensures none { result ≡ 6 → BeginsWithNone words input.now }
+    ensures value { result ≡ 7 → IsBeyond (limits words levels) input.now }
 {
     match frames::is_canonical(input, Limits { words, levels }) {
         Ok(true) => OK,
         Ok(false) => NO,
         Err(fault) => frame_status(fault),
+    }
+}
+
+/// Says why versions aren't compared, and returns the status.
+fn not_compared(
+    alloc: Global,
+    trouble: VersionsTrouble,
+    text: &mut [u8],
+    text_len: &mut usize,
+) -> u32
+    ensures { (result ≡ 1) ⊎ (result ≡ 5) }
+{
+    if let VersionsTrouble::Memory = trouble {
+        return MEMORY;
+    }
+    tell(alloc, &trouble, REFUSED, text, text_len)
+}
+
+/// Says whether versions are compatible, and if they aren't, why.
+fn compared(alloc: Global, versions: &Versions, text: &mut [u8], text_len: &mut usize) -> u32
+    ensures yes { result ≡ 0 → AreCompatible versions.now }
+    ensures no { result ≡ 9 → AreCompatible versions.now → ⊥ }
+{
+    let Ok(why) = versions.first_break(alloc) else {
+        return MEMORY;
+    };
+    match why {
+        None => OK,
+        Some(why) => tell(alloc, &why, NO, text, text_len),
     }
 }
 
@@ -230,14 +286,8 @@ pub extern "C" fn hz_compatible(
     let Some(root) = root_word(root) else {
         return FORM;
     };
-    let versions = match Versions::new(alloc, older, newer, renames, root) {
-        Ok(versions) => versions,
-        Err(VersionsTrouble::Memory) => return MEMORY,
-        Err(trouble) => return tell(alloc, &trouble, REFUSED, text, text_len),
-    };
-    match versions.first_break(alloc) {
-        Ok(None) => OK,
-        Ok(Some(why)) => tell(alloc, &why, NO, text, text_len),
-        Err(_) => MEMORY,
+    match Versions::new(alloc, older, newer, renames, root) {
+        Ok(versions) => compared(alloc, &versions, text, text_len),
+        Err(trouble) => not_compared(alloc, trouble, text, text_len),
     }
 }

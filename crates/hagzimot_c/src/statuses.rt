@@ -1,7 +1,8 @@
 //! The statuses that exports return, and what their plain arguments mean.
-ghost use Rattle.std.specs.Prelude.{◌≡◌, ◌≢◌, true, IsOk, IfSome, option_copied};
+ghost use Rattle.std.specs.Prelude.{◌≡◌, ◌≢◌, ◌<◌, ◌≤◌, ◌⊎◌, true, false, IsOk, IfSome, IfNone, OnSome, option_copied};
 ghost use Rattle.hagzimot_in_process.specs.declared.frames.FrameFault.{FrameFault};
-ghost use Rattle.hagzimot_c.specs.Exports.{word_of};
+ghost use Rattle.hagzimot_c.specs.Exports.{word_of, form_if, forms_in};
+ghost use Rattle.hagzimot_c.specs.Statuses.{IsFraming, IsCut};
 
 use capnp_relay_loop::ends::{Counts, Fault, RelayFault};
 use capnp_relay_show::show::ShowFault;
@@ -31,14 +32,13 @@ pub(crate) const NO: u32 = 9;
 /// A flag is unknown, or the root's name isn't UTF-8.
 pub(crate) const FORM: u32 = 10;
 
-const PACKED_IN: u32 = 1;
-
-const PACKED_OUT: u32 = 2;
-
-const PLAIN: u32 = 4;
+/// The most that flags add up to: 1 for packed input, 2 for packed output, 4 for messages as built.
+const ALL_FLAGS: u32 = 7;
 
 /// Returns a form of messages.
-fn form_of(is_packed: bool) -> Form {
+fn form_of(is_packed: bool) -> Form
+    ensures { result ≡ form_if is_packed }
+{
     if is_packed {
         Form::Packed
     } else {
@@ -47,14 +47,18 @@ fn form_of(is_packed: bool) -> Form {
 }
 
 /// Returns the forms that flags name; `None` if a flag is unknown.
-pub(crate) fn forms_of(flags: u32) -> Option<Forms> {
-    if flags > 7 {
+pub(crate) fn forms_of(flags: u32) -> Option<Forms>
+    ensures forms { IfSome result (λ forms. forms ≡ forms_in flags) }
+    ensures known { OnSome result (flags ≤ 7) }
+    ensures unknown { IfNone result (7 < flags) }
+{
+    if flags > ALL_FLAGS {
         return None;
     }
     Some(Forms {
-        input: form_of(flags & PACKED_IN != 0),
-        output: form_of(flags & PACKED_OUT != 0),
-        is_plain: flags & PLAIN != 0,
+        input: form_of(flags % 2 == 1),
+        output: form_of(flags / 2 % 2 == 1),
+        is_plain: flags / 4 % 2 == 1,
     })
 }
 
@@ -73,7 +77,8 @@ pub(crate) fn root_word(bytes: &[u8]) -> Option<Option<&str>>
 
 /// Returns the status of a fault of a run.
 fn fault_status(fault: Fault) -> u32
-    ensures { result ≢ 0 }
+    ensures fault { (result ≡ 1) ⊎ ((result ≡ 6) ⊎ (result ≡ 8)) }
+    ensures cut { result ≡ 6 → IsFraming fault }
 {
     match fault {
         Fault::Framing(_) => FRAMING,
@@ -85,8 +90,9 @@ fn fault_status(fault: Fault) -> u32
 
 /// Returns the status of a run whose output and log fit into lent memory, or don't.
 pub(crate) fn relay_status(end: Result<Counts, RelayFault>, fits: bool) -> u32
-    ensures ok { result ≡ 0 → IsOk end }
-    ensures fits { result ≡ 0 → fits ≡ true }
+    ensures ok { result ≡ 0 → IsOk end × (fits ≡ true) }
+    ensures room { result ≡ 4 → IsOk end × (fits ≡ false) }
+    ensures cut { result ≡ 6 → IsCut end }
 {
     match end {
         Err(e) => fault_status(e.fault),
@@ -97,7 +103,8 @@ pub(crate) fn relay_status(end: Result<Counts, RelayFault>, fits: bool) -> u32
 
 /// Returns the status of a message that isn't shown.
 pub(crate) fn show_status(fault: ShowFault) -> u32
-    ensures { result ≢ 0 }
+    ensures done { result ≢ 0 }
+    ensures room { result ≢ 4 }
 {
     match fault {
         ShowFault::Framing(_) => FRAMING,
@@ -109,8 +116,10 @@ pub(crate) fn show_status(fault: ShowFault) -> u32
 
 /// Returns the status of a message that has no canonical form, or isn't looked at.
 pub(crate) fn frame_status(fault: FrameFault) -> u32
-    ensures other { result ≢ 0 }
+    ensures done { (result ≢ 0) × (result ≢ 9) }
     ensures framing { result ≡ 6 → fault ≡ FrameFault.Framing }
+    ensures value { result ≡ 7 → fault ≡ FrameFault.Value }
+    ensures room { result ≡ 4 → fault ≡ FrameFault.Room }
 {
     match fault {
         FrameFault::Framing => FRAMING,
