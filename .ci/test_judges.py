@@ -26,10 +26,36 @@ import random_sets
 import stored_runs
 import style
 import tool_peers
+import tool_sources
 import tool_walk
 
 # A framed message of one segment: a struct of one word that holds 7.
 SEVEN = struct.pack("<IIQQ", 0, 2, 1 << 32, 7)
+
+
+def request_of_node(number, scope, gap=0):
+    """A request with one node of an id and a scope, which begins some words after its list's pointer."""
+    root = 4 << 48
+    nodes = (3 + gap) << 2 | 1 | 7 << 32 | 11 << 35
+    tag = 1 << 2 | 5 << 32 | 6 << 48
+    words = [root, nodes, 0, 0, 0, *[0] * gap, tag, number, 0, scope, 0, 0, *[0] * 6]
+    return struct.pack(f"<II{len(words)}Q", 0, len(words), *words)
+
+
+class Requests(unittest.TestCase):
+    """The comparison of two requests of the compiler."""
+
+    def test_the_same_is_passed_wherever_it_is(self):
+        self.assertEqual(tool_sources.Message(SEVEN).root(), ("struct", b"\x07", []))
+        self.assertEqual(tool_sources.differences(request_of_node(5, 6), request_of_node(5, 6, gap=3)), [])
+
+    def test_other_nodes_are_seen(self):
+        for other in (request_of_node(6, 6), request_of_node(5, 7)):
+            self.assertTrue(tool_sources.differences(request_of_node(5, 6), other))
+
+    def test_a_header_that_lies_is_seen(self):
+        with self.assertRaises(ValueError):
+            tool_sources.Message(request_of_node(5, 6) + bytes(8))
 
 
 class Peers(unittest.TestCase):

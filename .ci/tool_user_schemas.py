@@ -105,8 +105,6 @@ CASES = (
     ("check empty", "", "hagzimot: empty: the file is empty (did the compiler fail?)", FAULT),
     ("check schemas_message.bin", "", "hagzimot: schemas_message.bin: a message, but not a schema: it has no structs and no enums (is it a file of messages?)", FAULT),
     ("check orders.bin", "", "hagzimot: orders.bin: not a request of the compiler: not one whole message (is it a file of messages?)", FAULT),
-    ("check shop.capnp", "", "hagzimot: shop.capnp: this is schema source; compile it first: capnp compile -o- shop.capnp > shop.request", FAULT),
-    ("show --schema shop.capnp --root Order orders.bin", "", "hagzimot: shop.capnp: this is schema source; compile it first: capnp compile -o- shop.capnp > shop.request", FAULT),
     ("check shop.gz", "", "hagzimot: shop.gz: this is gzip data; decompress it first: gzip -dc shop.gz | hagzimot .. --schema -", FAULT),
     ("check orders.text", "", "hagzimot: orders.text: neither what capnp compile -o- writes nor a JSON schema file", FAULT),
     # A schema from standard input.
@@ -114,6 +112,17 @@ CASES = (
     ("check - < shop.request", "-: 4 nodes keep all rules", "", 0),
     ("show --schema - --root Order < shop.request", "", "hagzimot: -: standard input can't hold both the schema and messages (name a file of either)", USAGE),
     ("compatible - - --root Order < shop.request", "", "hagzimot: -: standard input can't hold both schemas (name a file of either)", USAGE),
+    # A schema as source, from a file and from standard input.
+    ("check shop.capnp", "shop.capnp: 4 nodes keep all rules", "", 0),
+    ("show --schema shop.capnp --root Order --to 1 orders.bin", '(number = 1, status = new, paid = false, total = 1250, customer = (name = "Ada"), lines = [(count = 2, article = "pen"), (count = 1, article = "ink")])', "", 0),
+    ("show --schema - --root Order --to 1 orders.bin < shop.capnp", '(number = 1, status = new, paid = false, total = 1250, customer = (name = "Ada"), lines = [(count = 2, article = "pen"), (count = 1, article = "ink")])', "", 0),
+    ("compile shop.capnp | hagzimot compatible - shop.request", COMPATIBLE, "", 0),
+    ("compile < shop.capnp | hagzimot check -", "-: 4 nodes keep all rules", "", 0),
+    ("compile shop.capnp -o shop.capnp", "", "hagzimot: -o shop.capnp: the same file as the input shop.capnp (name another file)", USAGE),
+    ("compile gone.capnp", "", "hagzimot: gone.capnp: there is no such file (write its path)", FAULT),
+    ("compatible schemas_store.capnp schemas_store_sub.capnp --root Holder", 'not compatible: Holder: field "s" has another interface in the newer schema', "", NO),
+    ("show --json --schema schemas_map_text.capnp --root R schemas_map.bin", '{"m":{"e":[{"k":"a","v":"b"}]}}', "", 0),
+    (f"id | grep -cE '^@0x[89a-f][0-9a-f]{{15}};$'", "1", "", 0),
     # Floats need no word.
     ("check shop_weighed.request", "shop_weighed.request: 4 nodes keep all rules", "", 0),
     ("check shop_weighed.request --floats-as-bits", "shop_weighed.request: 4 nodes keep all rules", "", 0),
@@ -149,7 +158,7 @@ def lay_files(folder):
 def is_right(program, folder, case):
     """Whether a command prints what it has to; one that doesn't is shown."""
     command, out, said, status = case
-    shell = f"{shlex.quote(str(program))} {command}"
+    shell = f'hagzimot() {{ {shlex.quote(str(program))} "$@"; }}\nhagzimot {command}'
     run = subprocess.run(["bash", "-c", shell], cwd=folder, stdin=subprocess.DEVNULL, capture_output=True, timeout=120, check=False)
     got = run.stdout.decode("utf-8", "backslashreplace").rstrip("\n"), run.stderr.decode("utf-8", "backslashreplace").rstrip("\n"), run.returncode
     if got == (out, said, status):

@@ -25,6 +25,15 @@ pub fn files<'a>(alloc: Global) -> Arg<'a> {
         .help("Files of messages, one after the other; - or none for standard input")
 }
 
+/// The schema sources that are compiled, `-` for standard input, which is read where none is named.
+pub fn sources<'a>(alloc: Global) -> Arg<'a> {
+    Arg::new(alloc, "files")
+        .value_name("FILE")
+        .action(ArgAction::Append)
+        .num_args(0..)
+        .help("Schema sources; - or none for standard input")
+}
+
 /// The file that is written.
 pub fn output<'a>(alloc: Global) -> Arg<'a> {
     Arg::new(alloc, "output")
@@ -139,7 +148,19 @@ pub fn schema<'a>(alloc: Global) -> Arg<'a> {
 
 /// What a schema file is.
 pub static SCHEMA_HELP: &str =
-    "The schema: what capnp compile -o- writes, or a JSON file of nodes; - for standard input";
+    "The schema: its source (shop.capnp), what capnp compile -o- writes, or a JSON file of nodes; - for standard input";
+
+/// The folders in which imports of schema sources are looked up.
+pub fn import_path<'a>(alloc: Global) -> Arg<'a> {
+    Arg::new(alloc, "import-path")
+        .short('I')
+        .long("import-path")
+        .value_name("DIR")
+        .action(ArgAction::Append)
+        .help(
+            "A folder in which a schema source finds the imports that begin with a slash; /usr/local/include and /usr/include come after those that are named",
+        )
+}
 
 /// Floats as the whole numbers of their bits.
 pub fn floats_as_bits<'a>(alloc: Global) -> Arg<'a> {

@@ -1,13 +1,14 @@
 //! The words that the command takes.
 
 use crate::arguments::{
-    SCHEMA_HELP, allow_refused_calls, call, compared_root, file, files, floats_as_bits, form,
-    limit_of_words, log, nesting, no_sync, number, on_refused, output, refused, renames, root,
-    schema, stats, strict, style,
+    allow_refused_calls, call, files, floats_as_bits, form, import_path, limit_of_words, log,
+    nesting, no_sync, number, on_refused, output, refused, renames, root, schema, stats, strict,
+    style,
 };
 use crate::options::{Options, Taken};
 use crate::picking_words::{edited, filter, hash, with_picks};
 use crate::proof_statement::VERSION;
+use crate::schema_commands::{check, compatible, compile, id, schema_file};
 use crate::{diffs, makes, redacts};
 use clap::{Arg, ArgAction, Command};
 use std::alloc::{AllocError, Global};
@@ -110,6 +111,7 @@ fn show<'a, 'w>(alloc: Global, taken: Taken<'w>) -> Result<Options<'a, 'w>, Allo
         "Prints each message as text, one a line",
     )
     .arg(schema(alloc))?
+    .arg(import_path(alloc))?
     .arg(floats_as_bits(alloc))?
     .arg(root(alloc))?
     .arg(form(alloc, "in", "The form of the input"))?
@@ -143,60 +145,6 @@ fn show<'a, 'w>(alloc: Global, taken: Taken<'w>) -> Result<Options<'a, 'w>, Allo
         .arg(limit_of_words(alloc))?
         .arg(nesting(alloc))?
         .arg(files(alloc))
-}
-
-fn check<'a, 'w>(alloc: Global, taken: Taken<'w>) -> Result<Options<'a, 'w>, AllocError> {
-    Options::new(
-        alloc,
-        taken,
-        "check",
-        "Says whether a schema keeps the twelve rules of schemas, or which node breaks which",
-    )
-    .arg(file(alloc, "schema", "SCHEMA", SCHEMA_HELP))?
-    .arg(floats_as_bits(alloc))
-}
-
-fn schema_file<'a, 'w>(alloc: Global, taken: Taken<'w>) -> Result<Options<'a, 'w>, AllocError> {
-    Options::new(
-        alloc,
-        taken,
-        "schema",
-        "Prints a schema as a JSON file of nodes, which is taken wherever a schema is",
-    )
-    .arg(file(alloc, "schema", "SCHEMA", SCHEMA_HELP))?
-    .arg(floats_as_bits(alloc))?
-    .arg(
-        Arg::new(alloc, "ids-as-texts")
-            .long("ids-as-texts")
-            .action(ArgAction::SetTrue)
-            .help("Prints ids as texts, for readers of JSON that round long numbers"),
-    )
-}
-
-fn compatible<'a, 'w>(alloc: Global, taken: Taken<'w>) -> Result<Options<'a, 'w>, AllocError> {
-    Options::new(
-        alloc,
-        taken,
-        "compatible",
-        "Says whether what is written under one schema reads the same under a newer one, or which rule is broken where; status 1 where it doesn't",
-    )
-    .arg(file(alloc, "older", "OLD", "The older schema"))?
-    .arg(file(alloc, "newer", "NEW", "The newer schema"))?
-    .arg(floats_as_bits(alloc))?
-    .arg(compared_root(alloc))?
-    .arg(
-        Arg::new(alloc, "all")
-            .long("all")
-            .action(ArgAction::SetTrue)
-            .help("Tells each pair of nodes that breaks a rule, not the first alone"),
-    )?
-    .arg(
-        Arg::new(alloc, "both")
-            .long("both")
-            .action(ArgAction::SetTrue)
-            .help("Says the same of the older schema where messages of the newer are read"),
-    )?
-    .arg(renames(alloc).conflicts_with("both")?)
 }
 
 /// The words that make calls.
@@ -276,6 +224,7 @@ fn relay<'a, 'w>(alloc: Global, taken: Taken<'w>) -> Result<Options<'a, 'w>, All
         "Edits each message and writes it; calls run in the order in which they stand, those of a file first",
     )
     .arg(schema(alloc))?
+    .arg(import_path(alloc))?
     .arg(floats_as_bits(alloc))?
     .arg(root(alloc))?;
     let options = with_calls(alloc, options)?
@@ -352,6 +301,8 @@ fn subcommand<'a>(
         "hash" => hash(alloc, taken)?,
         "slice" => slice(alloc, taken)?,
         "split" => split(alloc, taken)?,
+        "compile" => compile(alloc, taken)?,
+        "id" => id(alloc, taken)?,
         "version" => version(alloc, taken)?,
         _ => return Ok(None),
     };
@@ -359,7 +310,7 @@ fn subcommand<'a>(
 }
 
 /// The names of the subcommands.
-static SUBCOMMANDS: [&str; 16] = [
+static SUBCOMMANDS: [&str; 18] = [
     "show",
     "filter",
     "relay",
@@ -375,6 +326,8 @@ static SUBCOMMANDS: [&str; 16] = [
     "hash",
     "slice",
     "split",
+    "compile",
+    "id",
     "version",
 ];
 

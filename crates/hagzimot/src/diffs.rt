@@ -1,6 +1,6 @@
 //! `hagzimot diff`.
 
-use crate::arguments::{file, form, limit_of_words, nesting, root, schema};
+use crate::arguments::{file, form, import_path, limit_of_words, nesting, root, schema};
 use crate::faults::Failure;
 use crate::files::{Input, OutFile, OutSink, open_source};
 use crate::options::{Options, Taken};
@@ -38,6 +38,7 @@ pub fn options<'a, 'w>(alloc: Global, taken: Taken<'w>) -> Result<Options<'a, 'w
         "Compares two streams message by message, by the records that they have under a schema",
     )
     .arg(schema(alloc).required(false))?
+    .arg(import_path(alloc))?
     .arg(root(alloc))?
     .arg(form(alloc, "in", "The form of both inputs"))?
     .arg(limit_of_words(alloc))?

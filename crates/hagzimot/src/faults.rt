@@ -30,6 +30,8 @@ pub enum Failure {
     ClosedPipe,
     /// The arguments are wrong, in words.
     Words(String),
+    /// The mistakes of a schema's source: lines that begin with a place.
+    Source(String),
     /// Anything else, in words.
     Text(String),
 }
@@ -171,6 +173,14 @@ impl Failure {
         matches!(self, Failure::ClosedPipe)
     }
 
+    /// The text before the failure. Lines that begin with a place have none, because editors look for the place.
+    pub fn front(&self) -> &'static str {
+        match self {
+            Failure::Source(_) => "",
+            _ => "hagzimot: ",
+        }
+    }
+
     /// The failure of a schema file.
     pub fn schema(alloc: Global, name: &str, why: &SchemaTrouble) -> Failure {
         Failure::about(alloc, name, why)
@@ -225,7 +235,9 @@ impl Display for Failure {
             Failure::Output => write!(f, "the output can't be written"),
             Failure::Refused => write!(f, "the messages that are skipped can't be written"),
             Failure::ClosedPipe => write!(f, "the pipe is closed"),
-            Failure::Words(text) | Failure::Text(text) => write!(f, "{text}"),
+            Failure::Words(text) | Failure::Source(text) | Failure::Text(text) => {
+                write!(f, "{text}")
+            }
         }
     }
 }

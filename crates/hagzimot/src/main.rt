@@ -11,6 +11,7 @@
 
 mod arguments;
 mod command_line;
+mod compile;
 mod diffs;
 mod faults;
 mod files;
@@ -38,6 +39,8 @@ mod relay_task;
 mod relay_words;
 mod reports;
 mod run_log;
+mod schema_commands;
+mod schema_sources;
 mod shows;
 mod split;
 mod stats;
@@ -73,6 +76,8 @@ fn run_subcommand(rt: &HostRuntime, matches: &ArgMatches<'_>) -> Result<u8, Fail
         Some(("check", words)) => reports::check(rt, words),
         Some(("schema", words)) => reports::schema(rt, words),
         Some(("compatible", words)) => versions::compatible(rt, words),
+        Some(("compile", words)) => compile::compile(rt, words),
+        Some(("id", _)) => compile::id(rt),
         Some(("version", words)) => proof_statement::version(rt, words),
         _ => Ok(WRONG_WORDS),
     }
@@ -111,7 +116,8 @@ fn run(rt: &HostRuntime) -> io::Result<u8> {
         Ok(status) => Ok(status),
         Err(failure) => {
             if !failure.is_silent() {
-                eprintln!(rt; "hagzimot: {failure}")?;
+                let front = failure.front();
+                eprintln!(rt; "{front}{failure}")?;
             }
             Ok(failure.status())
         }

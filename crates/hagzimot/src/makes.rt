@@ -1,7 +1,7 @@
 //! `hagzimot make`.
 
 use crate::arguments::{
-    SCHEMA_HELP, files, form, limit_of_words, nesting, no_sync, output, root, schema,
+    SCHEMA_HELP, files, form, import_path, limit_of_words, nesting, no_sync, output, root, schema,
 };
 use crate::faults::Failure;
 use crate::files::{OutFile, OutSink, open_source};
@@ -30,6 +30,7 @@ pub fn options<'a, 'w>(alloc: Global, taken: Taken<'w>) -> Result<Options<'a, 'w
         "Writes a message for each JSON object, as `show --json` prints them, in canonical form",
     )
     .arg(schema(alloc).help(SCHEMA_HELP))?
+    .arg(import_path(alloc))?
     .arg(root(alloc))?
     .arg(form(alloc, "out", "The form of the output"))?
     .arg(limit_of_words(alloc))?

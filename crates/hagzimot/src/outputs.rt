@@ -207,6 +207,20 @@ fn check_all(
     Ok(())
 }
 
+/// Refuses an output of messages that is one of the inputs.
+pub fn check_apart(
+    rt: &HostRuntime,
+    matches: &ArgMatches<'_>,
+    inputs: &[String],
+) -> Result<(), Failure> {
+    let name = matches.get_str("output").unwrap_or("-");
+    let messages = Named::new(rt, "-o", name)?;
+    if messages.is_there() {
+        messages.check_inputs(rt, inputs)?;
+    }
+    Ok(())
+}
+
 impl Outputs {
     /// Opens the outputs that the words name. Before any is opened, they are compared with one
     /// another and with the files that are read.

@@ -1,7 +1,8 @@
 //! The words of the subcommands that pick messages.
 
 use crate::arguments::{
-    condition, files, floats_as_bits, form, limit_of_words, nesting, no_sync, output, root, schema,
+    condition, files, floats_as_bits, form, import_path, limit_of_words, nesting, no_sync, output,
+    root, schema,
 };
 use crate::options::{Options, Taken};
 use clap::{Arg, ArgAction};
@@ -59,6 +60,7 @@ pub fn filter<'a, 'w>(alloc: Global, taken: Taken<'w>) -> Result<Options<'a, 'w>
         "Writes the messages that keep a condition, each with the same segments",
     )
     .arg(schema(alloc))?
+    .arg(import_path(alloc))?
     .arg(floats_as_bits(alloc))?
     .arg(root(alloc))?
     .arg(condition(

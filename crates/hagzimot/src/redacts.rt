@@ -1,7 +1,8 @@
 //! `hagzimot redact`.
 
 use crate::arguments::{
-    call, files, form, limit_of_words, log, nesting, no_sync, output, refused, root, schema,
+    call, files, form, import_path, limit_of_words, log, nesting, no_sync, output, refused, root,
+    schema,
 };
 use crate::faults::Failure;
 use crate::files::{Input, OutSink};
@@ -34,6 +35,7 @@ pub fn options<'a, 'w>(alloc: Global, taken: Taken<'w>) -> Result<Options<'a, 'w
         "Writes each message without the named fields and without everything that the schema does not know",
     )
     .arg(schema(alloc))?
+    .arg(import_path(alloc))?
     .arg(root(alloc))?
     .arg(call(
         alloc,

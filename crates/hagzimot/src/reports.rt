@@ -30,7 +30,7 @@ const BREAKS_RULE: u8 = 1;
 pub fn check(rt: &HostRuntime, matches: &ArgMatches<'_>) -> Result<u8, Failure> {
     let alloc = rt.alloc();
     let name = words::text(matches, "schema");
-    let bytes = words::schema_bytes(rt, name)?;
+    let bytes = words::schema_bytes(rt, matches, name)?;
     let set = match read_set(alloc, &bytes, Floats::AsBits) {
         Ok(checked) => checked.set,
         Err(why @ SchemaTrouble::Rule { .. }) => {
@@ -50,7 +50,7 @@ pub fn check(rt: &HostRuntime, matches: &ArgMatches<'_>) -> Result<u8, Failure> 
 pub fn schema(rt: &HostRuntime, matches: &ArgMatches<'_>) -> Result<u8, Failure> {
     let alloc = rt.alloc();
     let name = words::text(matches, "schema");
-    let bytes = words::schema_bytes(rt, name)?;
+    let bytes = words::schema_bytes(rt, matches, name)?;
     let nodes = match read_nodes(alloc, &bytes, Floats::AsBits) {
         Ok(nodes) => nodes,
         Err(why) => return Err(words::schema_failure(alloc, name, &why)),

@@ -142,7 +142,7 @@ fn schema_of(
     id: &str,
 ) -> Result<CheckedSchema, Failure> {
     let name = words::text(matches, id);
-    let bytes = words::schema_bytes(rt, name)?;
+    let bytes = words::schema_bytes(rt, matches, name)?;
     match read_set(rt.alloc(), &bytes, Floats::AsBits) {
         Ok(schema) => Ok(schema),
         Err(why) => Err(words::schema_failure(rt.alloc(), name, &why)),

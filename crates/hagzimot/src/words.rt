@@ -3,6 +3,7 @@
 use crate::faults::Failure;
 use crate::files::read_file;
 use crate::log_words::OnRefused;
+use crate::schema_sources::compiled_bytes;
 use capnp_calls_versions::renamings::{RenamingFault, Renamings};
 use capnp_relay_files::fault::FileFault;
 use capnp_relay_files::renames_file::renames_file;
@@ -105,7 +106,7 @@ fn reads_standard_input(words: &ArgMatches<'_>) -> bool {
 }
 
 /// All bytes of standard input.
-fn read_standard_input(rt: &HostRuntime) -> Result<Vec<u8>, Failure> {
+pub fn read_standard_input(rt: &HostRuntime) -> Result<Vec<u8>, Failure> {
     let mut bytes = Vec::new(rt.alloc());
     match rt.stdin().read_to_end(&mut bytes) {
         Ok(_) => Ok(bytes),
@@ -113,24 +114,23 @@ fn read_standard_input(rt: &HostRuntime) -> Result<Vec<u8>, Failure> {
     }
 }
 
-/// The bytes of the schema file of a name, `-` for standard input.
-pub fn schema_bytes(rt: &HostRuntime, name: &str) -> Result<Vec<u8>, Failure> {
-    if name == "-" {
-        read_standard_input(rt)
+/// The bytes of the schema file of a name, `-` for standard input. A source is compiled.
+pub fn schema_bytes(
+    rt: &HostRuntime,
+    words: &ArgMatches<'_>,
+    name: &str,
+) -> Result<Vec<u8>, Failure> {
+    let bytes = if name == "-" {
+        read_standard_input(rt)?
     } else {
-        read_file(rt, name)
-    }
+        read_file(rt, name)?
+    };
+    compiled_bytes(rt, words, name, bytes)
 }
 
 /// What is said of a file that holds no schema.
 pub fn schema_failure(alloc: Global, name: &str, why: &SchemaTrouble) -> Failure {
     let text = match why {
-        SchemaTrouble::Source => {
-            let stem = name.strip_suffix(".capnp").unwrap_or(name);
-            format!(in alloc;
-                "{name}: this is schema source; compile it first: capnp compile -o- {name} > {stem}.request"
-            )
-        }
         SchemaTrouble::Gzip => format!(in alloc;
             "{name}: this is gzip data; decompress it first: gzip -dc {name} | hagzimot .. --schema -"
         ),
@@ -159,7 +159,7 @@ pub fn rooted(rt: &HostRuntime, words: &ArgMatches<'_>, id: &str) -> Result<Root
         let why = "standard input can't hold both the schema and messages (name a file of either)";
         return Err(Failure::words(alloc, name, &why));
     }
-    let bytes = schema_bytes(rt, name)?;
+    let bytes = schema_bytes(rt, words, name)?;
     match RootedSchema::new(alloc, &bytes, Floats::AsBits, root_word(words)) {
         Ok(schema) => Ok(schema),
         Err(why) => Err(schema_failure(alloc, name, &why)),
