@@ -18,7 +18,7 @@ use Rattle.capnp_wire_objects.specs.Walks.{Walked, Stopped, CannotPass}
 use Rattle.capnp_units.specs.declared.kinds.ErrorKind.TheVariants.{OutOfMemory}
 use Rattle.capnp_values_queries.specs.Structs.{nodes_around, id_of}
 use Rattle.capnp_values_queries.specs.declared.structs.StructSchema.{StructSchema}
-use Rattle.capnp_relay_kinds.specs.Kinds.{value_read, is_value_in_kind, IsTold, WantsMemory}
+use Rattle.capnp_relay_kinds.specs.Kinds.{value_read, is_value_in_kind, IsTold, WantsMemory, IsUnread}
 use Rattle.capnp_relay_kinds.specs.declared.kinds.Limits.{Limits}
 use Rattle.capnp_relay_kinds.proofs.Values.{Costs}
 
@@ -107,8 +107,10 @@ module _ (costs : Costs) (schema : StructSchema) (limits : Limits) (s : Segments
   reads : (o : Option Tree) → read_to n limits.words s ≡ o → value_read limits s ≡ o
   reads o h = subst (λ k. read_to k limits.words s ≡ o) n_is h
 
-  pub nothing_read : (e : Error) → Stopped (visits n s root) l e m → value_read limits s ≡ None
-  nothing_read e stop = reads None (stopped_to costs limits.words n s l m e left stop)
+  pub nothing_read : (e f : Error) → f ≡ e → Stopped (visits n s root) l e m → IsUnread limits s f
+  nothing_read e f same stop =
+      let refused = subst (λ k. Stopped (visits k s root) l e m) n_is stop in
+      record { unread = reads None (stopped_to costs limits.words n s l m e left stop); start = l; all = left; end = m; stopped = subst (λ x. Stopped (visits (min limits.nesting 1024) s root) l x m) (sym same) refused }
 
   module _ (t : Tree) (walked : Walked (visits n s root) l m) (there : tree_at n s root ≡ Some t) where
     value_is : value_read limits s ≡ Some t

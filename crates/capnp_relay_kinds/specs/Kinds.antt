@@ -5,10 +5,14 @@ use Rattle.capnp_model.specs.Chains.{◌>>=◌, ◌provided◌}
 use Rattle.capnp_model.specs.Segments.{Segments, Place, root, after}
 use Rattle.capnp_model.specs.Trees.{Tree}
 use Rattle.capnp_model.specs.Traversal.{tree_at, cost_at}
+use Rattle.capnp_model.specs.Visits.{visits}
 use Rattle.capnp_model.specs.Schemas.{struct}
 use Rattle.capnp_model.specs.InKind.{in_kind}
 use Rattle.capnp_units.specs.declared.errors.Error.{Error}
 use Rattle.capnp_units.specs.declared.kinds.ErrorKind.TheVariants.{OutOfMemory}
+use Rattle.capnp_units.specs.Limits.{left_of}
+use Rattle.capnp_units.specs.declared.limiter.ReadLimiter.{ReadLimiter}
+use Rattle.capnp_wire_objects.specs.Walks.{Stopped}
 use Rattle.capnp_wire_objects.specs.Objects.{AreThere}
 use Rattle.capnp_wire_objects.specs.Places.{place_view}
 use Rattle.capnp_values_queries.specs.Structs.{schema_around, id_of}
@@ -40,9 +44,18 @@ pub record WantsMemory (schema : StructSchema) (limits : Limits) (s : Segments) 
   pub read : value_read limits s ≡ Some value
   pub not_in_kind : is_value_in_kind schema value ≡ false
 
+-- There is no value within the limits. A walk over the root's value is refused by this kind: that of the first fault in
+-- the order of reading, or of the first object that costs more words than are left.
+pub record IsUnread (limits : Limits) (s : Segments) (e : Error) : Type 0 where
+  pub unread : value_read limits s ≡ None
+  pub start : ReadLimiter
+  pub all : left_of start ≡ Some limits.words
+  pub end : ReadLimiter
+  pub stopped : Stopped (visits (min limits.nesting 1024) s root) start e end
+
 -- Why it isn't told: there is no value within the limits, or memory is wanted.
 abbrev pub IsNotTold : StructSchema → Limits → Segments → Error → Type 0
-IsNotTold schema limits s e = (value_read limits s ≡ None) ⊎ WantsMemory schema limits s e
+IsNotTold schema limits s e = IsUnread limits s e ⊎ WantsMemory schema limits s e
 
 -- ---- walks
 

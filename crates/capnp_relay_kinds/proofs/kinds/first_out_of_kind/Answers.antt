@@ -12,7 +12,7 @@ returns-in_err-_size-clause-refused g c =
     let s = words_in (g.A.ReaderArena.segments c.args.arena.now) in
     let r = err_from_is_err_and c.from_residual.result c.from_residual.ensures.1 in
     subst (λ z. IfErr z (IsNotTold c.args.root c.args.limits s)) (sym r.1)
-    (inl (nothing_read c.values_on_walks.ensures.cost c.args.root c.args.limits s c.min-levels.result c.min-levels.ensures c.new-limiter.result c.size_at.new.limiter c.new-limiter.ensures.left _ c.in_err-_size.ensures))
+    (inl (nothing_read c.values_on_walks.ensures.cost c.args.root c.args.limits s c.min-levels.result c.min-levels.ensures c.new-limiter.result c.size_at.new.limiter c.new-limiter.ensures.left c.in_err-_size.field-0.0 r.0 r.2 c.in_err-_size.ensures))
 
 pub returns-in_err-good-clause-refused : goal.returns-in_err-good-clause-refused
 returns-in_err-good-clause-refused g c =
