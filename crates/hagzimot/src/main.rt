@@ -17,6 +17,7 @@ mod faults;
 mod files;
 mod filter;
 mod hints;
+mod kinds;
 mod log;
 mod log_words;
 mod makes;

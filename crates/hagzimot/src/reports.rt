@@ -1,6 +1,7 @@
 //! Subcommands that read one schema alone.
 
 use crate::faults::Failure;
+use crate::kinds::check_messages;
 use crate::words;
 use capnp_relay_requests::request::Floats;
 use clap::ArgMatches;
@@ -26,10 +27,18 @@ fn print_text(rt: &HostRuntime, text: &str) -> Result<u8, Failure> {
 /// The status where a schema breaks a rule.
 const BREAKS_RULE: u8 = 1;
 
-/// `hagzimot check`: whether a schema keeps the rules.
+/// `hagzimot check`: whether a schema keeps the rules, or whether messages are in kind under it.
 pub fn check(rt: &HostRuntime, matches: &ArgMatches<'_>) -> Result<u8, Failure> {
     let alloc = rt.alloc();
-    let name = words::text(matches, "schema");
+    let id = if matches.contains_id("schema-file") {
+        "schema-file"
+    } else {
+        "schema"
+    };
+    if matches.contains_id("files") {
+        return check_messages(rt, matches, id);
+    }
+    let name = words::text(matches, id);
     let bytes = words::schema_bytes(rt, matches, name)?;
     let set = match read_set(alloc, &bytes, Floats::AsBits) {
         Ok(checked) => checked.set,

@@ -1,8 +1,8 @@
 //! The words of subcommands that take only schemas.
 
 use crate::arguments::{
-    SCHEMA_HELP, compared_root, file, floats_as_bits, import_path, no_sync, output, renames,
-    sources,
+    SCHEMA_HELP, compared_root, file, floats_as_bits, form, import_path, limit_of_words, nesting,
+    no_sync, output, renames, root, sources,
 };
 use crate::options::{Options, Taken};
 use clap::{Arg, ArgAction};
@@ -14,11 +14,37 @@ pub fn check<'a, 'w>(alloc: Global, taken: Taken<'w>) -> Result<Options<'a, 'w>,
         alloc,
         taken,
         "check",
-        "Says whether a schema keeps the twelve rules of schemas, or which node breaks which",
+        "Says whether a schema keeps the twelve rules of schemas, or which node breaks which; or with --messages whether the lists of messages have the element sizes that the schema names",
     )
-    .arg(file(alloc, "schema", "SCHEMA", SCHEMA_HELP))?
+    .arg(
+        file(alloc, "schema", "SCHEMA", SCHEMA_HELP)
+            .required(false)
+            .required_unless_present("schema-file")?
+            .conflicts_with("schema-file")?,
+    )?
+    .arg(
+        Arg::new(alloc, "schema-file")
+            .long("schema")
+            .value_name("SCHEMA")
+            .help("The same schema, as other commands take it"),
+    )?
     .arg(import_path(alloc))?
-    .arg(floats_as_bits(alloc))
+    .arg(floats_as_bits(alloc))?
+    .required_by(
+        "messages",
+        Arg::new(alloc, "files")
+            .long("messages")
+            .value_name("FILE")
+            .action(ArgAction::Append)
+            .num_args(1..)
+            .help(
+                "Files of messages, or - for standard input: says of each whose lists aren't in kind which is the first",
+            ),
+    )?
+    .arg(root(alloc).requires_arg("files")?)?
+    .arg(form(alloc, "in", "The form of the messages"))?
+    .arg(limit_of_words(alloc))?
+    .arg(nesting(alloc))
 }
 
 /// The words of `hagzimot schema`.

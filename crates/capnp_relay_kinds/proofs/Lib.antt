@@ -1,0 +1,5 @@
+mod Values
+mod Rows
+mod Fields
+mod Depths
+mod Messages
