@@ -1,7 +1,8 @@
 //! Where the name of an output leads, and which names lead to one file.
-ghost use Rattle.std.specs.Prelude.{◌≡◌, ◌↔◌, Err, [], IsTrue};
+ghost use Rattle.std.specs.Prelude.{◌≡◌, ◌↔◌, Err, [], IsTrue, IfOk, IfErr};
+ghost use Rattle.std.specs.Fs.{file_type, IsDir, IsFile};
 ghost use Rattle.hagzimot_files.specs.declared.places.PlaceError.{PlaceError};
-ghost use Rattle.hagzimot_files.specs.Places.{IsAt, AreOneFile, IsStandardName};
+ghost use Rattle.hagzimot_files.specs.Places.{IsAt, AreOneFile, IsStandardName, is_replaced, is_stream, OpensDirectly};
 
 use crate::files::Owners;
 use crate::names::{folder_of, linked_path, split_path};
@@ -143,7 +144,12 @@ fn free_place(rt: &HostRuntime, path: &str) -> Result<Place, PlaceError> {
 }
 
 /// The output at a path of which the system says this.
-fn place_of(metadata: &Metadata) -> Result<Place, PlaceError> {
+fn place_of(metadata: &Metadata) -> Result<Place, PlaceError>
+    ensures place { IfOk result (λ place.
+        IsTrue (is_replaced place) ↔ IsFile (file_type metadata.now)) }
+    ensures refused { IfErr result (λ e.
+        (e ≡ PlaceError.Folder) × IsDir (file_type metadata.now)) }
+{
     let kind = metadata.file_type();
     let id = id_of(metadata);
     if kind.is_dir() {
@@ -258,12 +264,27 @@ pub fn is_one_file(a: &Place, b: &Place) -> bool
     }
 }
 
-/// Opens what is written to as it is. What was written to it before stays.
-pub fn open_direct(rt: &HostRuntime, path: &str, place: &Place) -> io::Result<File> {
+/// Whether what is at a place is a pipe, a socket or an open descriptor.
+fn is_stream(place: &Place) -> bool
+    ensures { result ≡ is_stream place.now }
+{
+    matches!(place, Place::Stream(_))
+}
+
+/// How what is written to as it is gets opened. Nothing is made and nothing emptied, and a stream
+/// is written to at its end.
+fn direct_options(place: &Place) -> OpenOptions
+    ensures { OpensDirectly place.now result }
+{
+    let appends = is_stream(place);
     let mut how = OpenOptions::new();
-    match place {
-        Place::Stream(_) => how.append(true),
-        _ => how.write(true),
-    };
-    how.open(rt, path)
+    how.append(appends);
+    how.write(!appends);
+    how
+}
+
+/// Opens what is written to as it is, as `direct_options` says. What was written to it before
+/// stays.
+pub fn open_direct(rt: &HostRuntime, path: &str, place: &Place) -> io::Result<File> {
+    direct_options(place).open(rt, path)
 }
