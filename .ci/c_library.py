@@ -30,16 +30,20 @@ SANITIZERS = ("-fsanitize=address,undefined", "-fno-sanitize-recover=all")
 PAGES, FEW_PAGES = "3000", "300"
 # Allocations of a run that are refused in turn; a run has fewer.
 MOST_REFUSALS = 5000
-LIMIT = 600
+# Seconds that a command may take; the link proves the crate.
+LIMIT, LINK_LIMIT = 600, 7200
 
 
 class Wrong(Exception):
     """What is wrong."""
 
 
-def run(*words, **how):
+def run(*words, limit=LIMIT, **how):
     """Runs a command, and returns what it writes."""
-    done = subprocess.run(words, capture_output=True, text=True, errors="replace", timeout=LIMIT, check=False, **how)
+    try:
+        done = subprocess.run(words, capture_output=True, text=True, errors="replace", timeout=limit, check=False, **how)
+    except (OSError, subprocess.TimeoutExpired) as error:
+        raise Wrong(f"{words[0]}: {error}") from error
     if done.returncode:
         raise Wrong(f"{' '.join(words)}: status {done.returncode}\n{done.stdout[-3000:]}\n{done.stderr[-3000:]}")
     return done.stdout.strip()
@@ -117,7 +121,7 @@ def main(words):
         return 2
     try:
         if not words:
-            print(run(sys.executable, f"{TOP}/tools/check.py", "link", CRATE).splitlines()[-1])
+            print(run(sys.executable, f"{TOP}/tools/check.py", "link", CRATE, limit=LINK_LIMIT).splitlines()[-1])
         with tempfile.TemporaryDirectory(prefix="c-library-") as room:
             c_library.make(f"{room}/out", not words, lambda _text: None)
             calls(room, f"{room}/out")

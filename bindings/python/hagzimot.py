@@ -1,6 +1,7 @@
 """libhagzimot for Python: relays, shows and compares Cap'n Proto messages in this process.
 
-The library is found beside this file, or where the environment's HAGZIMOT_LIBRARY says, or by the system's loader.
+The library is the one that the environment's HAGZIMOT_LIBRARY names. Otherwise it is the one beside this file or in the same
+installation, or the one that the system's loader finds.
 
     relay = hagzimot.Relay(schema, "Order", [{"path": ["status"], "verb": "set", "value": {"enum": 2}}])
     out, log = relay.relay(message)
@@ -54,8 +55,10 @@ class _Handle(ctypes.Structure):
 
 
 def _loaded() -> ctypes.CDLL:
-    beside = os.path.join(os.path.dirname(os.path.abspath(__file__)), "libhagzimot.so.1")
-    named = os.environ.get("HAGZIMOT_LIBRARY") or (beside if os.path.exists(beside) else "libhagzimot.so.1")
+    # In an installation this file is in lib/python3/dist-packages, and the library in lib.
+    here = os.path.dirname(os.path.realpath(__file__))
+    known = [os.path.join(here, *up, "libhagzimot.so.1") for up in ((), ("..", ".."))]
+    named = os.environ.get("HAGZIMOT_LIBRARY") or next((it for it in known if os.path.exists(it)), "libhagzimot.so.1")
     return ctypes.CDLL(named)
 
 
