@@ -212,7 +212,7 @@ def faults_of_words(program, folder):
             yield f"{name}: status {status}, {out!r}, {said!r}"
     left.write_bytes(good + bad[:-1])
     status, out, said = check(program, *words, "--messages", left)
-    if status != 4 or f"message 2 (byte {len(good)})" not in said:
+    if status != 4 or f"message 2, at byte {len(good)}" not in said:
         yield f"a cut message: status {status}, {out!r}, {said!r}"
 
 

@@ -19,7 +19,7 @@ use std::alloc::Global;
 /// The most levels that are walked, since each takes stack.
 const MOST_LEVELS: u32 = 1024;
 
-/// How far a message is followed.
+/// Limits of following a message.
 #[derive(Clone, Copy, Debug, PartialEq, Eq)]
 pub struct Limits {
     /// The most words that following it may cost.
@@ -33,8 +33,8 @@ pub struct Limits {
 ///
 /// A list is in kind if its elements have exactly the size that its type names: 8 bits for a list
 /// of `UInt8`, a pointer for a list of texts, structs with a tag for a list of structs. Only lists
-/// whose types the schema names count: those of active union members, not those behind untyped
-/// pointers or fields that the schema doesn't know. Texts and data are not lists here. If all are
+/// whose types the schema names count: those of active union members, not those below untyped
+/// pointers or in fields that the schema doesn't know. Texts and data are not lists here. If all are
 /// in kind, the record that a relay writes is the one that its calls make of the message's record,
 /// provided that the schema's defaults and the values of the calls are in kind too.
 ///

@@ -27,7 +27,7 @@ pub struct OutOfKind {
     pub wanted: ElementSize,
 }
 
-/// Notes a step to a list that isn't in kind, in front of the steps that were noted behind it.
+/// Notes a step to a list that isn't in kind. The steps that follow it were noted before it.
 pub(crate) fn step_back(found: &mut OutOfKind, step: Step) -> Result<bool, AllocError>
     ensures { Tells false result }
 {

@@ -48,7 +48,7 @@ pub(crate) fn active_value<A: ReaderArena>(
     Some(reader.get_data_field::<u16>(offset as usize))
 }
 
-/// Returns whether a field is no union member, or the member of this value.
+/// Returns whether a field is not a union member, or is the member of this value.
 pub(crate) fn is_active(field: Field<'_>, active: Option<u16>) -> bool
     ensures { (e : Entry) → entry_of_field field.entry ≡ Some e → result ≡ is_active e.member active }
 {

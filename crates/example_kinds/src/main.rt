@@ -19,13 +19,13 @@ const SCHEMA: &str = r#"[{"id": 1, "name": "P", "data": 0, "pointers": 1, "field
     {"id": 2, "name": "Item", "data": 1, "pointers": 0, "fields": [
     {"name": "count", "type": "UInt8", "offset": 0}]}]"#;
 
-/// A framed message with two structs in `items`: behind the tag a word each, 5 and 6.
+/// A framed message with two structs in `items`: after the tag a word each, 5 and 6.
 const STRUCTS: [u8; 48] = [
     0, 0, 0, 0, 5, 0, 0, 0, 0, 0, 0, 0, 0, 0, 1, 0, 1, 0, 0, 0, 23, 0, 0, 0, 8, 0, 0, 0, 1, 0, 0,
     0, 5, 0, 0, 0, 0, 0, 0, 0, 6, 0, 0, 0, 0, 0, 0, 0,
 ];
 
-/// The same as a program wrote it whose schema still had a list of bytes there.
+/// A message of a program whose schema still had a list of bytes there.
 const BYTES: [u8; 32] = [
     0, 0, 0, 0, 3, 0, 0, 0, 0, 0, 0, 0, 0, 0, 1, 0, 1, 0, 0, 0, 18, 0, 0, 0, 5, 6, 0, 0, 0, 0, 0, 0,
 ];

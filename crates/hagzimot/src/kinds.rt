@@ -31,7 +31,7 @@ const NOT_IN_KIND: u8 = 1;
 /// The status if each message that can be read is in kind, but some can't be.
 const UNREAD: u8 = 3;
 
-/// How many messages are in kind, aren't, and can't be read.
+/// Counts of the messages that are in kind, that aren't, and that can't be read.
 #[derive(Clone, Copy)]
 struct Counts {
     in_kind: u64,
@@ -49,7 +49,7 @@ impl Counts {
     }
 }
 
-/// How messages are looked at, and where what is said of them goes.
+/// The schema and the limits under which messages are looked at, the output and the counts.
 #[derive(Drop)]
 struct Looking<'a> {
     root: StructSchema<'a>,

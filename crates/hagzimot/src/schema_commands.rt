@@ -31,7 +31,7 @@ pub fn check<'a, 'w>(alloc: Global, taken: Taken<'w>) -> Result<Options<'a, 'w>,
     .arg(import_path(alloc))?
     .arg(floats_as_bits(alloc))?
     .required_by(
-        "messages",
+        "root",
         Arg::new(alloc, "files")
             .long("messages")
             .value_name("FILE")

@@ -7,7 +7,7 @@ use capnp_values_queries::slots::FieldPlace;
 use capnp_values_queries::structs::StructSchema;
 use std::alloc::{AllocError, Global};
 
-/// What the steps so far lead to.
+/// The place that the steps so far lead to.
 #[derive(Clone, Copy)]
 enum At<'a> {
     Struct(StructSchema<'a>),

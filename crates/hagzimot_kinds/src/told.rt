@@ -1,4 +1,4 @@
-//! What is told of a message.
+//! Answers about messages.
 
 use crate::paths::path_text;
 use capnp_relay_kinds::kinds::{Limits, first_out_of_kind};
@@ -10,7 +10,7 @@ use capnp_values_queries::structs::StructSchema;
 use capnp_wire_objects::arena::ReaderArenaImpl;
 use std::alloc::{AllocError, Global};
 
-/// What is told of a message.
+/// An answer about a message.
 #[derive(Debug, Drop)]
 pub enum Told {
     InKind,
@@ -42,7 +42,7 @@ fn reason(alloc: Global, root: StructSchema<'_>, found: &OutOfKind) -> Result<St
     format!(in alloc; "{path}: a list of {size}, but the schema has a list of {wanted}")
 }
 
-/// Tells whether the lists of the message of these segments are in kind under the schema of its
+/// Says whether the lists of the message of these segments are in kind under the schema of its
 /// root, or which is the first that isn't. `AllocError`: an allocation was refused.
 pub fn tell<S: ReaderSegments>(
     alloc: Global,
