@@ -1,0 +1,5 @@
+pub mod Rows
+pub mod Parts
+pub mod Marks
+pub mod Reached
+pub mod Explanations
