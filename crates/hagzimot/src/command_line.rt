@@ -9,7 +9,7 @@ use crate::options::{Options, Taken};
 use crate::picking_words::{edited, filter, hash, with_picks};
 use crate::proof_statement::VERSION;
 use crate::schema_commands::{check, compatible, compile, id, schema_file};
-use crate::{diffs, makes, redacts};
+use crate::{diffs, explains, makes, redacts};
 use clap::{Arg, ArgAction, Command};
 use std::alloc::{AllocError, Global};
 
@@ -299,6 +299,7 @@ fn subcommand<'a>(
         "diff" => diffs::options(alloc, taken)?,
         "make" => makes::options(alloc, taken)?,
         "hash" => hash(alloc, taken)?,
+        "explain" => explains::options(alloc, taken)?,
         "slice" => slice(alloc, taken)?,
         "split" => split(alloc, taken)?,
         "compile" => compile(alloc, taken)?,
@@ -310,7 +311,7 @@ fn subcommand<'a>(
 }
 
 /// The names of the subcommands.
-static SUBCOMMANDS: [&str; 18] = [
+static SUBCOMMANDS: [&str; 19] = [
     "show",
     "filter",
     "relay",
@@ -324,6 +325,7 @@ static SUBCOMMANDS: [&str; 18] = [
     "diff",
     "count",
     "hash",
+    "explain",
     "slice",
     "split",
     "compile",

@@ -1,17 +1,18 @@
 -- Pointers that are added to others.
 use Rattle.std.proofs.Common.{◌≡◌, ℕ, ◌+◌, ◌-◌, ◌*◌, ◌<◌, ◌≤◌, Bool, true, false, List, [], ◌∷◌, ◌++◌, length, take, get_or, Option, Some, None, Result, Ok, Err, Vec, refl, ap, sym, ◌∙◌, subst, inl, inr, arith, append-nil, append_assoc}
 use Rattle.std.specs.Prelude.{if◌then◌else◌, nat_lt}
-use Rattle.std.specs.List.{Contains, sum_by}
-use Rattle.std.specs.Option.{option_map}
+use Rattle.std.specs.List.{Contains, AllPairs, sum_by}
+use Rattle.std.proofs.lemmas.List.Quantifiers.{all_pairs_push}
+use Rattle.std.specs.Option.{option_map, unwrap_or}
 use Rattle.std.specs.Result.{result_ok, IfOk}
 use Rattle.std.specs.declared.alloc.Global.{Global}
-use Rattle.std.proofs.lemmas.Bool.{cases_lt}
+use Rattle.std.proofs.lemmas.Bool.{cases_lt, both_ways}
 use Rattle.std.proofs.lemmas.List.{take_more, take_all, take-append-le, length-append}
 use Rattle.std.proofs.lemmas.List.Sums.{sum_by_more_le, sum_by-append}
-use Rattle.std.proofs.lemmas.List.Elements.{Contains-append_left, Contains-push, Contains-push_cases, Contains-append_cases}
+use Rattle.std.proofs.lemmas.List.Elements.{Contains-get_or, Contains-append_left, Contains-push, Contains-push_cases, Contains-append_cases}
 use Rattle.capnp_model.specs.Kinds.{Kind}
 use Rattle.capnp_model.specs.Chains.{◌>>=◌, ◌provided◌}
-use Rattle.capnp_model.specs.Segments.{Segments, Place, place, root, after}
+use Rattle.capnp_model.specs.Segments.{Segments, Place, place, root, after, word_at}
 use Rattle.capnp_model.proofs.lemmas.Chaining.{bind_some, bind_found, provided_some, some_is}
 use Rattle.capnp_model.proofs.lemmas.Tests.{lt_is, is_lt, and_left, and_right, both}
 use Rattle.capnp_wire_objects.specs.declared.object.Object.{Object}
@@ -23,41 +24,110 @@ use Rattle.capnp_wire_objects.specs.Objects.{object_at}
 use Rattle.hagzimot_faults.specs.declared.steps.Step.{Step}
 use Rattle.hagzimot_faults.specs.declared.steps.Step.TheVariants as step
 use Rattle.hagzimot_faults.specs.Located.{pointer_in, pointer_after}
-use Rattle.hagzimot_explain.specs.Rows.{value_of, replaced, is_at}
+use Rattle.hagzimot_explain.specs.Rows.{value_of, for_word, replaced, is_at}
 use Rattle.hagzimot_explain.specs.Parts.{object_or_null, object_there, words_of}
 use Rattle.hagzimot_explain.specs.Reached.{IsReached, AreListed, Adds, IsInRow, IsInElements, IsPointerOf, HasPointersOf, step_cost}
-use Rattle.hagzimot_explain.proofs.RowLemmas.{same_when}
+use Rattle.hagzimot_explain.proofs.RowLemmas.{same_when, is_itself}
 
 -- ---- adding
 
-pub adds_none : (P : Pointer → Type 0) (ps : List Pointer) (seen : List (Vec Bool Global)) → AreListed seen ps → Adds P ps ps seen
-adds_none P ps seen listed = record { more = []; appends = sym (append-nil ps); each = λ p none. absurd (let some = none.1 in omega arith); listed = listed }
+pub adds_none : (P : Pointer → Type 0) (ps : List Pointer) (seen : List (Vec Bool Global)) → AreListed seen ps → Adds P ps ps seen seen
+adds_none P ps seen listed = record { more = []; appends = sym (append-nil ps); each = λ p none. absurd (let some = none.1 in omega arith); listed = listed; kept = λ q e. e }
 
-pub adds_one : (p : Pointer) (old new : List Pointer) (before seen : List (Vec Bool Global)) → new ≡ old ++ p ∷ [] → AreListed before old → ((q : Place) → value_of seen q ≡ replaced (place_view p) true q (value_of before q)) → Adds (λ x. x ≡ p) old new seen
-adds_one p old new before seen is listed changed = record {
-  more = p ∷ [];
-  appends = is;
-  each = λ x among. elim (Contains-push_cases [] p x among) [ inl none ↦ absurd (let some = none.1 in omega arith) | inr same ↦ sym same ];
-  listed = λ q h. subst (λ (ps : List Pointer). Contains ps (placed q)) (sym is) (by q h (is_at (place_view p) q) refl);
-}
-  where
-    by : (q : Place) → value_of seen q ≡ Some true → (b : Bool) → is_at (place_view p) q ≡ b → Contains (old ++ p ∷ []) (placed q)
-    by q h true e = subst (λ (x : Pointer). Contains (old ++ p ∷ []) x) (ap placed (same_when (place_view p) q e)) (Contains-push old p)
-    by q h false e = Contains-append_left old (p ∷ []) (placed q) (listed q (sym (changed q ∙ ap (λ (b : Bool). if b then option_map (λ _. true) (value_of before q) else value_of before q) e) ∙ h))
+pub seen_is : (o : Option Bool) → unwrap_or o false ≡ true → o ≡ Some true
+seen_is None e = absurd cc
+seen_is (Some true) e = refl
+seen_is (Some false) e = absurd cc
 
-pub adds_then : (P Q R : Pointer → Type 0) (a b c : List Pointer) (s t : List (Vec Bool Global)) → ((p : Pointer) → P p → R p) → ((p : Pointer) → Q p → R p) → Adds P a b s → Adds Q b c t → Adds R a c t
-adds_then P Q R a b c s t from_p from_q x y = record {
+nothing_there : (o : Option Bool) → unwrap_or o false ≡ false → (o ≡ Some false → ⊥) → o ≡ None
+nothing_there None e f = refl
+nothing_there (Some true) e f = absurd cc
+nothing_there (Some false) e f = absurd (f refl)
+
+pub listed_none : (seen : List (Vec Bool Global)) (ps : List Pointer) → ps ≡ [] → ((p : Place) → value_of seen p ≡ Some true → ⊥) → AreListed seen ps
+listed_none seen ps none never =
+    let empty : length ps ≡ 0 = ap length none in
+    record {
+      seen_in = λ p h. absurd (never p h);
+      in_seen = λ p among. absurd (let some = among.1 in omega arith);
+      once = λ i j d lt len. absurd (omega arith);
+    }
+
+if_none : (b : Bool) (o : Option Bool) → o ≡ None → (if b then option_map (λ (x : Bool). true) o else o) ≡ None
+if_none true o e = ap (option_map (λ (x : Bool). true)) e
+if_none false o e = e
+
+-- ---- one more
+
+module _ (p : Pointer) (old : List Pointer) (before seen : List (Vec Bool Global)) (listed : AreListed before old) (changed : (q : Place) → value_of seen q ≡ replaced (place_view p) true q (value_of before q)) (new : unwrap_or (value_of before (place_view p)) false ≡ false) where
+  kept_none : (q : Place) → value_of before q ≡ None → value_of seen q ≡ None
+  kept_none q e = changed q ∙ if_none (is_at (place_view p) q) (value_of before q) e
+
+  was_none : (q : Place) → value_of seen q ≡ None → value_of before q ≡ None
+  was_none q e = by (is_at (place_view p) q) refl (value_of before q) refl
+    where
+      by : (b : Bool) → is_at (place_view p) q ≡ b → (o : Option Bool) → value_of before q ≡ o → value_of before q ≡ None
+      by b f None g = g
+      by true f (Some x) g = let not : Some true ≡ None = sym (changed q ∙ ap (λ (b : Bool). if b then option_map (λ _. true) (value_of before q) else value_of before q) f ∙ ap (option_map (λ _. true)) g) ∙ e in absurd cc
+      by false f (Some x) g = let not : Some x ≡ None = sym (changed q ∙ ap (λ (b : Bool). if b then option_map (λ _. true) (value_of before q) else value_of before q) f ∙ g) ∙ e in absurd cc
+
+  seen_true : (q : Place) → value_of seen q ≡ Some true → Contains (old ++ p ∷ []) (placed q)
+  seen_true q h = by (is_at (place_view p) q) refl
+    where
+      by : (b : Bool) → is_at (place_view p) q ≡ b → Contains (old ++ p ∷ []) (placed q)
+      by true e = subst (λ (x : Pointer). Contains (old ++ p ∷ []) x) (ap placed (same_when (place_view p) q e)) (Contains-push old p)
+      by false e = Contains-append_left old (p ∷ []) (placed q) (listed.seen_in q (sym (changed q ∙ ap (λ (b : Bool). if b then option_map (λ _. true) (value_of before q) else value_of before q) e) ∙ h))
+
+  not_false : (x : Pointer) → Contains (old ++ p ∷ []) x → value_of seen (place_view x) ≡ Some false → ⊥
+  not_false x among h = by (is_at (place_view p) (place_view x)) refl (value_of before (place_view x)) refl
+    where
+      is : value_of seen (place_view x) ≡ replaced (place_view p) true (place_view x) (value_of before (place_view x))
+      is = changed (place_view x)
+
+      by : (b : Bool) → is_at (place_view p) (place_view x) ≡ b → (o : Option Bool) → value_of before (place_view x) ≡ o → ⊥
+      by true e None f = let not : None ≡ Some false = sym (is ∙ ap (λ (b : Bool). if b then option_map (λ _. true) (value_of before (place_view x)) else value_of before (place_view x)) e ∙ ap (option_map (λ _. true)) f) ∙ h in absurd cc
+      by true e (Some y) f = let not : Some true ≡ Some false = sym (is ∙ ap (λ (b : Bool). if b then option_map (λ _. true) (value_of before (place_view x)) else value_of before (place_view x)) e ∙ ap (option_map (λ _. true)) f) ∙ h in absurd cc
+      by false e o f =
+          let old_false = sym (is ∙ ap (λ (b : Bool). if b then option_map (λ _. true) (value_of before (place_view x)) else value_of before (place_view x)) e) ∙ h in
+          elim (Contains-push_cases old p x among) [
+            | inl there ↦ listed.in_seen x there old_false
+            | inr same ↦ both_ways (is_at (place_view p) (place_view x)) e (ap (λ (t : Pointer). is_at (place_view p) (place_view t)) (sym same) ∙ is_itself (place_view p))
+          ]
+
+  once_more : AllPairs (λ a b. a ≡ b → value_of seen (place_view a) ≡ None) (old ++ p ∷ [])
+  once_more = all_pairs_push (λ a b. a ≡ b → value_of seen (place_view a) ≡ None) old p (λ i j d lt len same. kept_none (place_view (get_or old i d)) (listed.once i j d lt len same)) each
+    where
+      each : (k : ℕ) (d : Pointer) → k < length old → get_or old k d ≡ p → value_of seen (place_view (get_or old k d)) ≡ None
+      each k d h same =
+          let here = ap (λ (t : Pointer). value_of before (place_view t)) same in
+          let there = Contains-get_or old k d h in
+          kept_none (place_view (get_or old k d)) (here ∙ nothing_there (value_of before (place_view p)) new (λ e. listed.in_seen (get_or old k d) there (here ∙ e)))
+
+  pub adds_one : (now : List Pointer) → now ≡ old ++ p ∷ [] → Adds (λ x. x ≡ p) old now before seen
+  adds_one now is = record {
+    more = p ∷ [];
+    appends = is;
+    each = λ x among. elim (Contains-push_cases [] p x among) [ inl none ↦ absurd (let some = none.1 in omega arith) | inr same ↦ sym same ];
+    listed = subst (AreListed seen) (sym is) (record { seen_in = seen_true; in_seen = not_false; once = once_more });
+    kept = was_none;
+  }
+
+-- ---- one after the other
+
+pub adds_then : (P Q R : Pointer → Type 0) (a b c : List Pointer) (r s t : List (Vec Bool Global)) → ((p : Pointer) → P p → R p) → ((p : Pointer) → Q p → R p) → Adds P a b r s → Adds Q b c s t → Adds R a c r t
+adds_then P Q R a b c r s t from_p from_q x y = record {
   more = x.more ++ y.more;
   appends = y.appends ∙ ap (λ (ps : List Pointer). ps ++ y.more) x.appends ∙ append_assoc a x.more y.more;
   each = λ p among. elim (Contains-append_cases x.more y.more p among) [ inl first ↦ from_p p (x.each p first) | inr last ↦ from_q p (y.each p last) ];
   listed = y.listed;
+  kept = λ q e. x.kept q (y.kept q e);
 }
 
-pub adds_as : (P R : Pointer → Type 0) (a b : List Pointer) (s : List (Vec Bool Global)) → ((p : Pointer) → P p → R p) → Adds P a b s → Adds R a b s
-adds_as P R a b s from x = record { more = x.more; appends = x.appends; each = λ p among. from p (x.each p among); listed = x.listed }
+pub adds_as : (P R : Pointer → Type 0) (a b : List Pointer) (r s : List (Vec Bool Global)) → ((p : Pointer) → P p → R p) → Adds P a b r s → Adds R a b r s
+adds_as P R a b r s from x = record { more = x.more; appends = x.appends; each = λ p among. from p (x.each p among); listed = x.listed; kept = x.kept }
 
-pub still : (P : Pointer → Type 0) (a b : List Pointer) (s : List (Vec Bool Global)) (p : Pointer) → Adds P a b s → Contains a p → Contains b p
-still P a b s p x among = subst (λ (ps : List Pointer). Contains ps p) (sym x.appends) (Contains-append_left a x.more p among)
+pub still : (P : Pointer → Type 0) (a b : List Pointer) (r s : List (Vec Bool Global)) (p : Pointer) → Adds P a b r s → Contains a p → Contains b p
+still P a b r s p x among = subst (λ (ps : List Pointer). Contains ps p) (sym x.appends) (Contains-append_left a x.more p among)
 
 -- ---- rows
 
@@ -172,13 +242,13 @@ root_reached : (s : Segments) → IsReached s root
 unfolding pointer_after
 root_reached s = ([], refl)
 
-pub first_reached : (s : Segments) (old new : List Pointer) (seen : List (Vec Bool Global)) → old ≡ [] → Adds (λ p. p ≡ placed root) old new seen → (p : Pointer) → Contains new p → IsReached s (place_view p)
-first_reached s old new seen none adds p among =
+pub first_reached : (s : Segments) (old new : List Pointer) (before_seen seen : List (Vec Bool Global)) → old ≡ [] → Adds (λ p. p ≡ placed root) old new before_seen seen → (p : Pointer) → Contains new p → IsReached s (place_view p)
+first_reached s old new before_seen seen none adds p among =
     let is : new ≡ adds.more = adds.appends ∙ ap (λ (ps : List Pointer). ps ++ adds.more) none in
     subst (λ (x : Pointer). IsReached s (place_view x)) (sym (adds.each p (subst (λ (ps : List Pointer). Contains ps p) is among))) (root_reached s)
 
-pub more_reached : (s : Segments) (p : Pointer) (o : Object) (old new : List Pointer) (seen : List (Vec Bool Global)) → o ≡ object_there s (place_view p) → Contains old p → Adds (IsPointerOf o) old new seen → ((x : Pointer) → Contains old x → IsReached s (place_view x)) → (x : Pointer) → Contains new x → IsReached s (place_view x)
-more_reached s p o old new seen its here adds before x among = elim (Contains-append_cases old adds.more x (subst (λ (ps : List Pointer). Contains ps x) adds.appends among)) [
+pub more_reached : (s : Segments) (p : Pointer) (o : Object) (old new : List Pointer) (before_seen seen : List (Vec Bool Global)) → o ≡ object_there s (place_view p) → Contains old p → Adds (IsPointerOf o) old new before_seen seen → ((x : Pointer) → Contains old x → IsReached s (place_view x)) → (x : Pointer) → Contains new x → IsReached s (place_view x)
+more_reached s p o old new before_seen seen its here adds before x among = elim (Contains-append_cases old adds.more x (subst (λ (ps : List Pointer). Contains ps x) adds.appends among)) [
   | inl there ↦ before x there
   | inr added ↦
       let a = adds.each x added in
@@ -187,26 +257,26 @@ more_reached s p o old new seen its here adds before x among = elim (Contains-ap
 ]
 
 -- One more of the pointers so far.
-one_more : (P : Pointer → Type 0) (old new : List Pointer) (seen : List (Vec Bool Global)) (i : ℕ) (p : Pointer) → i < length old → p ≡ get_or old i p → Adds P old new seen → take (i + 1) new ≡ take i old ++ p ∷ []
-one_more P old new seen i p h is adds = ap (take (i + 1)) adds.appends ∙ take-append-le (i + 1) old adds.more (omega arith) ∙ take_more old i p h ∙ ap (λ (x : Pointer). take i old ++ x ∷ []) (sym is)
+one_more : (P : Pointer → Type 0) (old new : List Pointer) (before_seen seen : List (Vec Bool Global)) (i : ℕ) (p : Pointer) → i < length old → p ≡ get_or old i p → Adds P old new before_seen seen → take (i + 1) new ≡ take i old ++ p ∷ []
+one_more P old new before_seen seen i p h is adds = ap (take (i + 1)) adds.appends ∙ take-append-le (i + 1) old adds.more (omega arith) ∙ take_more old i p h ∙ ap (λ (x : Pointer). take i old ++ x ∷ []) (sym is)
 
-pub more_closed : (s : Segments) (i : ℕ) (p : Pointer) (o : Object) (old new : List Pointer) (seen : List (Vec Bool Global)) → i < length old → p ≡ get_or old i p → o ≡ object_there s (place_view p) → Adds (IsPointerOf o) old new seen → HasPointersOf o new → ((x : Pointer) → Contains (take i old) x → HasPointersOf (object_there s (place_view x)) old) → (x : Pointer) → Contains (take (i + 1) new) x → HasPointersOf (object_there s (place_view x)) new
-more_closed s i p o old new seen h is its adds has before x among = elim (Contains-push_cases (take i old) p x (subst (λ (ps : List Pointer). Contains ps x) (one_more (IsPointerOf o) old new seen i p h is adds) among)) [
-  | inl there ↦ λ y q inside. still (IsPointerOf o) old new seen (placed q) adds (before x there y q inside)
+pub more_closed : (s : Segments) (i : ℕ) (p : Pointer) (o : Object) (old new : List Pointer) (before_seen seen : List (Vec Bool Global)) → i < length old → p ≡ get_or old i p → o ≡ object_there s (place_view p) → Adds (IsPointerOf o) old new before_seen seen → HasPointersOf o new → ((x : Pointer) → Contains (take i old) x → HasPointersOf (object_there s (place_view x)) old) → (x : Pointer) → Contains (take (i + 1) new) x → HasPointersOf (object_there s (place_view x)) new
+more_closed s i p o old new before_seen seen h is its adds has before x among = elim (Contains-push_cases (take i old) p x (subst (λ (ps : List Pointer). Contains ps x) (one_more (IsPointerOf o) old new before_seen seen i p h is adds) among)) [
+  | inl there ↦ λ y q inside. still (IsPointerOf o) old new before_seen seen (placed q) adds (before x there y q inside)
   | inr same ↦ subst (λ (t : Pointer). HasPointersOf (object_there s (place_view t)) new) same (subst (λ (o : Object). HasPointersOf o new) its has)
 ]
 
 zero_first : (n : ℕ) → 0 + n ≡ n
 zero_first n = omega arith
 
-pub more_spent : (s : Segments) (P : Pointer → Type 0) (i : ℕ) (p : Pointer) (old new : List Pointer) (seen : List (Vec Bool Global)) (left cost words : ℕ) → i < length old → p ≡ get_or old i p → Adds P old new seen → cost ≡ step_cost s p → cost ≤ left → left + sum_by (step_cost s) (take i old) ≡ words → (left - cost) + sum_by (step_cost s) (take (i + 1) new) ≡ words
-more_spent s P i p old new seen left cost words h is adds price enough before =
-    let all = ap (sum_by (step_cost s)) (one_more P old new seen i p h is adds) ∙ sum_by-append (step_cost s) (take i old) (p ∷ []) in
+pub more_spent : (s : Segments) (P : Pointer → Type 0) (i : ℕ) (p : Pointer) (old new : List Pointer) (before_seen seen : List (Vec Bool Global)) (left cost words : ℕ) → i < length old → p ≡ get_or old i p → Adds P old new before_seen seen → cost ≡ step_cost s p → cost ≤ left → left + sum_by (step_cost s) (take i old) ≡ words → (left - cost) + sum_by (step_cost s) (take (i + 1) new) ≡ words
+more_spent s P i p old new before_seen seen left cost words h is adds price enough before =
+    let all = ap (sum_by (step_cost s)) (one_more P old new before_seen seen i p h is adds) ∙ sum_by-append (step_cost s) (take i old) (p ∷ []) in
     let one : sum_by (step_cost s) (p ∷ []) ≡ step_cost s p = zero_first (step_cost s p) in
     omega (arith, all, one)
 
-pub more_within : (P : Pointer → Type 0) (i : ℕ) (old new : List Pointer) (seen : List (Vec Bool Global)) → i < length old → Adds P old new seen → i + 1 ≤ length new
-more_within P i old new seen h adds = omega (arith, ap length adds.appends, length-append old adds.more)
+pub more_within : (P : Pointer → Type 0) (i : ℕ) (old new : List Pointer) (before_seen seen : List (Vec Bool Global)) → i < length old → Adds P old new before_seen seen → i + 1 ≤ length new
+more_within P i old new before_seen seen h adds = omega (arith, ap length adds.appends, length-append old adds.more)
 
 pub too_dear : (s : Segments) (i : ℕ) (p : Pointer) (ps : List Pointer) (left cost words : ℕ) → i < length ps → p ≡ get_or ps i p → cost ≡ step_cost s p → left < cost → left + sum_by (step_cost s) (take i ps) ≡ words → words < sum_by (step_cost s) ps
 too_dear s i p ps left cost words h is price dear before =
@@ -224,3 +294,13 @@ found_there s t p o same its = its ∙ ap (λ (u : Segments). object_there u p) 
 
 pub price_is : (s : Segments) (p : Pointer) (o : Object) (n : ℕ) → o ≡ object_there s (place_view p) → n ≡ words_of o → n + 1 ≡ step_cost s p
 price_is s p o n its is = ap (λ (m : ℕ). m + 1) (is ∙ ap words_of its)
+
+pub absent_first : (s : Segments) (n : ℕ) (rows seen : List (Vec Bool Global)) → ((q : Place) → q.segment < n → value_of rows q ≡ for_word s q false) → ((q : Place) → value_of seen q ≡ None → value_of rows q ≡ None) → (q : Place) → q.segment < n → value_of seen q ≡ None → word_at s q ≡ None
+absent_first s n rows seen words kept q h e = by (word_at s q) refl
+  where
+    by : (o : Option ℕ) → word_at s q ≡ o → word_at s q ≡ None
+    by None f = f
+    by (Some w) f = let not : Some false ≡ None = sym (ap (λ (o : Option ℕ). o >>= λ _. Some false) f) ∙ sym (words q h) ∙ kept q e in absurd cc
+
+pub once_there : (s : Segments) (n : ℕ) (seen : List (Vec Bool Global)) (ps : List Pointer) → AreListed seen ps → ((q : Place) → q.segment < n → value_of seen q ≡ None → word_at s q ≡ None) → AllPairs (λ p q. p ≡ q → p.segment < n → word_at s (place_view p) ≡ None) ps
+once_there s n seen ps listed absent i j d lt len same small = absent (place_view (get_or ps i d)) small (listed.once i j d lt len same)

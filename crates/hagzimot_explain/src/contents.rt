@@ -1,4 +1,4 @@
-//! What a pointer's word says by itself.
+//! Pointers' words by themselves.
 ghost use Rattle.std.specs.Prelude.{◌≡◌};
 ghost use Rattle.capnp_model.specs.Pointers.{pointer_of};
 ghost use Rattle.hagzimot_explain.specs.Contents.{contents_view};
@@ -13,7 +13,7 @@ const UPPER_HALF: u64 = 0x1_0000_0000;
 /// The number of sizes of a struct's section, in sixteen bits.
 const SECTION_SIZES: u64 = 0x1_0000;
 
-/// What a pointer's word says by itself. An offset is its thirty bits, unchanged.
+/// A pointer's word by itself. An offset is its thirty bits, unchanged.
 #[derive(Clone, Copy, Debug, PartialEq, Eq)]
 pub enum Contents {
     Struct {

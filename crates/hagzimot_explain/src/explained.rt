@@ -10,7 +10,7 @@ use capnp_units::segments::ReaderSegments;
 use capnp_wire_objects::arena::ReaderArenaImpl;
 use std::alloc::{AllocError, Global};
 
-/// What the words of a message are.
+/// The words of a message, with what they are.
 #[derive(Debug, Drop)]
 pub struct Explanation {
     /// The words of each segment.

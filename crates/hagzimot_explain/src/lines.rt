@@ -159,15 +159,20 @@ fn bytes_text(alloc: Global, word: u64, count: u64) -> Result<String, AllocError
 }
 
 /// Returns which elements of a list of plain elements a word has.
-fn plain_text(alloc: Global, word: u64, object: Object, index: u64) -> Result<String, AllocError> {
+fn plain_text(
+    alloc: Global,
+    word: u64,
+    object: Object,
+    index: u64,
+    start: &str,
+) -> Result<String, AllocError> {
     let Object::List { size, count, .. } = object else {
-        return String::from_str(alloc, "word");
+        return format!(in alloc; "word {index} of the list at {start}");
     };
-    let count = count as u64;
     let bits = (data_bits_per_element(size) as u64).max(1);
     let in_word = 64 / bits;
     let first = index.saturating_mul(in_word);
-    let end = first.saturating_add(in_word).min(count);
+    let end = first.saturating_add(in_word).min(count as u64);
     let last = end.saturating_sub(1);
     let name = match size {
         ElementSize::Bit => "bit",
@@ -177,15 +182,15 @@ fn plain_text(alloc: Global, word: u64, object: Object, index: u64) -> Result<St
         _ => "8-byte element",
     };
     let which = if first == last {
-        format!(in alloc; "{name} {first}")?
+        format!(in alloc; "{name} {first} of the list at {start}")?
     } else {
-        format!(in alloc; "{name}s {first} to {last}")?
+        format!(in alloc; "{name}s {first} to {last} of the list at {start}")?
     };
-    if size == ElementSize::Byte {
-        let bytes = bytes_text(alloc, word, end.saturating_sub(first))?;
-        return format!(in alloc; "\"{bytes}\", {which}");
+    if size != ElementSize::Byte {
+        return Ok(which);
     }
-    Ok(which)
+    let bytes = bytes_text(alloc, word, end.saturating_sub(first))?;
+    format!(in alloc; "{which}: \"{bytes}\"")
 }
 
 /// Returns what the tag of a list of structs says.
@@ -197,11 +202,12 @@ fn tag_text(alloc: Global, object: Object) -> Result<String, AllocError> {
         ..
     } = object
     else {
-        return String::from_str(alloc, "tag");
+        return String::from_str(alloc, "nothing");
     };
     let structs = some(alloc, count as u64, "struct", "structs")?;
-    let sizes = sizes_text(alloc, data_words, pointers)?;
-    format!(in alloc; "tag of {structs} of {sizes}")
+    let data = some(alloc, data_words as u64, "data word", "data words")?;
+    let pointers = some(alloc, pointers as u64, "pointer", "pointers")?;
+    format!(in alloc; "{structs} of {data} and {pointers}")
 }
 
 /// Returns which pointer of an object one is.
@@ -233,13 +239,10 @@ fn part_text<A: ReaderArena>(
             let says = pointer_text(alloc, arena, place)?;
             format!(in alloc; "{which}: {says}")
         }
-        Part::Elements { index } => {
-            let which = plain_text(alloc, word, object, index)?;
-            format!(in alloc; "{which} of the list at {start}")
-        }
+        Part::Elements { index } => plain_text(alloc, word, object, index, start.as_str()),
         Part::Tag => {
             let tag = tag_text(alloc, object)?;
-            format!(in alloc; "{tag}, of the list at {start}")
+            format!(in alloc; "tag of the list at {start}: {tag}")
         }
         Part::ElementData { element, index } => {
             format!(in alloc; "data word {index} of element {element} of the list at {start}")

@@ -1,4 +1,4 @@
-//! What a word of a message is.
+//! Marks: what a word of a message is.
 use capnp_wire_objects::place::Place;
 use hagzimot_faults::steps::Step;
 
@@ -19,7 +19,7 @@ pub enum Part {
     Unfilled,
 }
 
-/// What a word is.
+/// A word's place in a message: in the object or the landing pad of a pointer.
 #[derive(Clone, Copy, Debug, PartialEq, Eq)]
 pub enum Mark {
     /// No pointer that was followed leads to the word.
@@ -35,7 +35,7 @@ pub enum Mark {
 /// A word of a message.
 #[derive(Clone, Copy, Debug, PartialEq, Eq)]
 pub struct Word {
-    /// What the word is to the first pointer that leads to it.
+    /// The word's mark by the first pointer that leads to it.
     pub mark: Mark,
     /// Whether the word is something to another pointer too.
     pub again: bool,

@@ -27,10 +27,10 @@ pub struct Pointers {
 fn add(places: &mut Vec<Place>, seen: &mut Vec<Vec<bool>>, place: Place) -> Result<(), AllocError>
     requires { AreListed seen.now.items places.now.items }
     ensures adds { IfOk result (λ u. Adds (λ p. p ≡ place) places.old.items places.new.items
-        seen.new.items) }
+        seen.old.items seen.new.items) }
     ensures has { IfOk result (λ u. Contains places.new.items place) }
 {
-    if let Some(true) = value_at(seen, place) {
+    if value_at(seen, place).unwrap_or(false) {
         return Ok(());
     }
     places.push(place)?;
@@ -48,7 +48,7 @@ fn add_row(
     requires listed { AreListed seen.now.items places.now.items }
     requires near { first.position + count < 2 ^ 62 }
     ensures adds { IfOk result (λ u. Adds (IsInRow (place_view first) count) places.old.items
-        places.new.items seen.new.items) }
+        places.new.items seen.old.items seen.new.items) }
     ensures has { IfOk result (λ u. (i : ℕ) → i < count
         → Contains places.new.items (placed (after (place_view first) i))) }
 {
@@ -75,7 +75,7 @@ fn add_elements(
     requires near { start.position + count * (data_words + pointers) < 2 ^ 61 }
     ensures adds { IfOk result (λ u. Adds
         (IsInElements (place_view start) count data_words pointers) places.old.items
-        places.new.items seen.new.items) }
+        places.new.items seen.old.items seen.new.items) }
     ensures has { IfOk result (λ u. (e i : ℕ) → e < count → i < pointers
         → Contains places.new.items (placed (after (place_view start)
         (e * (data_words + pointers) + data_words + i)))) }
@@ -103,7 +103,7 @@ fn add_inside(
     requires listed { AreListed seen.now.items places.now.items }
     requires near { (s : Segments) × IsInside s object }
     ensures adds { IfOk result (λ u. Adds (IsPointerOf object) places.old.items places.new.items
-        seen.new.items) }
+        seen.old.items seen.new.items) }
     ensures has { IfOk result (λ u. HasPointersOf object places.new.items) }
 {
     match object {

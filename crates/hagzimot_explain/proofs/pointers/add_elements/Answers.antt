@@ -18,6 +18,6 @@ loop-i-preserved c =
     let new = c.add_row.new.places.items in
     let row = place start.segment (start.position + n * (d + k) + d) in
     record {
-      adds = adds_then (IsInElements start n d k) (IsInRow row k) (IsInElements start (n + 1) d k) c.args.places.now.items c.loop-i.places.items new c.loop-i.seen.items c.add_row.new.seen.items (elements_longer start n d k) (element_row start n d k) c.loop-i.invariant.adds added;
-      has = elements_have start n d k new (λ e i h w. still (IsInRow row k) c.loop-i.places.items new c.add_row.new.seen.items (placed (after start (e * (d + k) + d + i))) added (c.loop-i.invariant.has e i h w)) c.in_ok-add_row.ensures.has;
+      adds = adds_then (IsInElements start n d k) (IsInRow row k) (IsInElements start (n + 1) d k) c.args.places.now.items c.loop-i.places.items new c.args.seen.now.items c.loop-i.seen.items c.add_row.new.seen.items (elements_longer start n d k) (element_row start n d k) c.loop-i.invariant.adds added;
+      has = elements_have start n d k new (λ e i h w. still (IsInRow row k) c.loop-i.places.items new c.loop-i.seen.items c.add_row.new.seen.items (placed (after start (e * (d + k) + d + i))) added (c.loop-i.invariant.has e i h w)) c.in_ok-add_row.ensures.has;
     }

@@ -8,6 +8,6 @@ use Rattle.hagzimot_explain.proofs.pointers.add_elements.Given as goal
 
 abbrev pub invariant-loop-i : goal.invariant-loop-i
 invariant-loop-i l = record {
-  adds : Adds (IsInElements (place_view l.start) l.i l.data_words l.pointers) l.fn.places.items l.places.items l.seen.items;
+  adds : Adds (IsInElements (place_view l.start) l.i l.data_words l.pointers) l.fn.places.items l.places.items l.fn.seen.items l.seen.items;
   has : (e : ℕ) (i : ℕ) → e < l.i → i < l.pointers → Contains l.places.items (placed (after (place_view l.start) (e * (l.data_words + l.pointers) + l.data_words + i)));
 }

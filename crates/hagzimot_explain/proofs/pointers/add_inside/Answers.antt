@@ -13,10 +13,11 @@ returns-in-Struct-clause-adds c =
     let d = c.in-Struct.data_words in
     let k = c.in-Struct.pointers in
     let old = c.args.places.now.items in
+    let before = c.args.seen.now.items in
     let new = c.add_row.new.places.items in
     let seen = c.add_row.new.seen.items in
     let row = place p.segment (p.position + d) in
-    rw c.in-Struct.is (if_ok_as c.add_row.result (Adds (IsInRow row k) old new seen) (Adds (IsPointerOf (object.Struct p d k)) old new seen) (adds_as (IsInRow row k) (IsPointerOf (object.Struct p d k)) old new seen (struct_pointer p d k)) c.add_row.ensures.adds)
+    rw c.in-Struct.is (if_ok_as c.add_row.result (Adds (IsInRow row k) old new before seen) (Adds (IsPointerOf (object.Struct p d k)) old new before seen) (adds_as (IsInRow row k) (IsPointerOf (object.Struct p d k)) old new before seen (struct_pointer p d k)) c.add_row.ensures.adds)
 
 pub returns-in-Struct-clause-has : goal.returns-in-Struct-clause-has
 returns-in-Struct-clause-has c =
@@ -32,9 +33,10 @@ returns-in-PointerList-clause-adds c =
     let p = c.in-PointerList.start in
     let n = c.in-PointerList.count in
     let old = c.args.places.now.items in
+    let before = c.args.seen.now.items in
     let new = c.add_row-in-PointerList.new.places.items in
     let seen = c.add_row-in-PointerList.new.seen.items in
-    rw c.in-PointerList.is (if_ok_as c.add_row-in-PointerList.result (Adds (IsInRow (place_view p) n) old new seen) (Adds (IsPointerOf (object.PointerList p n)) old new seen) (adds_as (IsInRow (place_view p) n) (IsPointerOf (object.PointerList p n)) old new seen (list_pointer p n)) c.add_row-in-PointerList.ensures.adds)
+    rw c.in-PointerList.is (if_ok_as c.add_row-in-PointerList.result (Adds (IsInRow (place_view p) n) old new before seen) (Adds (IsPointerOf (object.PointerList p n)) old new before seen) (adds_as (IsInRow (place_view p) n) (IsPointerOf (object.PointerList p n)) old new before seen (list_pointer p n)) c.add_row-in-PointerList.ensures.adds)
 
 pub returns-in-PointerList-clause-has : goal.returns-in-PointerList-clause-has
 returns-in-PointerList-clause-has c =
@@ -51,9 +53,10 @@ returns-in-StructList-clause-adds c =
     let d = c.in-StructList.data_words in
     let k = c.in-StructList.pointers in
     let old = c.args.places.now.items in
+    let before = c.args.seen.now.items in
     let new = c.add_elements.new.places.items in
     let seen = c.add_elements.new.seen.items in
-    rw c.in-StructList.is (if_ok_as c.add_elements.result (Adds (IsInElements (place_view p) n d k) old new seen) (Adds (IsPointerOf (object.StructList p w n d k)) old new seen) (adds_as (IsInElements (place_view p) n d k) (IsPointerOf (object.StructList p w n d k)) old new seen (structs_pointer p w n d k)) c.add_elements.ensures.adds)
+    rw c.in-StructList.is (if_ok_as c.add_elements.result (Adds (IsInElements (place_view p) n d k) old new before seen) (Adds (IsPointerOf (object.StructList p w n d k)) old new before seen) (adds_as (IsInElements (place_view p) n d k) (IsPointerOf (object.StructList p w n d k)) old new before seen (structs_pointer p w n d k)) c.add_elements.ensures.adds)
 
 pub returns-in-StructList-clause-has : goal.returns-in-StructList-clause-has
 returns-in-StructList-clause-has c =

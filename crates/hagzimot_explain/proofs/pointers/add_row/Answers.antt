@@ -15,8 +15,8 @@ loop-i-preserved c =
     let added = c.in_ok-add.ensures.adds in
     let new = c.add.new.places.items in
     record {
-      adds = adds_then (IsInRow first i) (λ p. p ≡ placed (after first i)) (IsInRow first (i + 1)) c.args.places.now.items c.loop-i.places.items new c.loop-i.seen.items c.add.new.seen.items (row_longer first i) (row_end first i) c.loop-i.invariant.adds added;
-      has = row_has first i new (λ k h. still (λ p. p ≡ placed (after first i)) c.loop-i.places.items new c.add.new.seen.items (placed (after first k)) added (c.loop-i.invariant.has k h)) c.in_ok-add.ensures.has;
+      adds = adds_then (IsInRow first i) (λ p. p ≡ placed (after first i)) (IsInRow first (i + 1)) c.args.places.now.items c.loop-i.places.items new c.args.seen.now.items c.loop-i.seen.items c.add.new.seen.items (row_longer first i) (row_end first i) c.loop-i.invariant.adds added;
+      has = row_has first i new (λ k h. still (λ p. p ≡ placed (after first i)) c.loop-i.places.items new c.loop-i.seen.items c.add.new.seen.items (placed (after first k)) added (c.loop-i.invariant.has k h)) c.in_ok-add.ensures.has;
     }
 
 pub add-requires : goal.add-requires

@@ -8,6 +8,6 @@ use Rattle.hagzimot_explain.proofs.pointers.add_row.Given as goal
 
 abbrev pub invariant-loop-i : goal.invariant-loop-i
 invariant-loop-i l = record {
-  adds : Adds (IsInRow (place_view l.first) l.i) l.fn.places.items l.places.items l.seen.items;
+  adds : Adds (IsInRow (place_view l.first) l.i) l.fn.places.items l.places.items l.fn.seen.items l.seen.items;
   has : (i : ℕ) → i < l.i → Contains l.places.items (placed (after (place_view l.first) i));
 }
