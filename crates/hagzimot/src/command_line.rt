@@ -9,7 +9,7 @@ use crate::options::{Options, Taken};
 use crate::picking_words::{edited, filter, hash, with_picks};
 use crate::proof_statement::VERSION;
 use crate::schema_commands::{check, compatible, compile, id, schema_file};
-use crate::{diffs, makes, redacts, salvage};
+use crate::{diffs, explains, makes, redacts, salvage};
 use clap::{Arg, ArgAction, Command};
 use std::alloc::{AllocError, Global};
 
@@ -299,6 +299,7 @@ fn subcommand<'a>(
         "diff" => diffs::options(alloc, taken)?,
         "make" => makes::options(alloc, taken)?,
         "hash" => hash(alloc, taken)?,
+        "explain" => explains::options(alloc, taken)?,
         "slice" => slice(alloc, taken)?,
         "split" => split(alloc, taken)?,
         "salvage" => salvage::options(alloc, taken)?,
@@ -311,7 +312,7 @@ fn subcommand<'a>(
 }
 
 /// The names of the subcommands.
-static SUBCOMMANDS: [&str; 19] = [
+static SUBCOMMANDS: [&str; 20] = [
     "show",
     "filter",
     "relay",
@@ -325,6 +326,7 @@ static SUBCOMMANDS: [&str; 19] = [
     "diff",
     "count",
     "hash",
+    "explain",
     "slice",
     "split",
     "salvage",

@@ -13,6 +13,7 @@ mod arguments;
 mod command_line;
 mod compile;
 mod diffs;
+mod explains;
 mod faults;
 mod files;
 mod filter;
@@ -74,6 +75,7 @@ fn run_subcommand(rt: &HostRuntime, matches: &ArgMatches<'_>) -> Result<u8, Fail
         Some(("show", words)) => shows::show(rt, words),
         Some(("filter", words)) => filter::filter(rt, words),
         Some(("hash", words)) => filter::hash(rt, words),
+        Some(("explain", words)) => explains::explain(rt, words),
         Some(("check", words)) => reports::check(rt, words),
         Some(("schema", words)) => reports::schema(rt, words),
         Some(("compatible", words)) => versions::compatible(rt, words),

@@ -1,0 +1,6 @@
+pub mod Rows
+pub mod Parts
+pub mod Contents
+pub mod Marks
+pub mod Reached
+pub mod Explanations
