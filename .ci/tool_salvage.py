@@ -166,6 +166,24 @@ def other_places(trial, messages):
     trial.check("a list at the root", garbage[:8] + listed + stream, messages, [(0, 8 + len(listed))])
 
 
+def whole_blocks(trial, messages):
+    """Blocks that are overwritten or missing: each other message is kept, and at most one that is damaged."""
+    stream, starts = joined(messages)
+    at = starts[MIDDLE] + 8
+    blocks = {"zeros": bytes(512), "text": b"overwritten text" * 32, "words of one": struct.pack("<Q", 1) * 64}
+    given = {what: with_bytes(stream, at, new) for what, new in blocks.items()}
+    given["nothing"] = stream[:at] + stream[at + 512 :]
+    for what, bad in given.items():
+        # A table before all is overwritten too, so that there is a fault.
+        bad = b"\xff" * 8 + bad[8:]
+        status, out, lines = trial.run(bad)
+        first = b"".join(messages[1:MIDDLE])
+        last = b"".join(one for one, start in zip(messages, starts) if start >= at + 512)
+        most = len(first) + len(last) + len(messages[MIDDLE])
+        if status != 3 or not out.startswith(first) or not out.endswith(last) or len(out) > most:
+            trial.faults.append(f"a block of {what}: status {status}, {len(out)} bytes for {len(first) + len(last)}, {lines[:4]}")
+
+
 def without_faults(trial, messages):
     """What has no fault goes out as it is, and what is no stream of framed messages is refused."""
     stream, starts = joined(messages)
@@ -238,6 +256,7 @@ def main():
         single_faults(trial, messages)
         several_faults(trial, messages)
         other_places(trial, messages)
+        whole_blocks(trial, messages)
         without_faults(trial, messages)
         outputs(trial, messages)
         hostile(trial)

@@ -1,11 +1,12 @@
 -- What pieces say of a stream as a whole.
-use Rattle.std.proofs.Common.{◌≡◌, ℕ, ◌<◌, List, [], ◌∷◌, ◌++◌, length, take, drop, Some, Result, Ok, Err, refl, sym, ◌∙◌, ap, subst, arith, append_assoc, append-nil, length-append, length-drop}
+use Rattle.std.proofs.Common.{◌≡◌, ◌⊎◌, inl, inr, ℕ, zero, suc, ◌-◌, ◌+◌, ◌≤◌, ◌<◌, List, [], ◌∷◌, ◌++◌, length, take, drop, Some, Result, Ok, Err, refl, sym, ◌∙◌, ap, subst, arith, append_assoc, append-nil, length-append, length-drop}
 use Rattle.std.specs.Prelude.{All, IsErr, slice_range}
 use Rattle.std.specs.List.{flat_map}
 use Rattle.std.specs.declared.option.Option.{Option}
 use Rattle.std.proofs.lemmas.List.{drop_all, take_at}
 use Rattle.std.proofs.lemmas.List.Elements.{All-nil, All-cons}
 use Rattle.std.proofs.lemmas.List.Folds.{drop_split}
+use Rattle.capnp_model.proofs.lemmas.Lists.{take-all}
 use Rattle.capnp_model.specs.Kinds.{Kind}
 use Rattle.capnp_model.specs.Segments.{Segments}
 use Rattle.capnp_model.specs.Messages.{plain_words, frame_at, message_at}
@@ -15,7 +16,7 @@ use Rattle.capnp_model.proofs.lemmas.MessagePrefixes.{framed_at_more}
 use Rattle.hagzimot_salvage.specs.declared.roots.SalvageLimits.{SalvageLimits}
 use Rattle.hagzimot_salvage.specs.declared.pieces.Piece.{Piece}
 use Rattle.hagzimot_salvage.specs.declared.pieces.Piece.TheVariants as piece
-use Rattle.hagzimot_salvage.specs.Pieces.{IsRun, ArePieces, IsWithin, bytes_of, kept_bytes, kept_count}
+use Rattle.hagzimot_salvage.specs.Pieces.{BeginSettled, IsSettledRun, AreAll, IsCut, whole_stream, IsRun, ArePieces, IsWithin, bytes_of, kept_bytes, kept_count}
 
 -- ---- pieces cover their bytes
 
@@ -68,10 +69,16 @@ same_front x y r e =
     let n : length x ≡ length y = omega (arith, ap length e, length-append x r, length-append y r) in
     sym (take_at x r (length y) n) ∙ ap (take (length y)) e ∙ take_at y r (length y) refl
 
+-- Settled messages are messages.
+as_messages : (l : SalvageLimits) (bytes : List ℕ) (messages : List Segments) (rest : List ℕ) → BeginSettled l bytes messages rest → BeginWith plain_words (Some l.message_words) bytes messages rest
+as_messages l bytes [] rest begins = begins
+as_messages l bytes (s ∷ messages) rest begins = (begins.0, begins.1, as_messages l begins.0 messages rest begins.3)
+
 -- The messages of a run are the text between its ends.
-run_text : HasFronts → (limit : ℕ) (bytes : List ℕ) (at end count : ℕ) → (run : IsRun limit bytes at end count) → BeginWith plain_words (Some limit) (slice_range bytes at end) run.messages []
-run_text fronts limit bytes at end count run =
-    let found = text_of fronts (Some limit) (drop at bytes) run.messages (drop end bytes) run.begins in
+run_text : HasFronts → (l : SalvageLimits) (bytes : List ℕ) (at end count : ℕ) → (run : IsSettledRun l bytes at end count) → BeginWith plain_words (Some l.message_words) (slice_range bytes at end) run.messages []
+run_text fronts l bytes at end count run =
+    let limit = l.message_words in
+    let found = text_of fronts (Some limit) (drop at bytes) run.messages (drop end bytes) (as_messages l (drop at bytes) run.messages (drop end bytes) run.begins) in
     let same : found.0 ≡ slice_range bytes at end = same_front found.0 (slice_range bytes at end) (drop end bytes) (sym found.1 ∙ drop_split bytes at end run.order) in
     subst (λ (l : List ℕ). BeginWith plain_words (Some limit) l run.messages []) same found.2
 
@@ -84,7 +91,7 @@ kept_stream fronts l bytes from (piece.Messages a e n ∷ ps) to are =
     let number = run.number in
     let more = others.2 in (
       run.messages ++ others.0,
-      both_begin fronts (Some l.message_words) (slice_range bytes a e) run.messages (kept_bytes bytes ps) others.0 (run_text fronts l.message_words bytes a e n run) others.1,
+      both_begin fronts (Some l.message_words) (slice_range bytes a e) run.messages (kept_bytes bytes ps) others.0 (run_text fronts l bytes a e n run) others.1,
       omega (arith, length-append run.messages others.0, number, more),
     )
 kept_stream fronts l bytes from (piece.Gap a e ∷ ps) to are = kept_stream fronts l bytes e ps to are.2
@@ -114,15 +121,46 @@ none_begins : (limit : Option ℕ) (b : List ℕ) (all : List Segments) → Begi
 none_begins limit b [] whole some gap = omega (arith, ap length whole, some)
 none_begins limit b (s ∷ all) whole some gap = absurd (cc (subst (λ (r : Result (Segments × List ℕ) Kind). IsErr r) whole.1 gap))
 
-pub unchanged : (l : SalvageLimits) (bytes : List ℕ) (from : ℕ) (ps : List Piece) → ArePieces l bytes from ps (length bytes) → (all : List Segments) → BeginWith plain_words (Some l.message_words) (drop from bytes) all [] → kept_bytes bytes ps ≡ drop from bytes
-unchanged l bytes from [] are all whole = sym (drop_all from bytes (omega (arith, are)))
-unchanged l bytes from (piece.Messages a e n ∷ ps) are all whole =
-    let run = are.2 in
-    let here = subst (λ (m : ℕ). BeginWith plain_words (Some l.message_words) (drop m bytes) all []) (sym are.0) whole in
-    let others = rest_of (Some l.message_words) (drop a bytes) run.messages (drop e bytes) all run.begins here in
-    ap (λ (x : List ℕ). slice_range bytes a e ++ x) (unchanged l bytes e ps are.3 others.0 others.1) ∙ sym (drop_split bytes a e run.order) ∙ ap (λ (m : ℕ). drop m bytes) are.0
-unchanged l bytes from (piece.Gap a e ∷ ps) are all whole =
-    let here = subst (λ (m : ℕ). BeginWith plain_words (Some l.message_words) (drop m bytes) all []) (sym are.0) whole in
-    let more = are.1.1.more in
-    let inside = are.1.1.inside in
-    absurd (none_begins (Some l.message_words) (drop a bytes) all here (omega (arith, length-drop a bytes, more, inside)) are.1.0)
+-- What begins with messages up to a fault is no stream without one.
+pub has_fault : (l : SalvageLimits) (bytes : List ℕ) (end count : ℕ) → IsRun l.message_words bytes 0 end count → end < length bytes → (messages : List Segments) → AreAll l bytes messages → ⊥
+has_fault l bytes end count run below messages all =
+    let limit = Some l.message_words in
+    let others = rest_of limit bytes run.messages (drop end bytes) messages run.begins all in
+    none_begins limit (drop end bytes) others.0 others.1 (omega (arith, length-drop end bytes, below)) run.stops
+
+-- A run up to the end is the whole stream.
+pub is_all : (l : SalvageLimits) (bytes : List ℕ) (end count : ℕ) → (run : IsRun l.message_words bytes 0 end count) → length bytes ≤ end → AreAll l bytes run.messages
+is_all l bytes end count run above = subst (λ (x : List ℕ). BeginWith plain_words (Some l.message_words) bytes run.messages x) (drop_all end bytes above) run.begins
+
+pub cut_within : (l : SalvageLimits) (bytes : List ℕ) (ps : List Piece) → IsCut l bytes ps → All (IsWithin bytes) ps
+cut_within l bytes ps (inl w) = by (length w.0) ps w.2
+  where
+    by : (n : ℕ) (ps : List Piece) → ps ≡ whole_stream (length bytes) n → All (IsWithin bytes) ps
+    by zero ps e = subst (λ (x : List Piece). All (IsWithin bytes) x) (sym e) (All-nil (IsWithin bytes))
+    by (suc n) ps e = subst (λ (x : List Piece). All (IsWithin bytes) x) (sym e) (All-cons (IsWithin bytes) (piece.Messages 0 (length bytes) (suc n)) [] (omega arith, omega arith) (All-nil (IsWithin bytes)))
+cut_within l bytes ps (inr c) = all_within l bytes 0 ps (length bytes) c.1
+
+-- All of a list is between its ends.
+all_of : (bytes : List ℕ) → slice_range bytes 0 (length bytes) ++ [] ≡ bytes
+all_of bytes = append-nil (slice_range bytes 0 (length bytes)) ∙ take-all bytes (length bytes - 0) (omega arith)
+
+whole_by : (l : SalvageLimits) (bytes : List ℕ) (messages : List Segments) → AreAll l bytes messages → (flat_map (bytes_of bytes) (whole_stream (length bytes) (length messages)) ≡ bytes) × (kept_bytes bytes (whole_stream (length bytes) (length messages)) ≡ bytes) × (length messages ≡ kept_count (whole_stream (length bytes) (length messages)))
+whole_by l bytes [] all = (sym all, sym all, refl)
+whole_by l bytes (s ∷ messages) all = (all_of bytes, all_of bytes, omega arith)
+
+pub cut_joined : (l : SalvageLimits) (bytes : List ℕ) (ps : List Piece) → IsCut l bytes ps → flat_map (bytes_of bytes) ps ≡ bytes
+cut_joined l bytes ps (inl w) = ap (flat_map (bytes_of bytes)) w.2 ∙ (whole_by l bytes w.0 w.1).0
+cut_joined l bytes ps (inr c) = joined l bytes ps c.1
+
+pub cut_kept : HasFronts → (l : SalvageLimits) (bytes : List ℕ) (ps : List Piece) → IsCut l bytes ps → (messages : List Segments) × AreAll l (kept_bytes bytes ps) messages × (length messages ≡ kept_count ps)
+cut_kept fronts l bytes ps (inl w) =
+    let is = whole_by l bytes w.0 w.1 in (
+      w.0,
+      subst (λ (x : List ℕ). AreAll l x w.0) (sym (ap (kept_bytes bytes) w.2 ∙ is.1)) w.1,
+      is.2 ∙ sym (ap kept_count w.2),
+    )
+cut_kept fronts l bytes ps (inr c) = kept_stream fronts l bytes 0 ps (length bytes) c.1
+
+pub cut_whole : (l : SalvageLimits) (bytes : List ℕ) (ps : List Piece) (messages : List Segments) → IsCut l bytes ps → AreAll l bytes messages → kept_bytes bytes ps ≡ bytes
+cut_whole l bytes ps messages (inl w) all = ap (kept_bytes bytes) w.2 ∙ (whole_by l bytes w.0 w.1).1
+cut_whole l bytes ps messages (inr c) all = absurd (c.0 messages all)

@@ -24,6 +24,10 @@ behind_frame l bytes =
 unfoldable pub is_plausible : SalvageLimits → List ℕ → Bool
 is_plausible l bytes = passes (λ rest. (length rest == 0) || is_some (behind_frame l rest)) (behind_frame l bytes)
 
+-- Bytes begin with a message that has a root, or one that nothing or a message with a root follows.
+unfoldable pub is_settled : SalvageLimits → List ℕ → Bool
+is_settled l bytes = is_some (behind_frame l bytes) || passes (λ m. (length m.1 == 0) || is_some (behind_frame l m.1)) (result_ok (frame_at (Some l.message_words) bytes))
+
 -- No plausible message begins at a word between two bytes.
 abbrev pub HasNoneBetween : SalvageLimits → List ℕ → ℕ → ℕ → Type 0
 HasNoneBetween l bytes from to = (word : ℕ) → from < 8 * word → 8 * word < to → is_plausible l (drop (8 * word) bytes) ≡ false

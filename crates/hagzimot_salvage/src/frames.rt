@@ -1,9 +1,9 @@
 //! The next message in bytes that may be anything.
-ghost use Rattle.std.specs.Prelude.{◌≡◌, ◌≤◌, ◌<◌, ◌*◌, ◌%◌, ℕ, true, false, Ok, length, drop, option_copied, IsErr, IfOk, IfErr, IfSome, IfNone};
+ghost use Rattle.std.specs.Prelude.{◌≡◌, ◌≤◌, ◌<◌, ◌*◌, ◌%◌, ℕ, true, false, Some, Ok, length, drop, option_copied, IsErr, IfOk, IfErr, IfSome, IfNone};
 ghost use Rattle.capnp_model.specs.Segments.{Segments};
 ghost use Rattle.capnp_model.specs.Messages.{frame_at};
 ghost use Rattle.capnp_units.specs.declared.kinds.ErrorKind.{ErrorKind};
-ghost use Rattle.hagzimot_salvage.specs.Frames.{has_zero_padding, behind_frame, is_plausible, IsNext};
+ghost use Rattle.hagzimot_salvage.specs.Frames.{has_zero_padding, behind_frame, is_plausible, is_settled, IsNext};
 
 use crate::roots::{SalvageLimits, has_root};
 use capnp_model::laws::{texts_in_slices, texts_of_messages};
@@ -89,6 +89,47 @@ pub fn is_plausible(alloc: Global, bytes: &[u8], limits: SalvageLimits) -> Resul
     }
     let behind = behind_frame(alloc, rest, limits)?;
     Ok(behind.is_some())
+}
+
+/// Returns whether a message of n bytes at the front of the bytes is settled: it has a root, or
+/// nothing or a message with a root follows it.
+#[tactic(auto, unfolding(crate::specs::Frames::is_settled))]
+fn is_settled(alloc: Global, bytes: &[u8], len: usize, limits: SalvageLimits) -> Result<bool>
+    requires frame { (s : Segments)
+        × (frame_at (Some limits.message_words) bytes.now ≡ Ok (s, drop len bytes.now)) }
+    requires within { len ≤ length bytes.now }
+    ensures answer { IfOk result (λ b. b ≡ is_settled limits bytes.now) }
+    ensures refusal { IfErr result (λ e. e.kind ≡ ErrorKind.OutOfMemory) }
+{
+    let own = behind_frame(alloc, bytes, limits)?;
+    if own.is_some() {
+        return Ok(true);
+    }
+    let rest = &bytes[len..];
+    if rest.is_empty() {
+        return Ok(true);
+    }
+    let next = behind_frame(alloc, rest, limits)?;
+    Ok(next.is_some())
+}
+
+/// Returns the number of bytes of the message at the front of the bytes, if they begin with one
+/// that is settled. `OutOfMemory`: memory was refused, as in `is_plausible`.
+pub fn settled_len(alloc: Global, bytes: &[u8], limits: SalvageLimits) -> Result<Option<usize>>
+    ensures message { IfOk result (λ o. IfSome o (λ n. (s : Segments)
+        × (frame_at (Some limits.message_words) bytes.now ≡ Ok (s, drop n bytes.now)))) }
+    ensures settled { IfOk result (λ o. IfSome o (λ n. is_settled limits bytes.now ≡ true)) }
+    ensures some { IfOk result (λ o. IfSome o (λ n. (0 < n) × (n ≤ length bytes.now))) }
+    ensures none { IfOk result (λ o. IfNone o (is_settled limits bytes.now ≡ false)) }
+    ensures refusal { IfErr result (λ e. e.kind ≡ ErrorKind.OutOfMemory) }
+{
+    let Some(len) = frame_len(bytes, limits.message_words) else {
+        return Ok(None);
+    };
+    if !is_settled(alloc, bytes, len, limits)? {
+        return Ok(None);
+    }
+    Ok(Some(len))
 }
 
 /// Returns the first byte after `from`, at a multiple of eight, that a plausible message begins at.

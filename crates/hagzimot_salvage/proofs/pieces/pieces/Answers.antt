@@ -1,32 +1,27 @@
-use Rattle.std.proofs.Common.{◌≡◌, ℕ, List, length, subst, sym, arith}
-use Rattle.hagzimot_salvage.specs.declared.pieces.Piece.{Piece}
-use Rattle.hagzimot_salvage.specs.Pieces.{ArePieces}
-use Rattle.hagzimot_salvage.proofs.Adjacent.{pieces_nowhere, messages_more, gap_more, no_run}
-use Rattle.hagzimot_salvage.proofs.Whole.{all_within}
+use Rattle.std.proofs.Common.{◌≡◌, length, inl, inr, ap, sym, ◌∙◌}
+use Rattle.hagzimot_salvage.specs.Pieces.{IsCut, whole_stream}
+use Rattle.hagzimot_salvage.proofs.Whole.{all_within, has_fault, is_all, cut_within}
 use Rattle.hagzimot_salvage.proofs.pieces.pieces.Goals as goal
 
-pub loop-at-init : goal.loop-at-init
-loop-at-init c = record { inside = omega arith; pieces = subst (λ (ps : List Piece). ArePieces c.args.limits c.args.bytes.now 0 ps 0) (sym c.new-pieces.ensures.items) (pieces_nowhere c.args.limits c.args.bytes.now) }
+pub returns-then-run-bytes-clause-pieces : goal.returns-then-run-bytes-clause-pieces
+returns-then-run-bytes-clause-pieces c =
+    let run = c.run_from-run in
+    inr (has_fault c.args.limits c.args.bytes.now run.result.end run.result.count run.ensures c.if-run-bytes.true, c.in_ok-parts.ensures.pieces)
 
-pub loop-at-preserved-then-run-gt0 : goal.loop-at-preserved-then-run-gt0
-loop-at-preserved-then-run-gt0 c =
-    let l = c.args.limits in
-    let b = c.args.bytes.now in
-    let more = messages_more l b 0 c.loop-at.pieces.items c.loop-at.at c.run_from-run.result.end c.run_from-run.result.count c.loop-at.invariant.pieces c.if-run-gt0.true c.run_from-run.ensures in
-    record { inside = c.run_from-run.ensures.inside; pieces = subst (λ (ps : List Piece). ArePieces l b 0 ps c.run_from-run.result.end) (sym c.in_ok-push.ensures.items) more }
-
-pub loop-at-preserved : goal.loop-at-preserved
-loop-at-preserved c =
-    let l = c.args.limits in
-    let b = c.args.bytes.now in
-    let none = no_run l.message_words b c.loop-at.at c.run_from-run.result.end c.run_from-run.result.count c.if-run-gt0.false c.run_from-run.ensures in
-    let more = gap_more l b 0 c.loop-at.pieces.items c.loop-at.at c.in_ok-end.end c.loop-at.invariant.pieces (none, c.in_ok-end.ensures.end) in
-    record { inside = c.in_ok-end.ensures.end.inside; pieces = subst (λ (ps : List Piece). ArePieces l b 0 ps c.in_ok-end.end) (sym c.in_ok-push-2.ensures.items) more }
+pub returns-then-run-bytes-clause-within : goal.returns-then-run-bytes-clause-within
+returns-then-run-bytes-clause-within c = all_within c.args.limits c.args.bytes.now 0 c.in_ok-parts.parts.items _ c.in_ok-parts.ensures.pieces
 
 pub returns-clause-pieces : goal.returns-clause-pieces
 returns-clause-pieces c =
-    let at_end : c.loop-at.at ≡ length c.args.bytes.now = omega (arith, c.loop-at.invariant.inside) in
-    subst (λ (to : ℕ). ArePieces c.args.limits c.args.bytes.now 0 c.loop-at.pieces.items to) at_end c.loop-at.invariant.pieces
+    let run = c.run_from-run in
+    let l = c.args.limits in
+    let b = c.args.bytes.now in
+    inl (run.ensures.messages, is_all l b run.result.end run.result.count run.ensures c.if-run-bytes.false, c.in_ok-whole.ensures.piece ∙ ap (whole_stream (length b)) (sym run.ensures.number))
 
 pub returns-clause-within : goal.returns-clause-within
-returns-clause-within c = all_within c.args.limits c.args.bytes.now 0 c.loop-at.pieces.items c.loop-at.at c.loop-at.invariant.pieces
+returns-clause-within c =
+    let run = c.run_from-run in
+    let l = c.args.limits in
+    let b = c.args.bytes.now in
+    let is : IsCut l b c.in_ok-whole.whole.items = inl (run.ensures.messages, is_all l b run.result.end run.result.count run.ensures c.if-run-bytes.false, c.in_ok-whole.ensures.piece ∙ ap (whole_stream (length b)) (sym run.ensures.number)) in
+    cut_within l b c.in_ok-whole.whole.items is

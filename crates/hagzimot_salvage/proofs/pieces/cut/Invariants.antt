@@ -1,6 +1,6 @@
 use Rattle.std.proofs.Common.{◌-◌, ◌≤◌, length}
 use Rattle.hagzimot_salvage.specs.Pieces.{ArePieces}
-use Rattle.hagzimot_salvage.proofs.pieces.pieces.Given as goal
+use Rattle.hagzimot_salvage.proofs.pieces.cut.Given as goal
 
 abbrev pub invariant-loop-at : goal.invariant-loop-at
 invariant-loop-at l = record {
