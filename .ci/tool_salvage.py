@@ -4,7 +4,7 @@
 
 - Overwritten tables, bytes before the first message, a cut at the end, several faults, empty and foreign input: what is written, the lines on standard error and the status.
 - A stream without a fault goes out byte for byte.
-- Hostile files of 10 MB, in which each word claims to be a message: the run ends in time.
+- Hostile files of 1 MB, in which each word claims to be a message: the run ends in time.
 
 A case that differs is shown, and the status is 1. Nothing is written below the repository.
 """
@@ -22,7 +22,7 @@ import tool_peers
 COUNT = 5000
 # A message in the middle, whose own number is not the count of a table.
 MIDDLE = 2500
-HOSTILE_WORDS = 10 * 1024 * 1024 // 8
+HOSTILE_WORDS = 1024 * 1024 // 8
 HOSTILE_SECONDS = 60
 
 
