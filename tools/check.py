@@ -4,6 +4,7 @@
 usage: tools/check.py check NAME [FLAG..]     proves a crate; the flags are those of `rt check`, as --only or --jobs
        tools/check.py build [-j N] NAME..     builds libraries with those below them, N at a time (one for each processor); a static
                                               library is linked too
+       tools/check.py program [-j N] NAME..   proves and builds programs, with those libraries below them that have changed
        tools/check.py link NAME..             links static libraries over the libraries that are there, as `rt ci` leaves them
        tools/check.py must-fail NAME          tries the wrong bodies of a crate
 
@@ -23,6 +24,7 @@ import sys
 sys.dont_write_bytecode = True
 TOP = os.path.dirname(os.path.dirname(os.path.realpath(__file__)))
 PROVED, NOT_PROVED, WRONG_WORDS = 0, 1, 2
+TARGET = "x86_64-unknown-linux-gnu"
 
 
 def loaded(path, name):
@@ -50,6 +52,9 @@ def toolchain():
     rt.rtlib.Crate.stamp = stamp
     # The first call sets a signal's handler, which only the main thread may.
     rt.rtlib.guarded()
+    # A toolchain that shares work takes what another checkout on this machine has proved of the same text.
+    if hasattr(rt, "share_work"):
+        rt.share_work(True)
     return rt
 
 
@@ -116,6 +121,28 @@ def link(crates):
     return PROVED
 
 
+def build_programs(rt, crates, at_once):
+    """Proves and links programs over the libraries below them, N jobs for each. Their output is in out/build.log."""
+    for crate in crates:
+        os.makedirs(f"{crate.folder}/out", exist_ok=True)
+        with open(f"{crate.folder}/out/build.log", "w", encoding="utf-8") as crate.out:
+            status = built_program(rt, crate, at_once)
+        print(f"{crate.name}: {'proved' if not status else f'NOT PROVED, see {crate.folder}/out/build.log'}", flush=True)
+        if status:
+            return NOT_PROVED
+    return PROVED
+
+
+def built_program(rt, crate, at_once):
+    """Proves and links a program as `rt run` does, and runs nothing. Returns the status."""
+    kit, made = rt.rtlib.KIT, f"out/{crate.name}.o"
+    status = crate.compile(["--jobs", str(at_once)], made)
+    if status or not os.path.getsize(f"{crate.folder}/{made}"):
+        return status or NOT_PROVED
+    words = ["--target", TARGET, "--toolchain", f"{kit}/toolchain", "-o", f"out/{crate.name}", made]
+    return crate.call(f"{kit}/bin/rattle-link", *words, f"{kit}/c/libos_c.a", f"{kit}/c/liblibc_c.a")
+
+
 def try_edits(rt, crate):
     """Tries the wrong bodies of a crate, and returns the status."""
     rt.Crate.allowed = rt.handles_of(TOP)
@@ -123,7 +150,7 @@ def try_edits(rt, crate):
 
 
 def main(words):
-    if len(words) < 2 or words[0] not in ("check", "build", "link", "must-fail"):
+    if len(words) < 2 or words[0] not in ("check", "build", "program", "link", "must-fail"):
         print(__doc__)
         return PROVED if words in (["-h"], ["--help"]) else WRONG_WORDS
     verb, words = words[0], words[1:]
@@ -132,7 +159,7 @@ def main(words):
         at_once, words = max(1, int(words[1])), words[2:]
     rt = toolchain()
     known = {it.name: it for it in rt.rtlib.crates_below(TOP)}
-    names, flags = (words, []) if verb in ("build", "link") else (words[:1], words[1:])
+    names, flags = (words, []) if verb in ("build", "program", "link") else (words[:1], words[1:])
     unknown = [it for it in names if it not in known]
     if unknown:
         print(f"{unknown[0]}: crates.txt lists no such crate")
@@ -145,6 +172,8 @@ def main(words):
     status = build_libraries([*below.values(), *(asked if verb == "build" else [])], at_once)
     if status or verb == "build":
         return status or link(static)
+    if verb == "program":
+        return build_programs(rt, asked, at_once)
     return asked[0].check(flags) if verb == "check" else try_edits(rt, asked[0])
 
 

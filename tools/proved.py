@@ -1,16 +1,23 @@
-"""Proves and builds the programs that are installed, and says how far it is."""
+"""Proves and builds the programs that are installed, several crates side by side, and says how far it is."""
 import json
 import os
+import re
 import shutil
 import subprocess
+import sys
 import time
 
 import unproved
 
 TOP = unproved.TOP
+# The script that proves crates. It says `NAME: proved` when it has proved one, whose log is then in out/build.log.
+CHECK = "tools/check.py"
+LOG = "out/build.log"
 # The assumed cost of a crate without a stored cost, in seconds of processor time.
 USUAL_COST = 120
-LINE = "out/last_line"
+# The memory that a check takes at most, with some room.
+BYTES_FOR_A_CHECK = 5_000_000_000
+LINES_OF_A_FAULT = 20
 
 
 def costs():
@@ -34,45 +41,75 @@ def expected(left, done, took, stored):
     return cost(left) * (took / cost(done) if done else 1)
 
 
-def last_line(crate, said):
-    """The last line of a crate's check, or of the earlier check if nothing has changed since."""
-    path = f"{TOP}/crates/{crate}/{LINE}"
-    found = [it for it in said.splitlines() if it.startswith("logic=")]
-    if found:
-        with open(path, "w", encoding="utf-8") as file:
-            file.write(found[-1])
-        return found[-1]
-    if os.path.isfile(path):
-        with open(path, encoding="utf-8") as file:
-            return file.read()
-    return None
+def at_once():
+    """How many crates are proved side by side: one for each processor, if the machine has the memory."""
+    memory = os.sysconf("SC_PAGE_SIZE") * os.sysconf("SC_PHYS_PAGES")
+    return max(1, min(len(os.sched_getaffinity(0)), memory // BYTES_FOR_A_CHECK))
 
 
-def prove(crate, is_program):
-    """Proves a crate, and builds it; returns the last line of its check, or None if rt kept it without that line."""
-    words = ["rt", "run", "--", "--version"] if is_program else ["rt", "lib"]
-    how = {"stdin": subprocess.DEVNULL, "stdout": subprocess.PIPE, "stderr": subprocess.STDOUT, "errors": "replace"}
-    run = subprocess.run(words, cwd=f"{TOP}/crates/{crate}", check=False, **how)
-    # Once a program runs it is proved, and the status is its own: the relay program takes other words.
-    is_well = f"rt: running out/{crate};" in run.stdout if is_program else run.returncode == 0
-    line = last_line(crate, run.stdout) if is_well else None
-    if not is_well or (line and not line.startswith("logic=proved")):
-        raise unproved.Failed(f"{crate}: it isn't proved\n" + "\n".join(run.stdout.splitlines()[-20:]))
-    return line
+def last_line(crate):
+    """The last line of a crate's check, or None if no log has it."""
+    try:
+        with open(f"{TOP}/crates/{crate}/{LOG}", encoding="utf-8", errors="replace") as file:
+            found = [it.strip() for it in file if it.startswith("logic=")]
+    except OSError:
+        return None
+    return found[-1] if found else None
+
+
+def end_of_log(crate):
+    try:
+        with open(f"{TOP}/crates/{crate}/{LOG}", encoding="utf-8", errors="replace") as file:
+            return "".join(file.readlines()[-LINES_OF_A_FAULT:])
+    except OSError:
+        return ""
+
+
+def told_by(words, see):
+    """Runs a script, hands on each line that it prints, and returns its status."""
+    how = {"stdin": subprocess.DEVNULL, "stdout": subprocess.PIPE, "stderr": subprocess.STDOUT, "text": True, "errors": "replace"}
+    with subprocess.Popen([sys.executable, *words], cwd=TOP, **how) as child:
+        for line in child.stdout:
+            see(line.rstrip())
+    return child.returncode
+
+
+def prove(verb, names, jobs, see):
+    """Proves crates, and calls `see` with the name of each when it is proved."""
+    lines = []
+
+    def look(line):
+        lines.append(line)
+        found = re.fullmatch(r"(\w+): (proved|NOT PROVED).*", line)
+        if found and found[2] == "proved":
+            see(found[1])
+
+    if told_by([CHECK, verb, "-j", str(jobs), *names], look):
+        bad = [it.partition(":")[0] for it in lines if ": NOT PROVED" in it]
+        if bad:
+            raise unproved.Failed(f"{bad[0]}: it isn't proved\n{end_of_log(bad[0])}")
+        raise unproved.Failed(f"{names[-1]}: it isn't proved\n" + "\n".join(lines[-LINES_OF_A_FAULT:]))
 
 
 def build(programs, folder, note=print):
     """Proves and builds programs and leaves them in a folder; returns the last line of each crate's check."""
-    listed, stored = unproved.crates_listed(), costs()
-    names = order(programs, listed)
-    note(f"proving {len(names)} crates: about {minutes(expected(names, [], 0, stored))} of processor time if nothing is kept from an earlier run")
-    began, lines = time.monotonic(), {}
-    for at, crate in enumerate(names):
+    stored = costs()
+    names, jobs = order(programs, unproved.crates_listed()), at_once()
+    hours = minutes(expected(names, [], 0, stored) / jobs)
+    note(f"proving {len(names)} crates, {jobs} side by side: about {hours} if nothing is kept from an earlier run")
+    began, done = time.monotonic(), []
+
+    def see(crate):
+        done.append(crate)
         took = time.monotonic() - began
-        left = expected(names[at:], names[:at], took, stored)
-        note(f"crate {at + 1} of {len(names)}: {crate}; {minutes(took)} so far, about {minutes(left)} to go")
-        lines[crate] = prove(crate, crate in programs)
+        left = [it for it in names if it not in done]
+        note(f"{crate} is proved, {len(done)} of {len(names)}; {minutes(took)} so far, about {minutes(expected(left, done, took, stored))} to go")
+
+    prove("build", [it for it in names if it not in programs], jobs, see)
+    # Libraries that an earlier run proved were passed over.
+    done[:] = [it for it in names if it not in programs]
     for crate in programs:
+        prove("program", [crate], jobs, see)
         shutil.copy(f"{TOP}/crates/{crate}/out/{crate}", f"{folder}/{crate}")
     note(f"{len(names)} crates are proved, in {minutes(time.monotonic() - began)}")
-    return lines
+    return {it: last_line(it) for it in names}

@@ -81,12 +81,20 @@ Options:
 
 Status: 0 done
 """
-FAKE_RT = """#!/bin/sh
-echo "$(basename "$PWD") $*" >> "$FAKE_LOG"
-[ "$(basename "$PWD")" = "$FAKE_BAD" ] && { echo "logic=not-proved functions=1"; exit 1; }
-echo "logic=proved functions=2 axioms=39 sum=0"
-[ "$1" = run ] && { mkdir -p out; echo made > "out/$(basename "$PWD")"; echo "rt: running out/$(basename "$PWD"); so"; exit 1; }
-exit 0
+FAKE_CHECK = """import os, sys
+verb, names = sys.argv[1], sys.argv[4:]
+for name in names:
+    with open(os.environ["FAKE_LOG"], "a") as file:
+        file.write(f"{verb} {name}\\n")
+    is_bad = name == os.environ["FAKE_BAD"]
+    with open(f"crates/{name}/out/build.log", "w") as file:
+        file.write("logic=not-proved functions=1\\n" if is_bad else "logic=proved functions=2 axioms=39 sum=0\\n")
+    print(f"{name}: NOT PROVED, see its log" if is_bad else f"{name}: proved", flush=True)
+    if is_bad:
+        sys.exit(1)
+    if verb == "program":
+        with open(f"crates/{name}/out/{name}", "w") as file:
+            file.write("made")
 """
 
 
@@ -153,39 +161,39 @@ class Proof(unittest.TestCase):
         self.assertEqual(proved.expected(["unknown"], [], 0, stored), proved.USUAL_COST)
 
     def build(self, room, bad=""):
-        """Proves two crates and a program by a stand-in for rt, in a repository of its own."""
+        """Proves two crates and a program by a stand-in for tools/check.py, in a repository of its own."""
         for name in ("low", "high", "app"):
             os.makedirs(f"{room}/crates/{name}/out")
-        os.makedirs(f"{room}/bin")
-        for path, text, mode in ((f"{room}/crates.txt", "low:\nhigh: low\napp: high low\n", 0o644), (f"{room}/bin/rt", FAKE_RT, 0o755)):
+        os.makedirs(f"{room}/tools")
+        for path, text in ((f"{room}/crates.txt", "low:\nhigh: low\napp: high low\n"), (f"{room}/tools/check.py", FAKE_CHECK)):
             with open(path, "w", encoding="utf-8") as file:
                 file.write(text)
-            os.chmod(path, mode)
-        path, top = os.environ["PATH"], proved.TOP
-        os.environ.update(PATH=f"{room}/bin:{path}", FAKE_LOG=f"{room}/log", FAKE_BAD=bad)
-        proved.TOP, listed = room, unproved.crates_listed
-        unproved.crates_listed = lambda: listed(room)
-        costs, proved.costs, notes = proved.costs, lambda: {"low": 60, "high": 60, "app": 60}, []
+        top, listed, costs = proved.TOP, unproved.crates_listed, proved.costs
+        os.environ.update(FAKE_LOG=f"{room}/log", FAKE_BAD=bad)
+        proved.TOP, unproved.crates_listed = room, lambda: listed(room)
+        proved.costs, notes = lambda: {"low": 60, "high": 60, "app": 60}, []
         try:
             return proved.build(("app",), room, notes.append), notes
         finally:
-            proved.TOP, unproved.crates_listed, proved.costs, os.environ["PATH"] = top, listed, costs, path
+            proved.TOP, unproved.crates_listed, proved.costs = top, listed, costs
 
     def test_crates_are_proved_lowest_first(self):
         with tempfile.TemporaryDirectory() as room:
             lines, notes = self.build(room)
             with open(f"{room}/log", encoding="utf-8") as file:
-                self.assertEqual(file.read(), "low lib\nhigh lib\napp run -- --version\n")
+                self.assertEqual(file.read(), "build low\nbuild high\nprogram app\n")
             self.assertEqual(list(lines), ["low", "high", "app"])
             self.assertTrue(all(it == "logic=proved functions=2 axioms=39 sum=0" for it in lines.values()))
             self.assertTrue(os.path.isfile(f"{room}/app"))
-            self.assertIn("crate 2 of 3: high", notes[2])
+            self.assertIn("proving 3 crates", notes[0])
+            self.assertIn("high is proved, 2 of 3", notes[2])
 
     def test_a_crate_that_is_not_proved_ends_it(self):
-        with tempfile.TemporaryDirectory() as room:
-            with self.assertRaisesRegex(unproved.Failed, "high: it isn't proved"):
-                self.build(room, "high")
-            self.assertFalse(os.path.exists(f"{room}/app"))
+        for bad in ("high", "app"):
+            with tempfile.TemporaryDirectory() as room:
+                with self.assertRaisesRegex(unproved.Failed, f"{bad}: it isn't proved\nlogic=not-proved"):
+                    self.build(room, bad)
+                self.assertFalse(os.path.exists(f"{room}/app"))
 
     def test_statement_of_a_proof(self):
         with tempfile.TemporaryDirectory() as room:
