@@ -15,10 +15,14 @@ import tempfile
 
 TOP = os.path.dirname(os.path.dirname(os.path.dirname(os.path.realpath(__file__))))
 sys.dont_write_bytecode = True
-sys.path.insert(0, f"{TOP}/tools")
+sys.path[:0] = [f"{TOP}/tools", f"{TOP}/.ci"]
+import command_help
 import statement
+import style
 
 FAULTS = []
+# How no text of the help begins: with a noun, a question, or a verb in the third person.
+NOT_IMPERATIVE = re.compile(r"(?:The|A|An|What|Whether|How|[A-Z][a-z]*[a-rt-z]s)\b")
 
 
 def expect(is_well, what):
@@ -77,9 +81,19 @@ def options_of_page(text):
     return set(re.findall(r"`(--?[\w-]+)", section[1])) if section else set()
 
 
+def try_help(name, said):
+    """The texts of a command's help are imperative, and keep docs/STYLE.md."""
+    command = command_help.command_of(name, said)
+    for text in (command.about, *(it.plain_text for it in (*command.arguments, *command.options))):
+        expect(not NOT_IMPERATIVE.match(text), f"{name} --help: '{text}' isn't imperative")
+        for _, what in style.faults_of_text(text, False):
+            expect(False, f"{name} --help: '{text}': {what}")
+
+
 def try_page(root, name, program):
     """A command's page has the usage of its help, and the same options; the page and the man page are installed."""
     said = ran(program, name, "--help")
+    try_help(name, said)
     options = set(re.findall(r"(?m)^ +(?:-\w, )?(--[\w-]+)", said)) - {"--help"}
     short = dict(re.findall(r"(?m)^ +(-\w), (--[\w-]+)", said))
     with open(f"{root}/share/doc/hagzimot/manual/{name}.md", encoding="utf-8") as file:

@@ -301,7 +301,7 @@ impl Display for SchemaText<'_> {
 pub enum SchemaTextFault {
     /// A schema file can't express the nodes: a default is a text that isn't UTF-8, or a union
     /// isn't as its members say.
-    #[error("a schema file can't tell it")]
+    #[error("a schema file can't express it")]
     Untold,
     /// An allocation was refused.
     #[error("there is no memory for it")]
