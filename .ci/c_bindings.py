@@ -140,8 +140,8 @@ def wheel(room, out):
         try_wheel(room, paths[0])
     else:
         said = f"the wheel {name} is made; Python lacks pip or venv, and it isn't installed"
-    if is_there(sys.executable, "-m", "mypy", "--version"):
-        run(sys.executable, "-m", "mypy", "--strict", f"--cache-dir={room}/mypy", f"{BINDINGS}/python/hagzimot.py")
+    if is_there("mypy", "--version"):
+        run("mypy", "--strict", f"--cache-dir={room}/mypy", f"{BINDINGS}/python/hagzimot.py")
         return f"{said}; mypy finds nothing"
     return f"{said}; mypy isn't there"
 

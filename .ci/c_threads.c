@@ -2,7 +2,8 @@
 
    usage: c_threads MESSAGES [RATE]
 
-   Prints how many times the rate of one thread four threads have. With RATE, ends with status 1 if it is less. */
+   Prints how many times the rate of one thread four threads have, by the clock, and by the time that each thread had a processor.
+   The second doesn't depend on other programs. With RATE, ends with status 1 if the first is less. */
 #define _GNU_SOURCE
 #include "hagzimot.h"
 #include <pthread.h>
@@ -33,8 +34,15 @@ typedef struct work {
   uint8_t out[BATCH * 64], log[BATCH * 64];
   size_t out_len, log_len;
   uint64_t sum;
+  double taken;
   hagzimot_status status;
 } work;
+
+static double seconds_of(clockid_t clock) {
+  struct timespec at;
+  clock_gettime(clock, &at);
+  return (double)at.tv_sec + (double)at.tv_nsec / 1e9;
+}
 
 static uint64_t added(uint64_t sum, const uint8_t *bytes, size_t len) {
   for (size_t i = 0; i < len; i++)
@@ -45,6 +53,7 @@ static uint64_t added(uint64_t sum, const uint8_t *bytes, size_t len) {
 static void *relays(void *given) {
   work *it = given;
   hagzimot handle = {0};
+  double from = seconds_of(CLOCK_THREAD_CPUTIME_ID);
   it->sum = 0;
   it->status = hagzimot_open(&handle, TEXT(schema), TEXT("P"), TEXT(calls), 0, it->out, sizeof it->out, &it->out_len);
   for (int i = 0; i < batches && it->status == HAGZIMOT_OK; i++) {
@@ -55,29 +64,34 @@ static void *relays(void *given) {
       it->sum = added(added(it->sum, it->out, it->out_len), it->log, it->log_len);
   }
   hagzimot_close(&handle);
+  it->taken = seconds_of(CLOCK_THREAD_CPUTIME_ID) - from;
   return NULL;
 }
 
-/* The seconds that so many threads take at their best, or 0 if their results differ. */
-static double seconds(work *works, int count) {
-  double least = 0;
+static double lesser(double least, double taken) {
+  return least == 0 || taken < least ? taken : least;
+}
+
+/* The seconds that a number of threads take at their best, by the clock and of a processor. Returns 0 if their results differ. */
+static int seconds(work *works, int count, double *clock, double *processor) {
+  *clock = *processor = 0;
   for (int round = 0; round < ROUNDS; round++) {
-    struct timespec from, to;
-    clock_gettime(CLOCK_MONOTONIC, &from);
+    double from = seconds_of(CLOCK_MONOTONIC), longest = 0;
     for (int i = 0; i < count; i++)
       if (pthread_create(&works[i].thread, NULL, relays, &works[i]) != 0)
         return 0;
     for (int i = 0; i < count; i++)
       pthread_join(works[i].thread, NULL);
-    clock_gettime(CLOCK_MONOTONIC, &to);
-    double taken = (double)(to.tv_sec - from.tv_sec) + (double)(to.tv_nsec - from.tv_nsec) / 1e9;
-    least = round == 0 || taken < least ? taken : least;
-    for (int i = 0; i < count; i++)
+    *clock = lesser(*clock, seconds_of(CLOCK_MONOTONIC) - from);
+    for (int i = 0; i < count; i++) {
+      longest = works[i].taken > longest ? works[i].taken : longest;
       if (works[i].status != HAGZIMOT_OK || works[i].sum != works[0].sum || works[i].out_len != works[0].out_len ||
           memcmp(works[i].out, works[0].out, works[0].out_len) != 0)
         return 0;
+    }
+    *processor = lesser(*processor, longest);
   }
-  return least;
+  return 1;
 }
 
 int main(int count, char **words) {
@@ -87,13 +101,13 @@ int main(int count, char **words) {
   batches = atoi(words[1]) / BATCH;
   for (int i = 0; i < BATCH; i++)
     memcpy(input + (size_t)i * sizeof message, message, sizeof message);
-  double alone = seconds(&one, 1), together = seconds(four, THREADS);
-  if (alone == 0 || together == 0 || one.sum != four[0].sum || one.sum == 0) {
+  double clock, own, clock_of_four, own_of_four;
+  if (!seconds(&one, 1, &clock, &own) || !seconds(four, THREADS, &clock_of_four, &own_of_four) || one.sum != four[0].sum) {
     printf("the results of the threads differ\n");
     return 1;
   }
-  double rate = THREADS * alone / together;
-  printf("%d threads have the results of one, and %.2f times its rate (%.0f ns a message in one)\n", THREADS, rate,
-         alone * 1e9 / batches / BATCH);
+  double rate = THREADS * clock / clock_of_four;
+  printf("%d threads have the results of one, and %.2f times its rate by the clock, %.2f by their processors' time\n", THREADS, rate,
+         THREADS * own / own_of_four);
   return count > 2 && rate < atof(words[2]) ? 1 : 0;
 }
