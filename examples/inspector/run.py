@@ -1,10 +1,14 @@
 """Builds the inspector and tries it in a browser without a window: example, files, faults, words, an edit, and what is saved.
 
-usage: run.py [--module FILE] [--screenshot FILE]     (--module: an earlier hagzimot.wasm, which is not built again)
+usage: run.py [--module FILE] [--screenshot FILE] [--frames FILE]
+
+--module names an earlier hagzimot.wasm, which is not built again. --frames names frames.wasm of prove.py, whose two functions
+are called too.
 
 The browser is Debian's chromium, or what HAGZIMOT_BROWSER names; without one the status is 77. Ends with status 1 if the page
 shows or saves anything else than it must.
 """
+import base64
 import html
 import json
 import os
@@ -30,6 +34,22 @@ LINES = ['message 1 written; done; ""', 'message 2 written; done; "hi"', "messag
 FAULT = "message: it has no value within the limits"
 
 
+# Calls both functions of the proved module on a message, whose canonical form goes to the page.
+FRAMES = """<pre id="result"></pre><script>
+const MODULE = Uint8Array.from(atob("@MODULE@"), (it) => it.charCodeAt(0)), MESSAGE = [@MESSAGE@];
+WebAssembly.instantiate(MODULE, {}).then(({instance: {exports: it}}) => {
+  const base = Number(it.__heap_base.value), bytes = (at, size) => new Uint8Array(it.memory.buffer, at, size);
+  bytes(base, MESSAGE.length).set(MESSAGE);
+  const [given, out, length] = [base, base + 4096, base + 8192], size = BigInt(MESSAGE.length);
+  const is = [it.hagzimot_is_canonical(BigInt(given), size, 1000, 64)];
+  const status = it.hagzimot_canonical(BigInt(given), size, 1000, 64, BigInt(out), 512n, BigInt(length));
+  const words = Number(new DataView(it.memory.buffer).getBigUint64(length, true));
+  is.push(it.hagzimot_is_canonical(BigInt(out), BigInt(8 * words), 1000, 64));
+  document.getElementById("result").textContent = JSON.stringify({status, is, out: [...bytes(out, 8 * words)]});
+}).catch((error) => document.getElementById("result").textContent = JSON.stringify({failed: String(error)}));
+</script>"""
+
+
 class Wrong(Exception):
     """What is wrong."""
 
@@ -52,7 +72,12 @@ def drive(program, page, room):
     """Runs the page with try.js in it, and returns what that saw."""
     given = json.dumps({"schema": SCHEMA, "stream": hex_of(WIDE, PLAIN, FAR)})
     script = f"<script>\nconst GIVEN = {given};\n{build.text_of(f'{build.HERE}/try.js')}</script>\n</html>"
-    build.write(f"{room}/try.html", build.text_of(page).replace("</html>", script))
+    return result(program, build.text_of(page).replace("</html>", script), room)
+
+
+def result(program, text, room):
+    """Opens a page, and returns what it leaves in the element `result`."""
+    build.write(f"{room}/try.html", text)
     words = (program, *WORDS, f"--user-data-dir={room}/profile", "--dump-dom", f"file://{room}/try.html")
     run = subprocess.run(words, capture_output=True, text=True, timeout=LIMIT, check=False)
     found = re.search(r'(?s)<pre id="result">(.*?)</pre>', run.stdout)
@@ -79,6 +104,16 @@ def judge(seen):
     expect(seen["cut"]["said"], "input: from byte 72 on it isn't a message; 2 messages are before", "what is said of a cut stream")
 
 
+def try_frames(program, module, room):
+    """Calls the functions of the proved module."""
+    with open(module, "rb") as file:
+        data = base64.b64encode(file.read()).decode()
+    message = ", ".join(str(it) for it in bytes.fromhex(WIDE))
+    seen = result(program, FRAMES.replace("@MODULE@", data).replace("@MESSAGE@", message), room)
+    wanted = bytes.fromhex(EDITED[0].replace("09", "07"))
+    expect(seen, {"status": 0, "is": [9, 0], "out": [*wanted]}, "the proved module")
+
+
 def shoot(program, page, room, to):
     """Takes a picture of the page with its example."""
     script = '<script>setInterval(() => document.body.dataset.ready && !state.schema && byId("example").click(), 50);</script></html>'
@@ -91,7 +126,7 @@ def shoot(program, page, room, to):
 
 def main(words):
     options = dict(zip(words[::2], words[1::2]))
-    if len(words) % 2 or not {*options} <= {"--module", "--screenshot"}:
+    if len(words) % 2 or not {*options} <= {"--module", "--screenshot", "--frames"}:
         print(__doc__)
         return 2
     program = browser()
@@ -102,6 +137,8 @@ def main(words):
         with tempfile.TemporaryDirectory() as room:
             page = build.build(room, options.get("--module"), lambda text: print(text, file=sys.stderr, flush=True))
             judge(drive(program, page, room))
+            if "--frames" in options:
+                try_frames(program, options["--frames"], room)
             if "--screenshot" in options:
                 shoot(program, page, room, options["--screenshot"])
             size = os.path.getsize(page)
