@@ -19,7 +19,8 @@ FROM, CRATE = "hagzimot_in_process", "hagzimot_wasm"
 USES = ("capnp_model", "capnp_units", "capnp_wire_objects", "capnp_wire_canonical", "capnp_stream")
 # Bytes of memory and, of these, of the stack.
 ROW = f"{CRATE} wasm64 memory=33554432 stack=4194304: {' '.join(USES)}\n"
-# The files of the functions, by their places in the crate.
+# The files of the functions, by their places in the crate. Those of frames/ end in .txt, because the gate takes each other file of
+# code for one of a crate.
 COPIED = ("src/frames.rt", "specs/Frames.antt", "proofs/Framing.antt", "proofs/Refusals.antt")
 ANSWERS = ("proofs/frames/canonical/Answers.antt", "proofs/frames/is_canonical/Answers.antt")
 
@@ -41,8 +42,8 @@ def make_workspace(room):
     shutil.rmtree(folder, ignore_errors=True)
     for name in (*COPIED, *ANSWERS):
         write(f"{folder}/{name}", text_of(f"{TOP}/crates/{FROM}/{name}").replace(f"Rattle.{FROM}.", f"Rattle.{CRATE}."))
-    write(f"{folder}/src/lib.rt", text_of(f"{HERE}/frames/lib.rt"))
-    write(f"{folder}/specs/Bounds.antt", text_of(f"{HERE}/frames/Bounds.antt"))
+    write(f"{folder}/src/lib.rt", text_of(f"{HERE}/frames/lib.rt.txt"))
+    write(f"{folder}/specs/Bounds.antt", text_of(f"{HERE}/frames/Bounds.antt.txt"))
     write(f"{folder}/specs/Lib.antt", "pub mod Bounds\npub mod Frames\n")
     write(f"{folder}/proofs/Lib.antt", "mod Framing\nmod Refusals\n")
     write(f"{room}/crates.txt", ROW)
