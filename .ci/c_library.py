@@ -9,7 +9,7 @@ The library is made of the proved crate hagzimot_c, which is linked first, or wi
 - each allocation of each call is refused in turn;
 - four threads with a handle each have the results of one thread;
 - C++ and the example of Python run;
-- Python relays the stored runs and compares the stored pairs of schemas;
+- Python relays the stored runs and random messages, and compares the stored pairs of schemas;
 - the crates of Rust, the module of Go, the wheel of Python and the examples of the pages are tried (c_bindings.py).
 What the machine lacks, as go or cargo, is left out, and a line says so. With --rate, four threads must have 3.5 times the
 rate of one, which needs a quiet machine. Ends with status 1 if one fails.
@@ -33,7 +33,7 @@ C_WORDS = ("-std=c99", "-pedantic", "-Wall", "-Wextra", "-Werror", "-g", "-O1")
 SANITIZERS = ("-fsanitize=address,undefined", "-fno-sanitize-recover=all")
 PAGES, FEW_PAGES = "3000", "300"
 # Messages of each thread, and how many times the rate of one thread four have on a quiet machine.
-MESSAGES, UNPROVED_MESSAGES, RATE = "200000", "640", "3.5"
+MESSAGES, RATE = "100000", "3.5"
 # Allocations of a run that are refused in turn; a run has fewer.
 MOST_REFUSALS = 5000
 # Seconds that a command may take; the link proves the crate.
@@ -85,10 +85,10 @@ def calls(room, out):
         print("the compiler has no sanitizers, and they aren't tried")
 
 
-def threads(room, out, is_proved, is_quiet):
-    """Compares four threads with one. The library without proof isn't optimized, and takes longer."""
+def threads(room, out, is_quiet):
+    """Compares four threads with one."""
     run("cc", *C_WORDS, "-pthread", f"-I{out}", f"{TOP}/.ci/c_threads.c", f"{out}/libhagzimot.a", "-o", f"{room}/threads")
-    print(run(f"{room}/threads", MESSAGES if is_proved else UNPROVED_MESSAGES, *[RATE] * is_quiet))
+    print(run(f"{room}/threads", MESSAGES, *[RATE] * is_quiet))
 
 
 def refusals(room):
@@ -125,6 +125,7 @@ def others(room, out):
         raise Wrong(f"the example of Python writes\n{edited}")
     cases = sorted(glob.glob(f"{TOP}/crates/cases_relay/data/*.jsonl"))
     print(run(sys.executable, f"{TOP}/.ci/c_runs.py", out, *cases))
+    print(run(sys.executable, f"{TOP}/.ci/c_random.py", out))
 
 
 def main(words):
@@ -138,7 +139,7 @@ def main(words):
         with tempfile.TemporaryDirectory(prefix="c-library-") as room:
             c_library.make(f"{room}/out", is_proved, lambda _text: None)
             calls(room, f"{room}/out")
-            threads(room, f"{room}/out", is_proved, "--rate" in words)
+            threads(room, f"{room}/out", "--rate" in words)
             refusals(room)
             others(room, f"{room}/out")
             for line in c_bindings.tried(room, f"{room}/out"):

@@ -62,16 +62,8 @@ def layout(clang):
 
 
 def retargeted(lines, data_layout):
-    """The lines of a module for x86-64 as those of one for WebAssembly, with its exports visible and without its program."""
-    is_main = False
+    """The lines of a module for x86-64 as those of one for WebAssembly."""
     for line in lines:
-        is_main = is_main or line.startswith("define i32 @main()")
-        if is_main:
-            is_main = not line.startswith("}")
-            continue
-        if f"{c_library.CRATE}::hz_" in line:
-            line = re.sub(rf'@"{c_library.CRATE}::(hz_\w+)"', r"@\1", line)
-            line = line.replace("define internal", "define", 1)
         if line.startswith("target datalayout"):
             line = f"{data_layout}\n"
         elif line.startswith("target triple"):
@@ -84,10 +76,8 @@ def retargeted(lines, data_layout):
 
 def make_object(clang, room):
     """Compiles the library's module for the target."""
-    run(clang, "-S", "-emit-llvm", "-Xclang", "-disable-llvm-passes", "-x", "ir", "module.bc", "-o", "module.ll", cwd=room)
     data_layout = layout(clang)
-    with open(f"{room}/module.ll", encoding="utf-8") as source, open(f"{room}/wasm.ll", "w", encoding="utf-8") as to:
-        to.writelines(retargeted(source, data_layout))
+    c_library.write_module(room, f"{room}/wasm.ll", lambda lines: retargeted(lines, data_layout))
     run(clang, *WORDS, "-x", "ir", "wasm.ll", "-o", "library.o", cwd=room)
 
 
