@@ -1,8 +1,11 @@
 //! Whole structs: fields, unions and groups.
 
 ghost use Rattle.std.specs.Prelude.{◌≡◌, IfOk, length, vec_len};
+ghost use Rattle.capnp_source_layout.specs.Slots.{IsLaidOut};
 
+use crate::checks::is_laid_out;
 use crate::draft::{Draft, add_steps, narrowed, no_draft};
+use crate::levels::Shared;
 use crate::sections::DataSize;
 use std::alloc::{AllocError, AllocFailed, Global};
 
@@ -60,6 +63,8 @@ pub enum LayoutFault {
     NoScope { scope: usize },
     /// An offset would pass 2^32.
     TooLarge,
+    /// A slot is not apart from the others. No struct is known for which this happens.
+    NotApart,
     /// An allocation was refused.
     Memory,
 }
@@ -92,30 +97,36 @@ impl<T: Drop> From<AllocFailed<T>> for LayoutFault {
 pub fn lay_out(alloc: Global, scopes: &[Scope], steps: &[Step]) -> Result<Layout, LayoutFault>
     ensures offsets { IfOk result (λ l. vec_len l.offsets ≡ length steps.now) }
     ensures discriminants { IfOk result (λ l. vec_len l.discriminants ≡ length scopes.now) }
+    ensures slots { IfOk result (IsLaidOut scopes.now steps.now) }
 {
     let mut draft = no_draft(alloc, scopes)?;
     add_steps(alloc, &mut draft, scopes, steps)?;
-    layout_of(draft)
+    let (layout, shared) = layout_of(draft)?;
+    if !is_laid_out(alloc, scopes, steps, &layout, &shared)? {
+        return Err(LayoutFault::NotApart);
+    }
+    Ok(layout)
 }
 
-/// Returns the layout of a draft.
-fn layout_of(draft: Draft) -> Result<Layout, LayoutFault>
-    ensures offsets { IfOk result (λ l. l.offsets ≡ draft.offsets) }
-    ensures discriminants { IfOk result (λ l. l.discriminants ≡ draft.discriminants) }
+/// Returns the layout of a draft, and the places that the members of its unions share.
+fn layout_of(draft: Draft) -> Result<(Layout, Vec<Shared>), LayoutFault>
+    ensures offsets { IfOk result (λ r. r.0.offsets ≡ draft.offsets) }
+    ensures discriminants { IfOk result (λ r. r.0.discriminants ≡ draft.discriminants) }
 {
     let Draft {
         sections,
-        shared: _,
+        shared,
         used: _,
         offsets,
         discriminants,
     } = draft;
     let data_words = narrowed(sections.words)?;
     let pointers = narrowed(sections.pointers)?;
-    Ok(Layout {
+    let layout = Layout {
         data_words,
         pointers,
         offsets,
         discriminants,
-    })
+    };
+    Ok((layout, shared))
 }

@@ -90,7 +90,7 @@ fn layout_problem(
             Span { start: 0, end: 0 },
             "a struct is too large (take fields out)",
         ),
-        LayoutFault::NoScope { .. } => (
+        LayoutFault::NoScope { .. } | LayoutFault::NotApart => (
             Span { start: 0, end: 0 },
             "a union is not supported (declare it otherwise)",
         ),
