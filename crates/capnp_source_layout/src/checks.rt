@@ -57,7 +57,10 @@ fn are_in_order(slots: &[Slot], order: &[usize]) -> bool
     ensures { IsTrue result → AreInOrder slots.now order.now }
 {
     for place in 1..order.len() {
-        if !precedes(slot_at(slots, order[place - 1]), slot_at(slots, order[place])) {
+        if !precedes(
+            slot_at(slots, order[place - 1]),
+            slot_at(slots, order[place]),
+        ) {
             return false;
         }
     }
@@ -165,10 +168,12 @@ fn are_checked(alloc: Global, scopes: &[Scope], slots: &[Slot]) -> Result<bool, 
 {
     let order = order_of(alloc, slots)?;
     let ranks = ranks_of(alloc, &order)?;
-    Ok(ranks.len() == slots.len()
-        && are_ranks(&order, &ranks)
-        && are_in_order(slots, &order)
-        && are_held(scopes, slots, &order))
+    Ok(
+        ranks.len() == slots.len()
+            && are_ranks(&order, &ranks)
+            && are_in_order(slots, &order)
+            && are_held(scopes, slots, &order),
+    )
 }
 
 /// Whether each slot is within its section.

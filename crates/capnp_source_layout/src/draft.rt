@@ -76,7 +76,9 @@ pub fn no_draft(alloc: Global, scopes: &[Scope]) -> Result<Draft, LayoutFault>
 }
 
 /// Returns an offset of at most 32 bits.
-pub fn narrowed(offset: u64) -> Result<u32, LayoutFault> {
+pub fn narrowed(offset: u64) -> Result<u32, LayoutFault>
+    ensures { IfOk result (λ narrow. narrow ≡ offset) }
+{
     match u32::try_from(offset) {
         Ok(narrow) => Ok(narrow),
         Err(_) => Err(LayoutFault::TooLarge),
