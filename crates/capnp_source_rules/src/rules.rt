@@ -2,15 +2,18 @@
 
 ghost use Rattle.std.specs.Prelude.{◌≡◌, ◌+◌, ◌*◌, ◌≤◌, ◌⊎◌, ◌++◌, All, IfSome, IsTrue};
 ghost use Rattle.std.specs.List.{range_with_len};
-ghost use Rattle.capnp_source_rules.specs.Rules.{FitsIn, HasPlace, number_of, member_numbers, IsGoodStruct, KeepsRules};
+ghost use Rattle.capnp_source_rules.specs.Rules.{FitsIn, HasPlace, HasDefault, AreFew, IsGoodField, number_of, member_numbers, IsGoodStruct, IsGoodEnum, IsGoodBody, KeepsRules};
 
-use crate::sizes::size_of_field;
+use crate::sizes::{size_of_field, type_number, value_number};
 use capnp_source_layout::sections::DataSize;
 use capnp_source_layout::structs::FieldSize;
-use capnp_source_nodes::nodes::{Field, FieldBody, Node, NodeBody, Struct};
+use capnp_source_nodes::nodes::{Annotation, Enumerant, Field, FieldBody, Node, NodeBody, Struct};
 
 /// The most fields of a struct, and the most enumerants of an enum.
 const MOST_MEMBERS: usize = 65535;
+
+/// No list has this many annotations.
+const MOST_ANNOTATIONS: usize = 1 << 29;
 
 /// Stands for a field that is not in a union.
 const NO_DISCRIMINANT: u16 = 65535;
@@ -46,12 +49,38 @@ fn has_place(words: u16, pointers: u16, body: &FieldBody) -> bool
     }
 }
 
-/// Whether each field is in the sections of its struct.
-fn have_places(words: u16, pointers: u16, fields: &[Field]) -> bool
-    ensures { IsTrue result → All (λ f. HasPlace words pointers f.body) fields.now }
+/// Whether the default of a field is of the field's type.
+fn has_default(body: &FieldBody) -> bool
+    ensures { IsTrue result → HasDefault body.now }
+{
+    match body {
+        FieldBody::Slot { ty, default, .. } => type_number(ty) == value_number(default),
+        FieldBody::Group(_) => true,
+    }
+}
+
+/// Whether a list has few annotations.
+fn are_few(annotations: &[Annotation]) -> bool
+    ensures { IsTrue result → AreFew annotations.now }
+{
+    annotations.len() < MOST_ANNOTATIONS
+}
+
+/// Whether a field keeps the rules.
+fn is_good_field(words: u16, pointers: u16, field: &Field) -> bool
+    ensures { IsTrue result → IsGoodField words pointers field.now }
+{
+    has_place(words, pointers, &field.body)
+        && has_default(&field.body)
+        && are_few(&field.annotations)
+}
+
+/// Whether fields keep the rules.
+fn are_good_fields(words: u16, pointers: u16, fields: &[Field]) -> bool
+    ensures { IsTrue result → All (IsGoodField words pointers) fields.now }
 {
     for field in fields {
-        if !has_place(words, pointers, &field.body) {
+        if !is_good_field(words, pointers, field) {
             return false;
         }
     }
@@ -103,7 +132,7 @@ fn is_good_struct(body: &Struct) -> bool
     ensures { IsTrue result → IsGoodStruct body.now }
 {
     body.fields.len() <= MOST_MEMBERS
-        && have_places(body.data_words, body.pointers, &body.fields)
+        && are_good_fields(body.data_words, body.pointers, &body.fields)
         && are_numbered(&body.fields, body.discriminant_count)
         && has_discriminant(
             body.discriminant_count,
@@ -112,26 +141,52 @@ fn is_good_struct(body: &Struct) -> bool
         )
 }
 
-/// Whether a node keeps the rules.
-fn keeps_rules(body: &NodeBody) -> bool
-    ensures { IsTrue result → KeepsRules body.now }
+/// Whether enumerants have few annotations.
+fn have_few(enumerants: &[Enumerant]) -> bool
+    ensures { IsTrue result → All (λ e. AreFew e.annotations.items) enumerants.now }
+{
+    for enumerant in enumerants {
+        if !are_few(&enumerant.annotations) {
+            return false;
+        }
+    }
+    true
+}
+
+/// Whether an enum keeps the rules.
+fn is_good_enum(enumerants: &[Enumerant]) -> bool
+    ensures { IsTrue result → IsGoodEnum enumerants.now }
+{
+    enumerants.len() <= MOST_MEMBERS && have_few(enumerants)
+}
+
+/// Whether the body of a node keeps the rules.
+fn is_good_body(body: &NodeBody) -> bool
+    ensures { IsTrue result → IsGoodBody body.now }
 {
     match body {
         NodeBody::Struct(body) => is_good_struct(body),
-        NodeBody::Enum(enumerants) => enumerants.len() <= MOST_MEMBERS,
+        NodeBody::Enum(enumerants) => is_good_enum(enumerants),
+        NodeBody::Constant { ty, value } => type_number(ty) == value_number(value),
         NodeBody::File => true,
         NodeBody::Interface(_) => true,
-        NodeBody::Constant { .. } => true,
         NodeBody::Annotation { .. } => true,
     }
 }
 
+/// Whether a node keeps the rules.
+fn keeps_rules(node: &Node) -> bool
+    ensures { IsTrue result → KeepsRules node.now }
+{
+    is_good_body(&node.body) && are_few(&node.annotations)
+}
+
 /// Whether nodes keep the rules.
 pub fn keep_rules(nodes: &[Node]) -> bool
-    ensures { IsTrue result → All (λ n. KeepsRules n.body) nodes.now }
+    ensures { IsTrue result → All KeepsRules nodes.now }
 {
     for node in nodes {
-        if !keeps_rules(&node.body) {
+        if !keeps_rules(node) {
             return false;
         }
     }
