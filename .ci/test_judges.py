@@ -20,9 +20,11 @@ TOP = os.path.dirname(HERE)
 sys.dont_write_bytecode = True
 sys.path.insert(0, HERE)
 os.chdir(TOP)
+import builder_trees
 import plain_judge
 import program_runs
 import quick
+import random_builders
 import random_sets
 import source_texts
 import stored_runs
@@ -188,6 +190,50 @@ class Encoders(unittest.TestCase):
         self.assertIsNotNone(plain_judge.difference("framed", other, [SEVEN]))
         self.assertIsNotNone(plain_judge.difference("framed", SEVEN * 2, [SEVEN]))
         self.assertIsNotNone(plain_judge.difference("framed", SEVEN[:-1], [SEVEN]))
+
+
+class Builders(unittest.TestCase):
+    """Random builder calls, and the plain model beside them."""
+
+    def test_trees_are_spelled_by_the_encoding(self):
+        seven = builder_trees.Node("struct", data=1)
+        seven.words = [7]
+        self.assertEqual(builder_trees.framed(seven), SEVEN.hex())
+        text = builder_trees.Node("numbers", builder_trees.BYTE, 3)
+        text.words = list(b"hi\0")
+        self.assertEqual(builder_trees.framed(text)[16:], "010000001a0000006869000000000000")
+        text.widen(1, 1)
+        self.assertEqual((text.sort, text.words, text.kids), ("structs", list(b"hi\0"), [None] * 3))
+
+    def test_another_answer_is_seen(self):
+        script = random_builders.Script(1)
+        for line in script.answers:
+            with self.assertRaises(random_builders.Differs):
+                script.correct(line, "Ok(Some(77))")
+        for line in script.looks:
+            with self.assertRaises(random_builders.Differs):
+                script.correct(line, "Err(Shape)")
+
+    def test_only_what_takes_words_is_refused_for_room(self):
+        script, room = random_builders.Script(1), "Err(Refused(OutOfMemory))"
+        line, number = next((line, it) for line, it in script.answers.items() if not script.calls[it].takes)
+        with self.assertRaises(random_builders.Differs):
+            script.correct(line, room)
+        line, number = next((line, it) for line, it in script.answers.items() if script.calls[it].takes)
+        before = script.lines[:line]
+        script.correct(line, room)
+        self.assertEqual((script.lines[:line], script.lines[line], script.refused), (before, "= em", {number: "m"}))
+        with self.assertRaises(random_builders.Differs):
+            script.correct(line, room)
+
+    def test_a_program_that_is_wrong_is_seen(self):
+        with tempfile.TemporaryDirectory() as room:
+            for said in ("line 5 of scripts differs: Ok(Some(7))", "", "1 scripts of scripts are as they should be"):
+                with open(f"{room}/p", "w", encoding="utf-8") as file:
+                    file.write(f"#!/bin/sh\necho '{said}'\n")
+                os.chmod(f"{room}/p", stat.S_IRWXU)
+                run = subprocess.run([sys.executable, f"{HERE}/random_builders.py", f"{room}/p", "100"], capture_output=True, check=False)
+                self.assertEqual(run.returncode, 1, said)
 
 
 class QuickLook(unittest.TestCase):

@@ -6,7 +6,7 @@ Each block of a document that begins with ```console is a walk of commands: a li
 of such commands; its files are those of crates/hagzimot/data, and what it writes lies beside them in a folder of its own. A last line '[status N]' tells a status that isn't 0. A command whose output differs is shown, and the
 status is 1. Nothing is written below the repository.
 
-Then `hagzimot schema` is run on each request of crates/cases_requests/data, and what it prints is compared, node by node, with the schema file that independent software made of it.
+Then `hagzimot schema` is run on each request of crates/hagzimot/data/requests, and what it prints is compared, node by node, with the schema file that independent software made of it.
 """
 import json
 import pathlib
@@ -21,7 +21,7 @@ TOP = pathlib.Path(__file__).resolve().parent.parent
 DOCUMENTS = (TOP / "README.md", TOP / "docs" / "TOOL.md")
 DATA = TOP / "crates" / "hagzimot" / "data"
 PROGRAM = TOP / "crates" / "hagzimot" / "out" / "hagzimot"
-REQUESTS = TOP / "crates" / "cases_requests" / "data"
+REQUESTS = TOP / "crates" / "hagzimot" / "data" / "requests"
 # What floats become with --floats-as-bits.
 AS_BITS = {"Float32": "UInt32", "Float64": "UInt64"}
 BLOCK = re.compile(r"^```console\n(.*?)^```$", re.MULTILINE | re.DOTALL)
