@@ -10,7 +10,8 @@ The library is made of the proved crate hagzimot_c, which is linked first, or wi
 - four threads with a handle each have the results of one thread;
 - C++ and the example of Python run;
 - Python relays the stored runs and random messages, and compares the stored pairs of schemas;
-- the crates of Rust, the module of Go, the wheel of Python and the examples of the pages are tried (c_bindings.py).
+- the crates of Rust, the module of Go, the wheel of Python, the examples of the pages and the benchmark are
+  tried (c_bindings.py).
 What the machine lacks, as go or cargo, is left out, and a line says so. With --rate, four threads must have 3.5 times the
 rate of one, which needs a quiet machine. Ends with status 1 if one fails.
 """
