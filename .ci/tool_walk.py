@@ -9,7 +9,7 @@ command whose output differs is shown, and the status is 1. Nothing is written i
 
 A block ```capnp has to be a part of a .capnp file of crates/hagzimot/data, apart from white space.
 
-Then `hagzimot schema` is run on each request of crates/cases_requests/data. What it prints is compared, node by node, with
+Then `hagzimot schema` is run on each request of crates/hagzimot/data/requests. What it prints is compared, node by node, with
 the schema file that independent software made of the request.
 
 The first steps are a page of the manual that tools/tests/test_first_steps.py follows.
@@ -29,7 +29,7 @@ MANUAL = TOP / "docs" / "manual"
 WITHOUT_WALK, FIRST_STEPS = ("id", "pipes", "version"), "first-steps"
 DATA = TOP / "crates" / "hagzimot" / "data"
 PROGRAM = TOP / "crates" / "hagzimot" / "out" / "hagzimot"
-REQUESTS = TOP / "crates" / "cases_requests" / "data"
+REQUESTS = TOP / "crates" / "hagzimot" / "data" / "requests"
 # What floats become with --floats-as-bits.
 AS_BITS = {"Float32": "UInt32", "Float64": "UInt64"}
 BLOCK = re.compile(r"^```console\n(.*?)^```$", re.MULTILINE | re.DOTALL)

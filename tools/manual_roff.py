@@ -128,9 +128,11 @@ def blocks_of(lines):
             now = None
         elif line.startswith("    ") and kind in (None, "code"):
             now, line = "code", line[4:]
+        elif line.startswith("  ") and kind == "item":
+            now = kind
         else:
             now = "table" if line.startswith("|") else "item" if ITEM.match(line) else "head" if line.startswith("#") else "text"
-        if block and (now != kind or now in ("item", "head")):
+        if block and (now != kind or now == "head" or (now == "item" and ITEM.match(line))):
             yield kind, block
             block = []
         kind = now

@@ -181,9 +181,9 @@ fn read_any(alloc: Global, bytes: &[u8], floats: Floats) -> Result<Requested, Sc
     }
 }
 
-/// Reads the schema of a file. The file is a request of the compiler, which `capnp compile -o-`
-/// writes, or a JSON schema file, whose ids are numbers or texts of their digits. Only a request
-/// names the fields that are floats, and those that are capabilities of an interface.
+/// Reads the schema of a file: a request of the compiler, which `capnp compile -o-` writes, or a
+/// JSON schema file, whose ids are numbers or texts of their digits. Only a request names the
+/// fields that are floats, and those that are capabilities of an interface.
 pub fn read_told(alloc: Global, bytes: &[u8], floats: Floats) -> Result<Requested, SchemaTrouble>
     ensures nodes { IfOk result
         (λ told. AreNodesTold floats bytes.now (map node_of told.nodes.items)) }
@@ -368,8 +368,8 @@ impl RootedSchema {
         self.set.nodes()
     }
 
-    /// Returns the fields that are floats in the compiler's request. The nodes have their bits as
-    /// whole numbers. Of a JSON file there are no such fields.
+    /// Returns the fields that are floats in the compiler's request, whose bits the nodes have as
+    /// whole numbers.
     pub fn floats(&self) -> &[FloatField]
         ensures { result.now ≡ self.now.floats.items }
     {
@@ -384,8 +384,7 @@ impl RootedSchema {
         !self.files.is_empty()
     }
 
-    /// Returns the fields that are capabilities of an interface in the compiler's request. Of a
-    /// JSON file there are no such fields.
+    /// Returns the fields that are capabilities of an interface in the compiler's request.
     pub fn interfaces(&self) -> &[InterfaceField]
         ensures { result.now ≡ self.now.interfaces.items }
     {
