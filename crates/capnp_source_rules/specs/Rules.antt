@@ -45,7 +45,7 @@ size_of_field T.Capability = F.Pointer
 size_of_field (T.Parameter scope index) = F.Pointer
 size_of_field (T.MethodParameter index) = F.Pointer
 
--- A field of a size and an offset is in the sections of a struct: so many words, and so many pointers.
+-- A field of a size and an offset is in the sections of a struct, with their words and pointers.
 abbrev pub FitsIn : ℕ → ℕ → ℕ → FieldSize → Type 0
 FitsIn words pointers offset F.Void = Unit {0}
 FitsIn words pointers offset (F.Data size) = (offset + 1) * bits_of size ≤ words * 64
