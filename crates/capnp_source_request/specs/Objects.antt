@@ -1,5 +1,5 @@
 -- What the objects of a request are. (schema.capnp; Cap'n Proto's encoding, "Lists")
-use Rattle.std.specs.Prelude.{ℕ, ◌≡◌, Bool, true, false, ⊥, List, length}
+use Rattle.std.specs.Prelude.{ℕ, ◌≡◌, Bool, true, false, List, length}
 use Rattle.capnp_source_nodes.specs.declared.values.Width.{Width}
 use Rattle.capnp_source_nodes.specs.declared.values.Object as O
 
