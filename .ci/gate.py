@@ -60,7 +60,7 @@ def shown(*words, log=None):
 
 
 def relays_the_example():
-    """The relay program, unproved, writes the example's message as docs/PIPES.md has it."""
+    """The relay program, unproved, writes the example's message as docs/manual/pipes.md has it."""
     data = ["--data", "p.json=../../examples/p.json", "--data", "set_a.json=../../examples/set_a.json"]
     with open(f"{TOP}/examples/newer_record", "rb") as message:
         words = ["rt", "try", *data, "--", "p.json", "set_a.json", "1", "framed"]
