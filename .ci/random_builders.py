@@ -319,7 +319,7 @@ class Script:
 
     def segments(self, rng, message):
         """A line of the words that a message's segments have at least."""
-        return f"5 {message} " + " ".join(map(str, [it := rng.randrange(2, 25), *(rng.randrange(13) for _ in range(it))]))
+        return f"5 {message} " + " ".join(map(str, [it := rng.randrange(4, 48), *(rng.randrange(13) for _ in range(it))]))
 
     def play(self):
         """Makes the calls; those that the program refused for room or a limit are refused."""
