@@ -129,7 +129,7 @@ CASES = (
     # Floats need no word.
     ("check shop_weighed.request", "shop_weighed.request: 4 nodes keep all rules", "", 0),
     ("check shop_weighed.request --floats-as-bits", "shop_weighed.request: 4 nodes keep all rules", "", 0),
-    ("check shop_broken.json", 'shop_broken.json: node 0 ("shop.capnp:Order") breaks rule 8: a slot lies in its section; its offset counts in the slot\'s own width', "", NO),
+    ("check shop_broken.json", 'shop_broken.json: node 0 ("shop.capnp:Order") breaks rule 8: a slot is in its section; its offset counts in the slot\'s own width', "", NO),
 )
 
 

@@ -466,7 +466,7 @@ MISTAKES = (
     ("paid > true", "column 6, >: a Bool has no order"),
     ("paid = yes", "column 8, yes: this is not a value of a Bool"),
     ("lines[x].count = 1", "column 1, lines[x].count: this is not a path"),
-    ("number[0] = 1", "column 1, number[0]: element 0 is asked of a value that is no list"),
+    ("number[0] = 1", "column 1, number[0]: element 0 is asked of a value that is not a list"),
     ("\"number\" = 1", "column 1, \"number\": a condition begins with a path (write it without quotes)"),
     ("(" * 65 + "number = 1" + ")" * 65, "column 65"),
     ("customer.näme = ä and number == 1", "column 30, ==: there is no operator =="),

@@ -45,8 +45,8 @@ impl Display for FloatTrouble {
     fn fmt<W: Write>(&self, f: &mut Formatter<W>) -> fmt::Result {
         match self {
             FloatTrouble::Step(misstep) => write!(f, "{misstep}"),
-            FloatTrouble::There(there) => write!(f, "a float is no value of {there}"),
-            FloatTrouble::Value => write!(f, "this is no value of a float"),
+            FloatTrouble::There(there) => write!(f, "a float is not a value of {there}"),
+            FloatTrouble::Value => write!(f, "this is not a value of a float"),
             FloatTrouble::Memory => write!(f, "there is no memory for it"),
         }
     }

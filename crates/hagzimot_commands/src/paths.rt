@@ -76,7 +76,7 @@ impl Display for Misstep {
             ),
             Misstep::NoList { index } => write!(
                 f,
-                "element {index} is asked of a value that is no list"
+                "element {index} is asked of a value that is not a list"
             ),
             Misstep::Memory => write!(f, "there is no memory for it"),
         }

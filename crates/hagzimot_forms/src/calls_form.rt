@@ -37,7 +37,7 @@ impl TryFrom<String> for Hex {
         if is_hex(text.as_bytes()) {
             Ok(Hex)
         } else {
-            Err("this is no text of hex")
+            Err("this is not a text of hexadecimal digits")
         }
     }
 }

@@ -13,12 +13,12 @@ pub fn rule_text(rule: u32) -> &'static str
         3 => "names within a node are distinct and not empty",
         4 => "no field is a float or a list of floats",
         5 =>
-            "a struct type names a struct that is no group, an enum type an enum, a group field a group",
+            "a struct type names a struct that is not a group, an enum type an enum, a group field a group",
         6 =>
-            "a group belongs to one group field, lies in no cycle and is no larger than its holder",
+            "a group belongs to one group field, is not in a cycle, and is not larger than its holder",
         7 =>
-            "the members of a union are numbered from 0 without a gap, and its discriminant lies in the data section",
-        8 => "a slot lies in its section; its offset counts in the slot's own width",
+            "the members of a union are numbered from 0 without a gap, and its discriminant is in the data section",
+        8 => "a slot is in its section; its offset counts in the slot's own width",
         9 => "two slots share a bit or a pointer only in different members of one union",
         10 => "a default is of its slot's type; untyped pointers and capabilities have none",
         11 =>
