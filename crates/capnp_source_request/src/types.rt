@@ -1,8 +1,5 @@
 //! Types and brands as structs of schema.capnp.
 
-ghost use Rattle.std.specs.Prelude.{◌≡◌, ◌==◌, false, IfOk, length};
-ghost use Rattle.capnp_source_request.specs.Objects.{is_null};
-
 use crate::objects::{parts, structs, word_of_four};
 use capnp_source_nodes::types::{Binding, BrandScope, Type};
 use capnp_source_nodes::values::{Object, Parts};
@@ -12,9 +9,7 @@ use std::alloc::{AllocError, Global};
 const ANY_POINTER: u16 = 18;
 
 /// A type without an object: its number, and the words that follow.
-fn plain(alloc: Global, number: u16, second: u64, third: u64) -> Result<Parts, AllocError>
-    ensures { IfOk result (λ p. length p.data.items ≡ 24) }
-{
+fn plain(alloc: Global, number: u16, second: u64, third: u64) -> Result<Parts, AllocError> {
     let first = u64::from(number);
     parts(
         alloc,
@@ -25,18 +20,14 @@ fn plain(alloc: Global, number: u16, second: u64, third: u64) -> Result<Parts, A
 
 /// A type that names a node.
 #[cycle(types)]
-fn of_node(alloc: Global, number: u16, id: u64, brand: &[BrandScope]) -> Result<Parts, AllocError>
-    ensures { IfOk result (λ p. length p.data.items ≡ 24) }
-{
+fn of_node(alloc: Global, number: u16, id: u64, brand: &[BrandScope]) -> Result<Parts, AllocError> {
     let brand = brand_object(alloc, brand)?;
     parts(alloc, &[u64::from(number), id, 0], vec![in alloc; brand]?)
 }
 
 /// A type as a struct `Type`.
 #[cycle(types)]
-pub fn type_parts(alloc: Global, ty: &Type) -> Result<Parts, AllocError>
-    ensures { IfOk result (λ p. length p.data.items ≡ 24) }
-{
+pub fn type_parts(alloc: Global, ty: &Type) -> Result<Parts, AllocError> {
     let number = match ty {
         Type::Void => 0,
         Type::Bool => 1,
@@ -59,9 +50,7 @@ pub fn type_parts(alloc: Global, ty: &Type) -> Result<Parts, AllocError>
 
 /// A type that has more than a number.
 #[cycle(types)]
-fn wide_type_parts(alloc: Global, ty: &Type) -> Result<Parts, AllocError>
-    ensures { IfOk result (λ p. length p.data.items ≡ 24) }
-{
+fn wide_type_parts(alloc: Global, ty: &Type) -> Result<Parts, AllocError> {
     match ty {
         Type::List(element) => {
             let mut object = Object::Null;
@@ -88,9 +77,7 @@ fn wide_type_parts(alloc: Global, ty: &Type) -> Result<Parts, AllocError>
 
 /// A brand as a pointer to a struct `Brand`, null if nothing is bound.
 #[cycle(types)]
-pub fn brand_object(alloc: Global, brand: &[BrandScope]) -> Result<Object, AllocError>
-    ensures { IfOk result (λ o. is_null o ≡ (length brand.now == 0)) }
-{
+pub fn brand_object(alloc: Global, brand: &[BrandScope]) -> Result<Object, AllocError> {
     if brand.is_empty() {
         return Ok(Object::Null);
     }
@@ -131,8 +118,6 @@ fn binding_parts(alloc: Global, argument: &Option<Type>) -> Result<Parts, AllocE
 }
 
 /// A type as a pointer to a struct `Type`.
-pub fn type_object(alloc: Global, ty: &Type) -> Result<Object, AllocError>
-    ensures { IfOk result (λ o. is_null o ≡ false) }
-{
+pub fn type_object(alloc: Global, ty: &Type) -> Result<Object, AllocError> {
     Ok(Object::Struct(type_parts(alloc, ty)?))
 }
