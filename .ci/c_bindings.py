@@ -1,4 +1,4 @@
-"""Tries the bindings of the library for C: those for Rust, Go, Python and C++, and the examples of their pages.
+"""Tries the bindings of the library for C: those for Rust, Go, Python and C++, the examples of their pages, and the benchmark.
 
 c_library.py calls `tried`. Each part returns a line that says what it did. If a part's tools are missing, the line says that
 it is left out.
@@ -168,7 +168,18 @@ def pages(room, out):
     return "the examples of five pages run as they are"
 
 
+def beside_libcapnp(room, out):
+    """Compares each message of the streams of examples/measure with that of libcapnp; the benchmark does this first."""
+    if not is_there("c++", "-fsyntax-only", "-x", "c++", "-include", "capnp/message.h", "/dev/null"):
+        return "libcapnp isn't there, and the benchmark is left out"
+    run(sys.executable, f"{TOP}/examples/measure/corpora.py", f"{room}/streams")
+    words = ("c++", "-std=c++17", "-Wall", "-Wextra", "-Werror", "-O2", f"-I{out}", f"{BINDINGS}/bench/bench.cpp")
+    run(*words, f"{out}/libhagzimot.a", "-lcapnp", "-lkj", "-o", f"{room}/bench")
+    lines = run(f"{room}/bench", f"{room}/streams", "1").splitlines()
+    return f"libcapnp writes the same messages, in a benchmark of {len(lines) - 2} works"
+
+
 def tried(room, out):
     """Tries each part, and returns its line."""
-    for part in (rust, go, wheel, pages):
+    for part in (rust, go, wheel, pages, beside_libcapnp):
         yield part(room, out)

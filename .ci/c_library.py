@@ -8,9 +8,10 @@ The library is made of the proved crate hagzimot_c, which is linked first, or wi
 - messages with changed bytes lie at the end of memory that can be read, and so do their outputs;
 - each allocation of each call is refused in turn;
 - four threads with a handle each have the results of one thread;
-- C++ and the example of Python run;
+- C++ and Python call each function, and the example of Python runs;
 - Python relays the stored runs and random messages, and compares the stored pairs of schemas;
-- the crates of Rust, the module of Go, the wheel of Python and the examples of the pages are tried (c_bindings.py).
+- the crates of Rust, the module of Go, the wheel of Python, the examples of the pages and the benchmark are
+  tried (c_bindings.py).
 What the machine lacks, as go or cargo, is left out, and a line says so. With --rate, four threads must have 3.5 times the
 rate of one, which needs a quiet machine. Ends with status 1 if one fails.
 """
@@ -123,6 +124,7 @@ def others(room, out):
     edited = run(sys.executable, f"{TOP}/bindings/python/edit.py", env=env)
     if not edited.endswith('(a = 9, t = "hi")'):
         raise Wrong(f"the example of Python writes\n{edited}")
+    print(run(sys.executable, f"{TOP}/.ci/c_python.py", out))
     cases = sorted(glob.glob(f"{TOP}/crates/cases_relay/data/*.jsonl"))
     print(run(sys.executable, f"{TOP}/.ci/c_runs.py", out, *cases))
     print(run(sys.executable, f"{TOP}/.ci/c_random.py", out))

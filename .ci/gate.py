@@ -107,11 +107,13 @@ def stages_after_proof():
     # Each script .ci/tool_*.py tries the command, and takes its path.
     for path in sorted(glob.glob(f"{TOP}/.ci/tool_*.py")):
         yield f"the command: {os.path.basename(path)}", script(os.path.basename(path), command)
+    yield "long messages and files", script("long_inputs.py", relay, command)
     yield "damaged requests", script("requests_damaged.py", command)
     yield "faults of files", script("faults_of_files.py", command)
     yield "devices that fail at each byte", script("faults_at_each_byte.py", built("cases_devices"), "crates/cases_devices")
     yield "the library for C", script("c_library.py")
     yield "growths refused in each builder call", script("faults_of_builders.py", built("cases_builders"), "crates/cases_builders/data/growths.txt")
+    yield "growths refused in each dynamic call", script("faults_of_dynamic.py", built("cases_dynamic"), "crates/cases_dynamic/data/growths.txt")
     yield "growths refused in each call", script("faults_at_each_growth.py", built("cases_growths"), "crates/cases_growths")
 
 

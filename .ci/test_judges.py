@@ -22,6 +22,7 @@ sys.path.insert(0, HERE)
 os.chdir(TOP)
 import builder_trees
 import faults_of_builders
+import faults_of_dynamic
 import message_values
 import plain_judge
 import program_runs
@@ -308,6 +309,34 @@ class Growths(unittest.TestCase):
         self.assertEqual(len({it.name for it in cases}), len(cases))
         self.assertTrue(all(it.lines[0] == "0 1 1" and it.lines[-1].startswith("1 ") for it in cases))
         self.assertTrue(any(it.is_free for it in cases) and any(len(it.states) > 1 for it in cases))
+
+
+class DynamicGrowths(unittest.TestCase):
+    """The judge of dynamic calls whose growths are refused."""
+
+    SCRIPTS = f"{TOP}/crates/cases_dynamic/data/growths.txt"
+
+    def test_a_refused_call_is_made_again(self):
+        lines = ["N 1 5 0000000000000000", "clear .text", "= k", "get", "= 'x", ". AA"]
+        case = faults_of_dynamic.Case("[]", ["* clear", "* may leave BB"], lines)
+        front = ["[]", lines[0], "where .numbers", "= 'list 2", "clear .text"]
+        self.assertEqual(case.made, [*front, "= k", ". AA"])
+        self.assertEqual(case.left, [[*front, "= eOutOfMemory", it] for it in (". 00000000010000000000000000000000", ". BB")])
+        self.assertEqual(case.again, [*front, "= eOutOfMemory", "clear .text", "= k", ". AA"])
+
+    def test_stored_scripts_have_one_call_each(self):
+        cases = list(faults_of_dynamic.cases_of(self.SCRIPTS))
+        self.assertEqual(len({it.name for it in cases}), len(cases))
+        self.assertTrue(any(it.is_free for it in cases) and any(len(it.left) > 1 for it in cases))
+
+    def test_a_program_that_is_wrong_is_seen(self):
+        with tempfile.TemporaryDirectory() as room:
+            for said in ("script: 1 cases are as they should be, 0 differ", "script: 0 cases are as they should be, 1 differ", "", "script: no case"):
+                with open(f"{room}/p", "w", encoding="utf-8") as file:
+                    file.write(f"#!/bin/sh\necho '{said}'\n")
+                os.chmod(f"{room}/p", stat.S_IRWXU)
+                run = subprocess.run([sys.executable, f"{HERE}/faults_of_dynamic.py", f"{room}/p", self.SCRIPTS], capture_output=True, check=False)
+                self.assertEqual(run.returncode, 1, said)
 
 
 class QuickLook(unittest.TestCase):

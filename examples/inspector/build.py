@@ -70,7 +70,7 @@ def retargeted(lines, data_layout):
             line = f'target triple = "{TARGET}"\n'
         elif line.startswith("attributes #"):
             # These name the processor of the other target, and a check of its stack.
-            line = re.sub(r'sanitize_address|"[\w-]+"="[\w-]*"', "", line)
+            line = re.sub(r'"[\w-]+"="[\w-]*"', "", line.replace("sanitize_address", "nounwind"))
         yield line
 
 

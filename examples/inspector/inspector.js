@@ -213,26 +213,41 @@ function save() {
   setTimeout(() => URL.revokeObjectURL(link.href), 1000);
 }
 
-async function takeFile(file, isSchema) {
-  const bytes = new Uint8Array(await file.arrayBuffer());
-  if (isSchema) {
-    state.schema = bytes;
-    byId("schema-name").textContent = file.name;
-    draw();
-  } else {
-    state.name = file.name;
-    byId("stream-name").textContent = file.name;
-    takeStream(bytes);
+// Compares a newer version of the schema with the one that is there.
+function compare(newer) {
+  try {
+    const why = state.library.firstBreak(state.schema ?? new Uint8Array(0), newer, byId("root").value);
+    tell(why ?? "the newer schema is compatible", why !== null);
+  } catch (error) {
+    tell(error.message, true);
   }
 }
 
-function listen(id, isSchema) {
-  const zone = byId(id), input = zone.querySelector("input");
-  input.onchange = () => input.files[0] && takeFile(input.files[0], isSchema);
+// What is done with the bytes of a file that is dropped onto a zone.
+const TAKEN = {
+  schema: (bytes) => {
+    state.schema = bytes;
+    draw();
+  },
+  stream: (bytes, name) => {
+    state.name = name;
+    takeStream(bytes);
+  },
+  newer: compare,
+};
+
+async function takeFile(file, what) {
+  TAKEN[what](new Uint8Array(await file.arrayBuffer()), file.name);
+  byId(`${what}-name`).textContent = file.name;
+}
+
+function listen(what) {
+  const zone = byId(`${what}-zone`), input = zone.querySelector("input");
+  input.onchange = () => input.files[0] && takeFile(input.files[0], what);
   zone.ondragover = (event) => event.preventDefault();
   zone.ondrop = (event) => {
     event.preventDefault();
-    takeFile(event.dataTransfer.files[0], isSchema);
+    takeFile(event.dataTransfer.files[0], what);
   };
 }
 
@@ -256,8 +271,7 @@ async function start() {
     tell(`This browser can't run the module: ${error.message}. It needs WebAssembly with 64-bit memory.`, true);
     return;
   }
-  listen("schema-zone", true);
-  listen("stream-zone", false);
+  Object.keys(TAKEN).forEach(listen);
   byId("root").onchange = draw;
   byId("example").onclick = example;
   byId("add").onclick = addCall;

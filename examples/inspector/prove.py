@@ -5,7 +5,7 @@ usage: prove.py ROOM     (ROOM: a folder for a workspace beside the repository)
 
 The functions are those of crates/hagzimot_in_process/src/frames.rt, with their contracts and proofs. They take no memory, so
 the toolchain builds them for WebAssembly. It refuses such a crate in this repository, so ROOM becomes a workspace with the
-crates below them. Leaves ROOM/frames.wasm, and prints the last line of the proof.
+crates below them. Leaves ROOM/frames.wasm, and prints the last lines of the proofs.
 """
 import os
 import re
@@ -48,6 +48,10 @@ def make_workspace(room):
     write(f"{folder}/proofs/Lib.antt", "mod Framing\nmod Refusals\n")
     write(f"{room}/crates.txt", ROW)
     subprocess.run([sys.executable, f"{TOP}/examples/outside/set_up", room, CRATE, *USES], check=True, stdout=subprocess.DEVNULL)
+    # The toolchain takes what this checkout has proved of the same texts.
+    for name in sorted(os.listdir(f"{room}/crates")):
+        if os.path.isdir(f"{TOP}/crates/{name}/out") and not os.path.isdir(f"{room}/crates/{name}/out"):
+            shutil.copytree(f"{TOP}/crates/{name}/out", f"{room}/crates/{name}/out", symlinks=True)
 
 
 def main(words):

@@ -9,22 +9,19 @@ The browser is Debian's chromium, or what HAGZIMOT_BROWSER names; without one th
 shows or saves anything else than it must.
 """
 import base64
-import html
 import json
 import os
-import re
-import shutil
-import subprocess
 import sys
 import tempfile
+import time
 
+import browser
 import build
 
-CANT_RUN, LIMIT = 77, 300
-NAMES = ("chromium", "chromium-browser", "google-chrome")
-WORDS = ("--headless", "--no-sandbox", "--disable-gpu", "--hide-scrollbars", "--window-size=1280,1100", "--virtual-time-budget=60000")
+CANT_RUN = 77
 SCHEMA = """[{"id": 1, "name": "P", "data": 1, "pointers": 1, "fields": [
     {"name": "a", "type": "UInt16", "offset": 0}, {"name": "t", "type": "Text", "offset": 0}]}]"""
+OTHER = SCHEMA.replace('"UInt16", "offset": 0', '"UInt16", "offset": 1')
 # (a = 7) with two data words, (a = 7, t = "hi") in canonical form, and that with a text out of the message.
 WIDE = "0000000003000000 0000000002000000 0700000000000000 0000000000000000"
 PLAIN = "0000000004000000 0000000001000100 0700000000000000 010000001a000000 6869000000000000"
@@ -63,27 +60,12 @@ def hex_of(*messages):
     return "".join(messages).replace(" ", "")
 
 
-def browser():
-    """The path of the browser, or nothing."""
-    return os.environ.get("HAGZIMOT_BROWSER") or next(filter(None, map(shutil.which, NAMES)), None)
-
-
-def drive(program, page, room):
+def drive(chromium, page, room):
     """Runs the page with try.js in it, and returns what that saw."""
-    given = json.dumps({"schema": SCHEMA, "stream": hex_of(WIDE, PLAIN, FAR)})
+    given = json.dumps({"schema": SCHEMA, "other": OTHER, "stream": hex_of(WIDE, PLAIN, FAR)})
     script = f"<script>\nconst GIVEN = {given};\n{build.text_of(f'{build.HERE}/try.js')}</script>\n</html>"
-    return result(program, build.text_of(page).replace("</html>", script), room)
-
-
-def result(program, text, room):
-    """Opens a page, and returns what it leaves in the element `result`."""
-    build.write(f"{room}/try.html", text)
-    words = (program, *WORDS, f"--user-data-dir={room}/profile", "--dump-dom", f"file://{room}/try.html")
-    run = subprocess.run(words, capture_output=True, text=True, timeout=LIMIT, check=False)
-    found = re.search(r'(?s)<pre id="result">(.*?)</pre>', run.stdout)
-    if not found:
-        raise Wrong(f"{program}: status {run.returncode}, and the page isn't driven\n{run.stderr[-2000:]}")
-    return json.loads(html.unescape(found[1]))
+    build.write(f"{room}/try.html", build.text_of(page).replace("</html>", script))
+    return chromium.result(chromium.open(f"file://{room}/try.html"))
 
 
 def judge(seen):
@@ -96,6 +78,8 @@ def judge(seen):
     rows = [it[1:] for it in seen["dropped"]["rows"]]
     wanted = [["32", "1", "not canonical", "(a = 7)"], ["40", "1", "canonical", '(a = 7, t = "hi")'], ["40", "1", "no value", FAULT]]
     expect(rows, wanted, "the messages")
+    expect(seen["compatible"], "the newer schema is compatible", "what is said of the same schema")
+    expect(seen["broken"], 'P: field "a" lies elsewhere in the newer schema', "what is said of another schema")
     pointers = [it[3] for it in seen["words"]]
     expect(pointers, ["struct at word 1: 1 data, 1 pointers", "", "list at word 3: 3 of 1 byte", ""], "the words")
     expect(seen["edited"]["log"].split("\n"), LINES, "the log")
@@ -104,24 +88,37 @@ def judge(seen):
     expect(seen["cut"]["said"], "input: from byte 72 on it isn't a message; 2 messages are before", "what is said of a cut stream")
 
 
-def try_frames(program, module, room):
+def try_frames(chromium, module, room):
     """Calls the functions of the proved module."""
     with open(module, "rb") as file:
         data = base64.b64encode(file.read()).decode()
     message = ", ".join(str(it) for it in bytes.fromhex(WIDE))
-    seen = result(program, FRAMES.replace("@MODULE@", data).replace("@MESSAGE@", message), room)
+    build.write(f"{room}/frames.html", FRAMES.replace("@MODULE@", data).replace("@MESSAGE@", message))
     wanted = bytes.fromhex(EDITED[0].replace("09", "07"))
+    seen = chromium.result(chromium.open(f"file://{room}/frames.html"))
     expect(seen, {"status": 0, "is": [9, 0], "out": [*wanted]}, "the proved module")
 
 
-def shoot(program, page, room, to):
+def shoot(chromium, page, to):
     """Takes a picture of the page with its example."""
-    script = '<script>setInterval(() => document.body.dataset.ready && !state.schema && byId("example").click(), 50);</script></html>'
-    build.write(f"{room}/shot.html", build.text_of(page).replace("</html>", script))
-    words = (program, *WORDS, f"--user-data-dir={room}/profile", f"--screenshot={os.path.abspath(to)}", f"file://{room}/shot.html")
-    subprocess.run(words, capture_output=True, timeout=LIMIT, check=False)
-    if not os.path.isfile(to):
-        raise Wrong(f"{program}: it takes no picture")
+    session = chromium.open(f"file://{os.path.abspath(page)}")
+    end = time.monotonic() + 60
+    while time.monotonic() < end and not chromium.value(session, "document.body?.dataset.ready"):
+        time.sleep(0.1)
+    chromium.value(session, "byId('example').click()")
+    chromium.shoot(session, to)
+
+
+def try_all(program, room, options):
+    """Builds the page and tries it. Returns its size."""
+    page = build.build(room, options.get("--module"), lambda text: print(text, file=sys.stderr, flush=True))
+    with browser.Browser(program, f"{room}/profile") as chromium:
+        judge(drive(chromium, page, room))
+        if "--frames" in options:
+            try_frames(chromium, options["--frames"], room)
+        if "--screenshot" in options:
+            shoot(chromium, page, options["--screenshot"])
+    return os.path.getsize(page)
 
 
 def main(words):
@@ -129,20 +126,14 @@ def main(words):
     if len(words) % 2 or not {*options} <= {"--module", "--screenshot", "--frames"}:
         print(__doc__)
         return 2
-    program = browser()
+    program = browser.program()
     if program is None:
         print("no browser is there (install Debian's package chromium)")
         return CANT_RUN
     try:
         with tempfile.TemporaryDirectory() as room:
-            page = build.build(room, options.get("--module"), lambda text: print(text, file=sys.stderr, flush=True))
-            judge(drive(program, page, room))
-            if "--frames" in options:
-                try_frames(program, options["--frames"], room)
-            if "--screenshot" in options:
-                shoot(program, page, room, options["--screenshot"])
-            size = os.path.getsize(page)
-    except (Wrong, build.unproved.Failed, subprocess.TimeoutExpired) as wrong:
+            size = try_all(program, room, options)
+    except (Wrong, browser.Stopped, build.unproved.Failed) as wrong:
         print(wrong)
         return 1
     print(f"the inspector, of {size} bytes, shows, edits and saves messages as it must")

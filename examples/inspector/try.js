@@ -11,12 +11,12 @@ async function until(test) {
   }
 }
 
-// Drops a file onto a zone.
+// Drops a file onto a zone, and waits until the page has taken it.
 async function drop(zone, name, bytes) {
   const transfer = new DataTransfer();
   transfer.items.add(new File([bytes], name));
   byId(zone).dispatchEvent(new DragEvent("drop", {dataTransfer: transfer, cancelable: true, bubbles: true}));
-  await pause(100);
+  await until(() => byId(zone.replace("zone", "name")).textContent === name);
 }
 
 function seen() {
@@ -54,6 +54,10 @@ async function drive(given) {
   await drop("schema-zone", "schema.json", new TextEncoder().encode(given.schema));
   await drop("stream-zone", "messages.bin", fromHex(given.stream));
   found.dropped = seen();
+  await drop("newer-zone", "same.json", new TextEncoder().encode(given.schema));
+  found.compatible = byId("said").textContent;
+  await drop("newer-zone", "other.json", new TextEncoder().encode(given.other));
+  found.broken = byId("said").textContent;
   byId("messages").rows[1].click();
   found.words = [...byId("words").rows].map((row) => [...row.cells].map((it) => it.textContent));
   edit("a", "set", "number", "9");

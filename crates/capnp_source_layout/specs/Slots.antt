@@ -82,7 +82,7 @@ union_at scopes scope = union_of (scope_at scopes scope)
 abbrev pub around : List Scope → ℕ → ℕ
 around scopes scope = around_in scopes (union_at scopes scope) scope
 
--- The scope so many unions outward.
+-- The scope that a number of unions outward leads to.
 abbrev pub outward : List Scope → ℕ → ℕ → ℕ
 outward scopes zero scope = scope
 outward scopes (suc unions) scope = outward scopes unions (around scopes scope)

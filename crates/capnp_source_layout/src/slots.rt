@@ -190,7 +190,7 @@ pub fn slots_of(
     Ok(slots)
 }
 
-/// Returns the place that the members of a union share: so many bits from a bit on.
+/// Returns the place that the members of a union share: `bits` bits from a bit on.
 fn place(scope: usize, union: usize, start: Option<u64>, bits: u64) -> Result<Slot, LayoutFault> {
     let Some(start) = start else {
         return Err(LayoutFault::TooLarge);

@@ -1,5 +1,5 @@
 -- Rules that the nodes of a schema keep. (schema.capnp, "Node" and "Field"; encoding document, "Structs")
-use Rattle.std.specs.Prelude.{ℕ, ◌≡◌, ◌+◌, ◌*◌, ◌^◌, ◌<◌, ◌≤◌, ◌⊎◌, ◌==◌, if◌then◌else◌, List, [], ◌∷◌, ◌++◌, length, All}
+use Rattle.std.specs.Prelude.{ℕ, ◌≡◌, ◌+◌, ◌*◌, ◌^◌, ◌<◌, ◌≤◌, ◌⊎◌, ◌==◌, if◌then◌else◌, Bool, true, false, List, [], ◌∷◌, ◌++◌, length, All}
 use Rattle.std.specs.List.{range_with_len}
 use Rattle.capnp_source_layout.specs.declared.sections.DataSize.TheVariants.{Bit, Byte, TwoBytes, FourBytes, EightBytes}
 use Rattle.capnp_source_layout.specs.declared.structs.FieldSize.{FieldSize}
@@ -45,7 +45,13 @@ size_of_field T.Capability = F.Pointer
 size_of_field (T.Parameter scope index) = F.Pointer
 size_of_field (T.MethodParameter index) = F.Pointer
 
--- A field of a size and an offset is in the sections of a struct: so many words, and so many pointers.
+-- Whether a field of a size is a pointer.
+abbrev pub is_pointer : FieldSize → Bool
+is_pointer F.Pointer = true
+is_pointer F.Void = false
+is_pointer (F.Data size) = false
+
+-- A field of a size and an offset is in the sections of a struct, with their words and pointers.
 abbrev pub FitsIn : ℕ → ℕ → ℕ → FieldSize → Type 0
 FitsIn words pointers offset F.Void = Unit {0}
 FitsIn words pointers offset (F.Data size) = (offset + 1) * bits_of size ≤ words * 64

@@ -1,7 +1,7 @@
 //! The sizes and numbers of types.
 
 ghost use Rattle.std.specs.Prelude.{◌≡◌};
-ghost use Rattle.capnp_source_rules.specs.Rules.{size_of_field, type_number, value_number};
+ghost use Rattle.capnp_source_rules.specs.Rules.{size_of_field, is_pointer, type_number, value_number};
 
 use capnp_source_layout::sections::DataSize;
 use capnp_source_layout::structs::FieldSize;
@@ -30,6 +30,17 @@ pub fn size_of_field(ty: &Type) -> FieldSize
         | Type::Capability
         | Type::Parameter { .. }
         | Type::MethodParameter { .. } => FieldSize::Pointer,
+    }
+}
+
+/// Whether a value of a type is what a pointer leads to.
+pub fn is_pointer(ty: &Type) -> bool
+    ensures { result ≡ is_pointer (size_of_field ty.now) }
+{
+    match size_of_field(ty) {
+        FieldSize::Pointer => true,
+        FieldSize::Void => false,
+        FieldSize::Data(_) => false,
     }
 }
 
