@@ -1,8 +1,11 @@
 -- What exports do to what a handle holds, and to lent memory.
-use Rattle.std.specs.Prelude.{◌≡◌, ◌≤◌, ◌==◌, ◌/◌, ◌%◌, ℕ, Bool, true, false, List, [], ◌∷◌, Option, Some, None, IsSomeAnd, length, take, Ok}
+use Rattle.std.specs.Prelude.{◌≡◌, ◌≤◌, ◌==◌, ◌/◌, ◌%◌, ℕ, Bool, true, false, List, [], ◌∷◌, Option, Some, None, IfSome, IsSomeAnd, length, take, Ok}
 use Rattle.capnp_model.specs.Runs.{End}
 use Rattle.capnp_values_queries.specs.declared.structs.StructSchema.{StructSchema}
-use Rattle.capnp_relay_show.specs.Answers.{shown_by}
+use Rattle.capnp_relay_loop.specs.declared.ends.Counts.{Counts}
+use Rattle.capnp_relay_loop.specs.declared.ends.Fault.{Fault}
+use Rattle.capnp_relay_show.specs.Answers.{shown_by, IsShowFault}
+use Rattle.capnp_relay_show.specs.declared.show.ShowFault.{ShowFault}
 use Rattle.capnp_relay_streams.specs.declared.options.Form.{Form}
 use Rattle.capnp_relay_streams.specs.declared.options.Form.TheVariants.{Framed, Packed}
 use Rattle.hagzimot_in_process.specs.declared.frames.Limits.{Limits}
@@ -11,8 +14,9 @@ use Rattle.hagzimot_in_process.specs.declared.kinds.Kind.TheVariants as kinds
 use Rattle.hagzimot_in_process.specs.declared.relay.Forms.{Forms}
 use Rattle.hagzimot_in_process.specs.declared.relay.Relay.{Relay}
 use Rattle.hagzimot_in_process.specs.declared.versions.Versions.{Versions}
-use Rattle.hagzimot_in_process.specs.Relays.{IsRootIn, Ran, AreAlike}
+use Rattle.hagzimot_in_process.specs.Relays.{IsRootIn, Ran, Stopped, AreAlike}
 use Rattle.hagzimot_in_process.specs.Opened.{IsOpened, AreVersionsOf, AreCompatible}
+use Rattle.hagzimot_c.specs.Statuses.{status_of, show_status_of}
 
 -- The word that names a root; empty bytes are none.
 abbrev pub word_of : List ℕ → Option (List ℕ)
@@ -73,6 +77,21 @@ RanKind bytes end (kinds.Relay old) (kinds.Relay new) = Ran old bytes end new
 abbrev pub RunsInto : List ℕ → End → Lent → Option Kind → Option Kind → Type 0
 RunsInto bytes end l old new = IsSomeAnd old (λ k. IsSomeAnd new (λ m. RanKind bytes end k m × HasResultsOf l m))
 
+-- A relay answered some messages of bytes, and stopped by a fault of this status.
+pub record StopsBy (bytes : List ℕ) (status : ℕ) (old new : Relay) : Type 0 where
+  pub fault : Fault
+  pub counts : Counts
+  pub status_is : status_of fault ≡ status
+  pub stopped : Stopped old bytes fault counts new
+
+-- The same of what a handle holds.
+abbrev pub KindStopsBy : List ℕ → ℕ → Kind → Kind → Type 0
+KindStopsBy bytes status (kinds.Relay old) (kinds.Relay new) = StopsBy bytes status old new
+
+-- What a handle holds, if anything, stopped by a fault of this status, and lent memory has the results until then.
+abbrev pub StopsInto : List ℕ → ℕ → Lent → Option Kind → Option Kind → Type 0
+StopsInto bytes status l old new = IfSome old (λ k. IsSomeAnd new (λ m. KindStopsBy bytes status k m × HasResultsOf l m))
+
 -- The text of the record of the message at the front of bytes is lent, under the schema and the limits of a relay.
 pub record Shows (bytes out : List ℕ) (len : ℕ) (r : Relay) : Type 0 where
   pub root : StructSchema
@@ -84,6 +103,18 @@ pub record Shows (bytes out : List ℕ) (len : ℕ) (r : Relay) : Type 0 where
 -- The same of what a handle holds.
 abbrev pub ShowsInto : List ℕ → List ℕ → ℕ → Kind → Type 0
 ShowsInto bytes out len (kinds.Relay r) = Shows bytes out len r
+
+-- No text is shown of the message at the front of bytes, for a reason of this status.
+pub record IsNotShown (bytes : List ℕ) (status : ℕ) (r : Relay) : Type 0 where
+  pub root : StructSchema
+  pub is_root : IsRootIn r root
+  pub fault : ShowFault
+  pub why : IsShowFault root r.limits bytes fault
+  pub status_is : show_status_of fault ≡ status
+
+-- The same of what a handle holds.
+abbrev pub IsKindNotShown : List ℕ → ℕ → Kind → Type 0
+IsKindNotShown bytes status (kinds.Relay r) = IsNotShown bytes status r
 
 -- Versions of schema files, a renames file and a word for their roots are compatible.
 abbrev pub AreFound : List ℕ → List ℕ → List ℕ → List ℕ → Versions → Type 0

@@ -1,8 +1,8 @@
 //! Calls on what a handle holds.
-ghost use Rattle.std.specs.Prelude.{◌≡◌, ◌≤◌, true, false, length};
+ghost use Rattle.std.specs.Prelude.{◌≡◌, ◌≢◌, ◌≤◌, true, false, length};
 ghost use Rattle.capnp_model.specs.Kinds.{Kind as Fault};
 ghost use Rattle.capnp_model.specs.Runs.{finished, broken};
-ghost use Rattle.hagzimot_c.specs.Exports.{RanKind, HasResultsOf, AreKindsAlike, Fits, Shows, ShowsInto, lent};
+ghost use Rattle.hagzimot_c.specs.Exports.{RanKind, KindStopsBy, HasResultsOf, AreKindsAlike, Fits, Shows, ShowsInto, IsNotShown, IsKindNotShown, lent};
 ghost use Rattle.hagzimot_in_process.specs.Relays.{AreAlike};
 
 use crate::lent::{copy_out, copy_results};
@@ -12,7 +12,7 @@ use hagzimot_in_process::relay::Relay;
 use std::alloc::Global;
 
 /// Answers the messages of the input, copies what is written and logged, and returns the status.
-#[tactic(auto, using(crate::proofs::Ended::ran_all, crate::proofs::Ended::ran_cut))]
+#[tactic(auto, using(crate::proofs::Ended::ran_all, crate::proofs::Ended::ran_cut, crate::proofs::Ended::stopped))]
 pub(crate) fn relay_into(
     alloc: Global,
     kind: &mut Kind,
@@ -28,6 +28,8 @@ pub(crate) fn relay_into(
         × Fits (lent out.new out_len.new log.new log_len.new) }
     ensures room { result ≡ 4 → RanKind input.now finished kind.old kind.new }
     ensures cut { result ≡ 6 → (why : Fault) × RanKind input.now (broken why) kind.old kind.new }
+    ensures stopped { result ≢ 0 → result ≢ 4 → result ≢ 6
+        → KindStopsBy input.now result kind.old kind.new }
 {
     match kind {
         Kind::Relay(relay) => {
@@ -67,6 +69,7 @@ fn text_into(
     ensures text { result ≡ 0 → Shows input.now out.new out_len.new relay.old
         × (out_len.new ≤ length out.new) }
     ensures room { result ≡ 4 → Shows input.now out.new out_len.new relay.old }
+    ensures refused { result ≢ 0 → result ≢ 4 → IsNotShown input.now result relay.old }
 {
     match relay.show(alloc, input) {
         Ok(()) if copy_out(relay.output(), out, out_len) => OK,
@@ -87,6 +90,7 @@ pub(crate) fn show_into(
     ensures text { result ≡ 0 → ShowsInto input.now out.new out_len.new kind.old
         × (out_len.new ≤ length out.new) }
     ensures room { result ≡ 4 → ShowsInto input.now out.new out_len.new kind.old }
+    ensures refused { result ≢ 0 → result ≢ 4 → IsKindNotShown input.now result kind.old }
 {
     match kind {
         Kind::Relay(relay) => text_into(alloc, relay, input, out, out_len),

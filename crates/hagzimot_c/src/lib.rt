@@ -11,7 +11,7 @@ ghost use Rattle.capnp_wire_canonical.specs.Writes.{filled};
 ghost use Rattle.hagzimot_in_process.specs.Frames.{BeginsWith, BeginsWithNone, IsCanonicalForm, IsNotCanonical, IsBeyond, HasNoForm, HasNoRoom};
 ghost use Rattle.hagzimot_in_process.specs.declared.versions.Versions.{Versions as Pair};
 ghost use Rattle.hagzimot_in_process.specs.Opened.{AreCompatible};
-ghost use Rattle.hagzimot_c.specs.Exports.{word_of, forms_in, IsOpenedKind, RunsInto, ShowsInto, HasResultsOf, AreKindsAlike, Fits, lent, AreFound, AreBroken, limits};
+ghost use Rattle.hagzimot_c.specs.Exports.{word_of, forms_in, IsOpenedKind, RunsInto, ShowsInto, StopsInto, IsKindNotShown, HasResultsOf, AreKindsAlike, Fits, lent, AreFound, AreBroken, limits};
 
 mod kinds;
 mod lent;
@@ -116,6 +116,9 @@ pub extern "C" fn hz_relay(
         RunsInto input.now finished memory handle.old.value handle.new.value }
     ensures cut { result ≡ 6 → let memory = lent out.new out_len.new log.new log_len.new in
         (why : Fault) × RunsInto input.now (broken why) memory handle.old.value handle.new.value }
+    ensures stopped { result ≢ 0 → result ≢ 4 → result ≢ 6 →
+        let memory = lent out.new out_len.new log.new log_len.new in
+        StopsInto input.now result memory handle.old.value handle.new.value }
     ensures alike { IfSome handle.old.value
         (λ old. IsSomeAnd handle.new.value (AreKindsAlike old)) }
     ensures closed { handle.old.value ≡ None → (result ≡ 2) × (handle.new.value ≡ None) }
@@ -171,6 +174,8 @@ pub extern "C" fn hz_show(
         × IsSomeAnd handle.old.value (ShowsInto input.now out.new out_len.new) }
     ensures room { result ≡ 4 →
         IsSomeAnd handle.old.value (ShowsInto input.now out.new out_len.new) }
+    ensures refused { result ≢ 0 → result ≢ 4 →
+        IfSome handle.old.value (IsKindNotShown input.now result) }
     ensures alike { IfSome handle.old.value
         (λ old. IsSomeAnd handle.new.value (AreKindsAlike old)) }
     ensures closed { handle.old.value ≡ None → (result ≡ 2) × (handle.new.value ≡ None) }

@@ -2,7 +2,7 @@
 ghost use Rattle.std.specs.Prelude.{◌≡◌, ◌≢◌, ◌<◌, ◌≤◌, ◌⊎◌, true, false, IsOk, IfSome, IfNone, OnSome, option_copied};
 ghost use Rattle.hagzimot_in_process.specs.declared.frames.FrameFault.{FrameFault};
 ghost use Rattle.hagzimot_c.specs.Exports.{word_of, form_if, forms_in};
-ghost use Rattle.hagzimot_c.specs.Statuses.{IsFraming, IsCut};
+ghost use Rattle.hagzimot_c.specs.Statuses.{IsCut, EndsBy, status_of, show_status_of};
 
 use capnp_relay_loop::ends::{Counts, Fault, RelayFault};
 use capnp_relay_show::show::ShowFault;
@@ -77,8 +77,7 @@ pub(crate) fn root_word(bytes: &[u8]) -> Option<Option<&str>>
 
 /// Returns the status of a fault of a run.
 fn fault_status(fault: Fault) -> u32
-    ensures fault { (result ≡ 1) ⊎ ((result ≡ 6) ⊎ (result ≡ 8)) }
-    ensures cut { result ≡ 6 → IsFraming fault }
+    ensures { result ≡ status_of fault }
 {
     match fault {
         Fault::Framing(_) => FRAMING,
@@ -93,6 +92,7 @@ pub(crate) fn relay_status(end: Result<Counts, RelayFault>, fits: bool) -> u32
     ensures ok { result ≡ 0 → IsOk end × (fits ≡ true) }
     ensures room { result ≡ 4 → IsOk end × (fits ≡ false) }
     ensures cut { result ≡ 6 → IsCut end }
+    ensures stopped { result ≢ 0 → result ≢ 4 → EndsBy result end }
 {
     match end {
         Err(e) => fault_status(e.fault),
@@ -103,8 +103,7 @@ pub(crate) fn relay_status(end: Result<Counts, RelayFault>, fits: bool) -> u32
 
 /// Returns the status of a message that isn't shown.
 pub(crate) fn show_status(fault: ShowFault) -> u32
-    ensures done { result ≢ 0 }
-    ensures room { result ≢ 4 }
+    ensures { result ≡ show_status_of fault }
 {
     match fault {
         ShowFault::Framing(_) => FRAMING,
