@@ -16,8 +16,8 @@ ghost use Rattle.capnp_wire_canonical.specs.Objects.{IsShort, WritesObject, HasP
 use crate::cuts::{Cut, cut_of, pointer_to_cut};
 use crate::follow::{follow_data, follow_near_list, follow_near_struct, follow_nulls};
 use crate::landed::follow_other;
-use crate::list_copies::write_list;
-use crate::own_words::copy_words;
+use crate::list_copies::{write_common, write_list};
+use crate::own_words::{are_words, copy_words};
 use crate::words::{end_of, pointer_to_list, pointer_to_struct, put};
 use capnp_units::errors::Result;
 use capnp_units::limiter::ReadLimiter;
@@ -29,8 +29,9 @@ use capnp_wire_objects::place::{Place, segment_bytes};
 
 /// Writes the pointer at a place to what it leads to, which goes after the words that are used. It
 /// returns where that ends.
+// Measured: out of line, so the loops over rows have registers enough.
 #[cycle(write)]
-#[inline(always)]
+#[inline(never)]
 pub(crate) fn write_at<A: ReaderArena>(
     arena: &A,
     bytes: &[u8],
@@ -66,7 +67,7 @@ pub(crate) fn write_at<A: ReaderArena>(
 /// Does the work of `write_at` for objects that `follow_near_list` and `follow_near_struct` don't
 /// find.
 #[cycle(write)]
-#[inline(never)]
+#[inline(always)]
 fn write_other<A: ReaderArena>(
     arena: &A,
     bytes: &[u8],
@@ -91,6 +92,7 @@ fn write_other<A: ReaderArena>(
 
 /// Does the work of `write_at` for any object, a near list or struct too.
 #[cycle(write)]
+#[inline(never)]
 fn write_any<A: ReaderArena>(
     arena: &A,
     limiter: &mut ReadLimiter,
@@ -178,6 +180,7 @@ fn write_object<A: ReaderArena>(
 
 /// Writes the pointer to a struct, and the struct with what is below it after the words in use.
 #[cycle(write)]
+#[inline(never)]
 fn write_struct<A: ReaderArena>(
     arena: &A,
     bytes: &[u8],
@@ -208,6 +211,7 @@ fn write_struct<A: ReaderArena>(
 
 /// Writes the pointer to a list of structs, and it with what is below it after the words in use.
 #[cycle(write)]
+#[inline(never)]
 fn write_structs<A: ReaderArena>(
     arena: &A,
     bytes: &[u8],
@@ -243,18 +247,9 @@ fn write_structs<A: ReaderArena>(
         cut.kept_pointers as u64,
     );
     put(into, used, tag);
+    let first = used + 1;
     write_elements(
-        arena,
-        bytes,
-        limiter,
-        start,
-        words,
-        count,
-        cut,
-        levels,
-        into,
-        used + 1,
-        end,
+        arena, bytes, limiter, start, words, count, cut, levels, into, first, end,
     )
 }
 
@@ -285,16 +280,12 @@ fn write_row<A: ReaderArena>(
             segment: first.segment,
             position: first.position + i as usize,
         };
-        let next = write_at(
-            arena,
-            bytes,
-            limiter,
-            place,
-            levels,
-            into,
-            at + i as usize,
-            end,
-        )?;
+        let slot = at + i as usize;
+        if let Some(next) = write_common(arena, bytes, limiter, place, levels, into, slot, end) {
+            end = next;
+            continue;
+        }
+        let next = write_at(arena, bytes, limiter, place, levels, into, slot, end)?;
         end = next;
     }
     Ok(end)
@@ -329,17 +320,8 @@ fn write_element<A: ReaderArena>(
         position: start.position + cut.data_words as usize,
     };
     let pointers = cut.kept_pointers as u32;
-    let end = write_row(
-        arena,
-        bytes,
-        limiter,
-        first,
-        pointers,
-        levels,
-        into,
-        at + kept,
-        used,
-    )?;
+    let slot = at + kept;
+    let end = write_row(arena, bytes, limiter, first, pointers, levels, into, slot, used)?;
     follow_nulls(limiter, cut.pointers as u32 - pointers);
     Ok(end)
 }
@@ -374,10 +356,27 @@ fn write_elements<A: ReaderArena>(
     if cut.data_words == 0 && cut.pointers == 0 {
         return Ok(used);
     }
+    let width = cut.data_words as usize + cut.pointers as usize;
+    let kept = cut.kept_words as usize + cut.kept_pointers as usize;
     let mut end = used;
+    if kept == width {
+        // All own words at once; pointers are then written over theirs.
+        are_words(arena, start.segment);
+        copy_words(arena, bytes, start, count as usize * width, into, at);
+        for i in 0..count {
+            let words_before = i as usize * width;
+            let first = Place {
+                segment: start.segment,
+                position: start.position + words_before + cut.data_words as usize,
+            };
+            let slot = at + words_before + cut.data_words as usize;
+            let pointers = cut.pointers as u32;
+            let next = write_row(arena, bytes, limiter, first, pointers, levels, into, slot, end)?;
+            end = next;
+        }
+        return Ok(end);
+    }
     for i in 0..count {
-        let width = cut.data_words as usize + cut.pointers as usize;
-        let kept = cut.kept_words as usize + cut.kept_pointers as usize;
         let element = Place {
             segment: start.segment,
             position: start.position + i as usize * width,

@@ -1,5 +1,6 @@
 //! Words of a slice.
 ghost use Rattle.std.specs.Prelude.{◌≡◌, ℕ, ◌+◌, ◌-◌, ◌*◌, ◌%◌, ◌≤◌, ◌<◌, ◌^◌, ◌++◌, List, length, get_or, set, min, MatchResult};
+ghost use Rattle.std.specs.Bool.{OnTrue};
 ghost use Rattle.capnp_model.specs.Encoding.{struct_pointer, list_pointer};
 ghost use Rattle.capnp_units.specs.declared.kinds.ErrorKind.TheVariants.{BufferNotLargeEnough};
 ghost use Rattle.capnp_model.specs.Sections.{words_for, words_of};
@@ -25,6 +26,16 @@ pub(crate) fn end_of(into: &[Word], used: usize, words: usize) -> Result<usize>
         return Err(Error::from(ErrorKind::BufferNotLargeEnough));
     }
     Ok(used + words)
+}
+
+/// Whether the slice, and a message's 2^29 - 1 words, have room for n words after those that are
+/// used.
+#[inline(always)]
+pub(crate) fn has_room(into: &[Word], used: usize, words: usize) -> bool
+    ensures { OnTrue result ((used + words ≤ length into.now) × (used + words < 2 ^ 29)) }
+{
+    let room = into.len().min(MOST_WORDS as usize);
+    used <= room && words <= room - used
 }
 
 /// Puts a word at a place.

@@ -1,11 +1,11 @@
 -- What each step writes and pays.
-use Rattle.std.proofs.Common.{◌≡◌, ℕ, ◌+◌, ◌-◌, ◌*◌, ◌<◌, ◌≤◌, refl, ap, sym, ◌∙◌, subst, inl, inr, arith}
-use Rattle.std.proofs.Common.{Ok, Err}
+use Rattle.std.proofs.Common.{◌≡◌, ℕ, List, ◌+◌, ◌-◌, ◌*◌, ◌<◌, ◌≤◌, refl, ap, sym, ◌∙◌, subst, inl, inr, arith}
+use Rattle.std.proofs.Common.{Result, Ok, Err}
 use Rattle.std.specs.Option.{is_some}
 use Rattle.std.proofs.lemmas.Result.{err_from_is_err_and}
 use Rattle.capnp_model.specs.Sections.{needed_words}
 use Rattle.capnp_model.specs.Segments.{Segments, Place, after, words_at}
-use Rattle.capnp_model.specs.Trees.{no_elements, element, resized, have_capability, elements_have_capability}
+use Rattle.capnp_model.specs.Trees.{Tree, no_elements, element, resized, have_capability, elements_have_capability}
 use Rattle.capnp_model.specs.Traversal.{tree_at, each, each_element}
 use Rattle.capnp_model.specs.Trimming.{trim_each, trim_elements, with_pointers}
 use Rattle.capnp_model.specs.Coverage.{from_each, from_elements}
@@ -24,7 +24,7 @@ use Rattle.capnp_model.proofs.lemmas.Counts.{each_count, each_element_count}
 use Rattle.capnp_wire_canonical.specs.Reaches.{reach}
 use Rattle.capnp_wire_canonical.specs.Writes.{words_view, with_links, with_cells}
 use Rattle.capnp_wire_canonical.specs.Widths.{kept}
-use Rattle.capnp_wire_canonical.specs.Copies.{copy_visits, IsNoCapability, FollowsData, WritesCopy, Unwritten, copy_state}
+use Rattle.capnp_wire_canonical.specs.Copies.{copy_visits, IsNoCapability, FollowsData, CopyState, Copying, Written, WritesCopy, Unwritten, copy_state}
 use Rattle.capnp_wire_canonical.specs.Objects.{IsShort, WritesObject, write_spot, value_copy, object_copy}
 use Rattle.capnp_wire_canonical.proofs.Copying.{unwritten_at, no_room, halts_is, over_used}
 use Rattle.capnp_wire_canonical.proofs.lemmas.Faults.{stopped_otherwise}
@@ -38,6 +38,7 @@ use Rattle.capnp_wire_canonical.proofs.Nulls.{kept_count}
 use Rattle.capnp_wire_canonical.proofs.Parts.{part_there, front_there, there_length, word_is}
 use Rattle.capnp_wire_canonical.proofs.Finals.{struct_gives, pointers_gives, same_words, element_halts, element_gives, structs_gives, empty_gives, cut_parts}
 use Rattle.capnp_wire_canonical.proofs.Elements.{elements_put, elements_begun, elements_stopped, elements_next, elements_ended}
+use Rattle.capnp_wire_canonical.proofs.Laying.{laid_begins, laid_first, laid_preserved, laid_stopped}
 use Rattle.capnp_wire_canonical.proofs.Pointers.{trees_put, pointers_begun, pointers_stopped, pointers_next, pointers_ended}
 use Rattle.capnp_wire_canonical.proofs.value_copies.+write.Goals as goal
 
@@ -165,6 +166,10 @@ write_row-loop-i-init g t c =
     let s : Segments = words_in (g.A.ReaderArena.segments c.args.arena.now) in
     pointers_begun c.args.levels s (place_view c.args.first) c.args.count c.args.at c.args.used c.args.into.now c.args.limiter.now c.requires.place.1 c.requires.place.2
 
+-- what was written over words and a budget that nothing had changed
+same_start : (copy : Copying Tree) (a b : List (List ℕ)) (l k : ReadLimiter) (r : Result ℕ Error) (new : CopyState) → (k ≡ l) × (b ≡ a) → WritesCopy copy (copy_state b k) r new → WritesCopy copy (copy_state a l) r new
+same_start copy a b l k r new same w = subst (λ (x : ReadLimiter). WritesCopy copy (copy_state a x) r new) same.0 (subst (λ (x : List (List ℕ)). WritesCopy copy (copy_state x k) r new) same.1 w)
+
 pub write_row-returns-in_err-next : goal.write_row-returns-in_err-next
 write_row-returns-in_err-next g t c =
     let s : Segments = words_in (g.A.ReaderArena.segments c.args.arena.now) in
@@ -174,14 +179,27 @@ write_row-returns-in_err-next g t c =
     let at = c.args.at in
     let r = err_from_is_err_and c.from_residual.result c.from_residual.ensures.1 in
     let e = c.in_err-next.field-0.0 in
+    let same = c.write_common.ensures.untold (none_is c.write_common.result c.in_default.not-Some) in
+    let here = same_start (value_copy (reach n s) (after p c.loop-i.i) (write_spot (at + c.loop-i.i) c.loop-i.end)) c.loop-i.into c.write_common.new.into c.loop-i.limiter c.write_common.new.limiter (Err e) (copy_state c.write_at.new.into c.write_at.new.limiter) same c.in_err-next.ensures in
     halts_is (over_used (each (tree_at n s) p count) have_capability (trees_put at (at + count)) (from_each (copy_visits n s) p count) c.args.used) (copy_state c.args.into.now c.args.limiter.now) (copy_state c.write_at.new.into c.write_at.new.limiter) c.from_residual.result r.0 e r.1 r.2
-    (pointers_stopped c.args.levels s (place_view c.args.first) c.args.count c.args.at c.args.used c.args.into.now c.args.limiter.now c.loop-i.i c.loop-i.end c.loop-i.into c.write_at.new.into c.loop-i.limiter c.write_at.new.limiter e c.loop-i-test.true c.requires.place.0 c.in_err-next.ensures c.loop-i.invariant)
+    (pointers_stopped c.args.levels s (place_view c.args.first) c.args.count c.args.at c.args.used c.args.into.now c.args.limiter.now c.loop-i.i c.loop-i.end c.loop-i.into c.write_at.new.into c.loop-i.limiter c.write_at.new.limiter e c.loop-i-test.true c.requires.place.0 here c.loop-i.invariant)
+
+pub write_row-loop-i-preserved-in-Some : goal.write_row-loop-i-preserved-in-Some
+write_row-loop-i-preserved-in-Some g t c =
+    let s : Segments = words_in (g.A.ReaderArena.segments c.args.arena.now) in
+    let p : Place = place_view c.args.first in
+    let written : Written (value_copy (reach c.args.levels s) (after p c.loop-i.i) (write_spot (c.args.at + c.loop-i.i) c.loop-i.end)) (copy_state c.loop-i.into c.loop-i.limiter) c.in-Some.next (copy_state c.write_common.new.into c.write_common.new.limiter) = rw c.in-Some.is at c.write_common.ensures.written in
+    pointers_next c.args.levels s p c.args.count c.args.at c.args.used c.args.into.now c.args.limiter.now c.loop-i.i c.loop-i.end c.in-Some.next c.loop-i.into c.write_common.new.into c.loop-i.limiter c.write_common.new.limiter
+    c.loop-i-test.true c.requires.place.0 written c.loop-i.invariant
 
 pub write_row-loop-i-preserved : goal.write_row-loop-i-preserved
 write_row-loop-i-preserved g t c =
     let s : Segments = words_in (g.A.ReaderArena.segments c.args.arena.now) in
-    pointers_next c.args.levels s (place_view c.args.first) c.args.count c.args.at c.args.used c.args.into.now c.args.limiter.now c.loop-i.i c.loop-i.end c.in_ok-next.next c.loop-i.into c.write_at.new.into c.loop-i.limiter c.write_at.new.limiter
-    c.loop-i-test.true c.requires.place.0 c.in_ok-next.ensures c.loop-i.invariant
+    let p : Place = place_view c.args.first in
+    let same = c.write_common.ensures.untold (none_is c.write_common.result c.in_default.not-Some) in
+    let here = same_start (value_copy (reach c.args.levels s) (after p c.loop-i.i) (write_spot (c.args.at + c.loop-i.i) c.loop-i.end)) c.loop-i.into c.write_common.new.into c.loop-i.limiter c.write_common.new.limiter (Ok c.in_ok-next.next) (copy_state c.write_at.new.into c.write_at.new.limiter) same c.in_ok-next.ensures in
+    pointers_next c.args.levels s p c.args.count c.args.at c.args.used c.args.into.now c.args.limiter.now c.loop-i.i c.loop-i.end c.in_ok-next.next c.loop-i.into c.write_at.new.into c.loop-i.limiter c.write_at.new.limiter
+    c.loop-i-test.true c.requires.place.0 here c.loop-i.invariant
 
 pub write_row-returns : goal.write_row-returns
 write_row-returns g t c =
@@ -413,15 +431,82 @@ write_elements-returns-then-cut-eq0-2 g t c =
     empty_gives c.args.levels s p (words_there s p c.args.words) c.args.count c.args.at c.args.used c.args.into.now c.args.limiter.now cut.data_words cut.pointers cut.kept_words cut.kept_pointers
     c.if-cut-eq0.true c.if-cut-eq0-2.true c.requires.sizes.0 c.requires.sizes.1 c.requires.place.1 c.requires.place.2
 
+-- an element that keeps as many words as it has keeps all of each kind
+keeps_both : (a b d k : ℕ) → a ≤ d → b ≤ k → a + b ≡ d + k → (d ≡ a) × (k ≡ b)
+keeps_both a b d k h j e = (omega arith, omega arith)
+
 pub write_elements-loop-i-init : goal.write_elements-loop-i-init
 write_elements-loop-i-init g t c =
+    let s : Segments = words_in (g.A.ReaderArena.segments c.args.arena.now) in
+    let p : Place = place_view c.args.start in
+    let d = c.args.cut.data_words in
+    let k = c.args.cut.pointers in
+    let count = c.args.count in
+    let at = c.args.at in
+    let both = keeps_both c.args.cut.kept_words c.args.cut.kept_pointers d k c.requires.sizes.0 c.requires.sizes.1 c.if-kept-width.true in
+    let place = subst (λ (x : ℕ). at + count * x ≤ c.args.used) c.if-kept-width.true c.requires.place.0 in
+    let bound = c.requires.place.1 in
+    let there = front_there s p c.args.words c.requires.inside.0 (count * (d + k)) c.requires.fit in
+    let section = section_at s p (count * (d + k)) in
+    (laid_begins c.args.levels s p d k count at c.args.used c.args.into.now c.args.limiter.now (words_there s p c.args.words) section c.copy_words.new.into place bound c.requires.place.2 c.copy_words.ensures.words c.copy_words.ensures.behind,
+    laid_first s p d k count at c.args.into.now c.copy_words.new.into there c.are_words.ensures (omega arith) c.copy_words.ensures.words)
+
+pub write_elements-returns-in_err-next : goal.write_elements-returns-in_err-next
+write_elements-returns-in_err-next g t c =
+    let s : Segments = words_in (g.A.ReaderArena.segments c.args.arena.now) in
+    let p : Place = place_view c.args.start in
+    let n = c.args.levels in
+    let cut = c.args.cut in
+    let d = cut.data_words in
+    let k = cut.pointers in
+    let count = c.args.count in
+    let at = c.args.at in
+    let ws = words_there s p c.args.words in
+    let r = err_from_is_err_and c.from_residual.result c.from_residual.ensures.1 in
+    let e = c.in_err-next.field-0.0 in
+    let both = keeps_both cut.kept_words cut.kept_pointers d k c.requires.sizes.0 c.requires.sizes.1 c.if-kept-width.true in
+    let place = subst (λ (x : ℕ). at + count * x ≤ c.args.used) c.if-kept-width.true c.requires.place.0 in
+    let gives : ℕ → ℕ → Type 0 = λ x y. WritesCopy (over_used (each_element (tree_at n s) p ws d k count) elements_have_capability (elements_put at (at + count * (x + y)) x y) (from_elements (copy_visits n s) p d k count) c.args.used) (copy_state c.args.into.now c.args.limiter.now) c.from_residual.result (copy_state c.write_row.new.into c.write_row.new.limiter) in
+    let here : gives d k = halts_is (over_used (each_element (tree_at n s) p ws d k count) elements_have_capability (elements_put at (at + count * (d + k)) d k) (from_elements (copy_visits n s) p d k count) c.args.used) (copy_state c.args.into.now c.args.limiter.now) (copy_state c.write_row.new.into c.write_row.new.limiter) c.from_residual.result r.0 e r.1 r.2
+        (laid_stopped n s p d k count at c.args.used c.args.into.now c.args.limiter.now c.args.words c.loop-i.i c.loop-i.end c.loop-i.into c.write_row.new.into c.loop-i.limiter c.write_row.new.limiter c.loop-i-test.true c.requires.inside c.requires.fit place c.loop-i.invariant e c.in_err-next.ensures) in
+    subst (λ (x : ℕ). gives x cut.kept_pointers) both.0 (subst (λ (y : ℕ). gives d y) both.1 here)
+
+pub write_elements-loop-i-preserved : goal.write_elements-loop-i-preserved
+write_elements-loop-i-preserved g t c =
+    let s : Segments = words_in (g.A.ReaderArena.segments c.args.arena.now) in
+    let p : Place = place_view c.args.start in
+    let cut = c.args.cut in
+    let place = subst (λ (x : ℕ). c.args.at + c.args.count * x ≤ c.args.used) c.if-kept-width.true c.requires.place.0 in
+    laid_preserved c.args.levels s p cut.data_words cut.pointers c.args.count c.args.at c.args.used c.args.into.now c.args.limiter.now c.args.words c.loop-i.i c.loop-i.end c.loop-i.into c.write_row.new.into c.loop-i.limiter c.write_row.new.limiter
+    c.loop-i-test.true c.requires.inside c.requires.fit place c.loop-i.invariant c.in_ok-next.next c.in_ok-next.ensures
+
+pub write_elements-returns-then-kept-width : goal.write_elements-returns-then-kept-width
+write_elements-returns-then-kept-width g t c =
+    let s : Segments = words_in (g.A.ReaderArena.segments c.args.arena.now) in
+    let p : Place = place_view c.args.start in
+    let n = c.args.levels in
+    let cut = c.args.cut in
+    let d = cut.data_words in
+    let k = cut.pointers in
+    let count = c.args.count in
+    let at = c.args.at in
+    let ws = words_there s p c.args.words in
+    let past = c.loop-i-test.false in
+    let last = c.loop-i.auto.i-end in
+    let both = keeps_both cut.kept_words cut.kept_pointers d k c.requires.sizes.0 c.requires.sizes.1 c.if-kept-width.true in
+    let gives : ℕ → ℕ → Type 0 = λ x y. WritesCopy (over_used (each_element (tree_at n s) p ws d k count) elements_have_capability (elements_put at (at + count * (x + y)) x y) (from_elements (copy_visits n s) p d k count) c.args.used) (copy_state c.args.into.now c.args.limiter.now) (Ok c.loop-i.end) (copy_state c.loop-i.into c.loop-i.limiter) in
+    let here : gives d k = elements_ended n s p d k d k count at c.args.used c.args.into.now c.args.limiter.now ws c.loop-i.i c.loop-i.end c.loop-i.into c.loop-i.limiter (omega arith) c.loop-i.invariant.0 in
+    subst (λ (x : ℕ). gives x cut.kept_pointers) both.0 (subst (λ (y : ℕ). gives d y) both.1 here)
+
+pub write_elements-loop-i-2-init : goal.write_elements-loop-i-2-init
+write_elements-loop-i-2-init g t c =
     let s : Segments = words_in (g.A.ReaderArena.segments c.args.arena.now) in
     let p : Place = place_view c.args.start in
     let cut = c.args.cut in
     elements_begun c.args.levels s p cut.data_words cut.pointers cut.kept_words cut.kept_pointers c.args.count c.args.at c.args.used c.args.into.now c.args.limiter.now (words_there s p c.args.words) c.requires.place.1 c.requires.place.2
 
-pub write_elements-returns-in_err-next : goal.write_elements-returns-in_err-next
-write_elements-returns-in_err-next g t c =
+pub write_elements-returns-in_err-next-2 : goal.write_elements-returns-in_err-next-2
+write_elements-returns-in_err-next-2 g t c =
     let s : Segments = words_in (g.A.ReaderArena.segments c.args.arena.now) in
     let p : Place = place_view c.args.start in
     let n = c.args.levels in
@@ -433,27 +518,27 @@ write_elements-returns-in_err-next g t c =
     let count = c.args.count in
     let at = c.args.at in
     let ws = words_there s p c.args.words in
-    let r = err_from_is_err_and c.from_residual.result c.from_residual.ensures.1 in
-    let e = c.in_err-next.field-0.0 in
-    halts_is (over_used (each_element (tree_at n s) p ws d k count) elements_have_capability (elements_put at (at + count * (a + b)) a b) (from_elements (copy_visits n s) p d k count) c.args.used) (copy_state c.args.into.now c.args.limiter.now) (copy_state c.write_element.new.into c.write_element.new.limiter) c.from_residual.result r.0 e r.1 r.2
-    (elements_stopped n s p d k a b count at c.args.used c.args.into.now c.args.limiter.now c.args.words c.loop-i.i c.loop-i.end c.loop-i.into c.write_element.new.into c.loop-i.limiter c.write_element.new.limiter e c.loop-i-test.true c.requires.inside c.requires.fit c.requires.place.0 c.in_err-next.ensures c.loop-i.invariant)
+    let r = err_from_is_err_and c.from_residual-in_err-next-2.result c.from_residual-in_err-next-2.ensures.1 in
+    let e = c.in_err-next-2.field-0.0 in
+    halts_is (over_used (each_element (tree_at n s) p ws d k count) elements_have_capability (elements_put at (at + count * (a + b)) a b) (from_elements (copy_visits n s) p d k count) c.args.used) (copy_state c.args.into.now c.args.limiter.now) (copy_state c.write_element.new.into c.write_element.new.limiter) c.from_residual-in_err-next-2.result r.0 e r.1 r.2
+    (elements_stopped n s p d k a b count at c.args.used c.args.into.now c.args.limiter.now c.args.words c.loop-i-2.i c.loop-i-2.end c.loop-i-2.into c.write_element.new.into c.loop-i-2.limiter c.write_element.new.limiter e c.loop-i-2-test.true c.requires.inside c.requires.fit c.requires.place.0 c.in_err-next-2.ensures c.loop-i-2.invariant)
 
-pub write_elements-loop-i-preserved : goal.write_elements-loop-i-preserved
-write_elements-loop-i-preserved g t c =
+pub write_elements-loop-i-2-preserved : goal.write_elements-loop-i-2-preserved
+write_elements-loop-i-2-preserved g t c =
     let s : Segments = words_in (g.A.ReaderArena.segments c.args.arena.now) in
     let p : Place = place_view c.args.start in
     let cut = c.args.cut in
-    elements_next c.args.levels s p cut.data_words cut.pointers cut.kept_words cut.kept_pointers c.args.count c.args.at c.args.used c.args.into.now c.args.limiter.now c.args.words c.loop-i.i c.loop-i.end c.in_ok-next.next c.loop-i.into c.write_element.new.into c.loop-i.limiter c.write_element.new.limiter
-    c.loop-i-test.true c.requires.inside c.requires.fit c.requires.place.0 c.in_ok-next.ensures c.loop-i.invariant
+    elements_next c.args.levels s p cut.data_words cut.pointers cut.kept_words cut.kept_pointers c.args.count c.args.at c.args.used c.args.into.now c.args.limiter.now c.args.words c.loop-i-2.i c.loop-i-2.end c.in_ok-next-2.next c.loop-i-2.into c.write_element.new.into c.loop-i-2.limiter c.write_element.new.limiter
+    c.loop-i-2-test.true c.requires.inside c.requires.fit c.requires.place.0 c.in_ok-next-2.ensures c.loop-i-2.invariant
 
 pub write_elements-returns : goal.write_elements-returns
 write_elements-returns g t c =
     let s : Segments = words_in (g.A.ReaderArena.segments c.args.arena.now) in
     let p : Place = place_view c.args.start in
     let cut = c.args.cut in
-    let past = c.loop-i-test.false in
-    let last = c.loop-i.auto.i-end in
-    elements_ended c.args.levels s p cut.data_words cut.pointers cut.kept_words cut.kept_pointers c.args.count c.args.at c.args.used c.args.into.now c.args.limiter.now (words_there s p c.args.words) c.loop-i.i c.loop-i.end c.loop-i.into c.loop-i.limiter (omega arith) c.loop-i.invariant
+    let past = c.loop-i-2-test.false in
+    let last = c.loop-i-2.auto.i-end in
+    elements_ended c.args.levels s p cut.data_words cut.pointers cut.kept_words cut.kept_pointers c.args.count c.args.at c.args.used c.args.into.now c.args.limiter.now (words_there s p c.args.words) c.loop-i-2.i c.loop-i-2.end c.loop-i-2.into c.loop-i-2.limiter (omega arith) c.loop-i-2.invariant
 
 pub write_structs-write_elements-requires : goal.write_structs-write_elements-requires
 write_structs-write_elements-requires g t c =
