@@ -209,9 +209,9 @@ module _ (n : ℕ) (s : Segments) (p : Place) (d k count at first : ℕ) (old : 
       let e = at + count * (d + k) in
       let same = behind.0 in
       let over : (es : Elements) → with_cells (at + 0 * (d + k)) e d k es (filled first mid) ≡ with_cells (at + 0 * (d + k)) e d k es (filled first old) = λ es.
-          ap (λ (j : ℕ). with_cells j e d k es (filled first mid)) start
-          ∙ cells_over at (count * (d + k)) first section d k es old mid room bound words
-          ∙ ap (λ (j : ℕ). with_cells j e d k es (filled first old)) (sym start) in
+      ap (λ (j : ℕ). with_cells j e d k es (filled first mid)) start
+      ∙ cells_over at (count * (d + k)) first section d k es old mid room bound words
+      ∙ ap (λ (j : ℕ). with_cells j e d k es (filled first old)) (sym start) in
       record {
         done = x.done;
         path_is = x.path_is;

@@ -22,8 +22,8 @@ pub fn copies_as_walks()
         → has_capability t ≡ false → copy_visits levels s p ≡ visits levels s p }
 {}
 
-/// A value stands at a pointer, with its head at the next word, exactly where its canonical words
-/// do, and to their end.
+/// A value is at a pointer as canonical words, with its head at the next word, exactly when its
+/// canonical words are there. It ends where they do.
 pub fn standing_is_canonical()
     ensures words { (s : Segments) (p : Place) (t : Tree) (end : ℕ)
         → Stands s p (p.position + 1) t end → Hold s p (canonical_words t)
@@ -40,7 +40,8 @@ pub fn canonical_messages_are_copies()
         → s ≡ filled end new.words ∷ [] }
 {}
 
-/// A canonical copy follows no more pointers than it pays words, and one, also where it is stopped.
+/// A canonical copy follows no more pointers than it pays words, and one. A copy that is stopped
+/// does so too.
 pub fn copies_follow_few()
     ensures begun { (n : ℕ) (s : Segments) (p : Place) (path rest : List Visit) (paid : ℕ)
         → copy_visits n s p ≡ path ++ rest → visits_cost path ≡ Some paid

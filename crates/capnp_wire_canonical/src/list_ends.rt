@@ -1,4 +1,4 @@
-//! Whether lists of plain elements stand as their canonical words.
+//! Tests of lists of plain elements for canonical words.
 ghost use Rattle.std.specs.Prelude.{◌≡◌, ℕ, None, IfSome};
 ghost use Rattle.std.specs.Bool.{OnTrue, OnFalse};
 ghost use Rattle.capnp_model.specs.Spelling.{AreWords};
@@ -23,7 +23,7 @@ use capnp_wire_objects::place::{Place, word_in};
 /// A message has fewer words than this, and an offset or a count of words reaches no further.
 pub(crate) const REACH: usize = 0x2000_0000;
 
-/// Whether the bits behind a list's last element are 0.
+/// Returns whether the bits after a list's last element are 0.
 #[inline(always)]
 fn ends_clear<A: ReaderArena>(arena: &A, bytes: &[u8], list: NearList) -> bool
     requires bytes { bytes.now ≡ segment_bytes (A.segments arena.now) list.start.segment }
@@ -49,9 +49,9 @@ fn ends_clear<A: ReaderArena>(arena: &A, bytes: &[u8], list: NearList) -> bool
     word % (1 << spare) == word
 }
 
-/// Where the words of a list of plain elements end, if it stands from the head on. Then the pointer
-/// at a place leads to it there, and the bits behind its last element are 0. Its segment is the one
-/// of these bytes.
+/// Returns where the words of a list of plain elements end, if they are its canonical words from the
+/// head on. Then the pointer at a place leads to it there, and the bits after its last element are
+/// 0. Its segment is the one of these bytes.
 #[inline(always)]
 pub(crate) fn list_end<A: ReaderArena>(
     arena: &A,
@@ -78,10 +78,11 @@ pub(crate) fn list_end<A: ReaderArena>(
     Some(head + list.words)
 }
 
-/// Where the words of the value of the pointer at a place end, where it is null, or a list of bytes
-/// that stands from the head on: the most common values. The segment is the one of these bytes.
+/// Returns where the words of the value of the pointer at a place end, if it is null, or a list of
+/// bytes that is canonical from the head on: the most common values. The segment is the one of these
+/// bytes.
 ///
-/// `None` has no meaning: whatever is there, such a value too, `value_end` tells it. Then nothing
+/// `None` has no meaning: `value_end` tests the value, which may be such a value too. Then nothing
 /// was counted.
 #[inline(always)]
 pub(crate) fn common_end<A: ReaderArena>(

@@ -21,15 +21,14 @@ use crate::own_words::{are_words, copy_words};
 use crate::words::{end_of, pointer_to_list, pointer_to_struct, put};
 use capnp_units::errors::Result;
 use capnp_units::limiter::ReadLimiter;
-use capnp_units::sizes::{StructSize, Word};
+use capnp_units::sizes::Word;
 use capnp_wire_objects::arena::ReaderArena;
 use capnp_wire_objects::lists::NearList;
 use capnp_wire_objects::object::Object;
 use capnp_wire_objects::place::{Place, segment_bytes};
 
 /// Writes the pointer at a place to what it leads to, which goes after the words that are used. It
-/// returns where that ends.
-// Measured: out of line, so the loops over rows have registers enough.
+/// returns where that ends. It is out of line, so the loops over rows have registers enough.
 #[cycle(write)]
 #[inline(never)]
 pub(crate) fn write_at<A: ReaderArena>(
@@ -52,38 +51,13 @@ pub(crate) fn write_at<A: ReaderArena>(
         return write_list(arena, bytes, list, into, at, used);
     }
     if let Some(near) = follow_near_struct(arena, bytes, limiter, place, levels)? {
-        let StructSize {
-            data_words,
-            pointers,
-        } = near.size;
+        let data_words = near.size.data_words;
+        let pointers = near.size.pointers;
         let below = levels - 1;
         return write_struct(
             arena, bytes, limiter, near.start, data_words, pointers, below, into, at, used,
         );
     }
-    write_other(arena, bytes, limiter, place, levels, into, at, used)
-}
-
-/// Does the work of `write_at` for objects that `follow_near_list` and `follow_near_struct` don't
-/// find.
-#[cycle(write)]
-#[inline(always)]
-fn write_other<A: ReaderArena>(
-    arena: &A,
-    bytes: &[u8],
-    limiter: &mut ReadLimiter,
-    place: Place,
-    levels: u32,
-    into: &mut [Word],
-    at: usize,
-    used: usize,
-) -> Result<usize>
-    requires bytes { bytes.now ≡ segment_bytes (A.segments arena.now) place.segment }
-    requires place { HasPlace (at + 1) used into.old }
-    ensures { let r = reach levels (words_in (A.segments arena.now)) in
-        WritesCopy (value_copy r (place_view place) (write_spot at used))
-        (copy_state into.old limiter.old) result (copy_state into.new limiter.new) }
-{
     if let Some(object) = follow_other(arena, bytes, limiter, place, levels) {
         return write_object(arena, limiter, object, levels - 1, into, at, used);
     }
@@ -321,7 +295,9 @@ fn write_element<A: ReaderArena>(
     };
     let pointers = cut.kept_pointers as u32;
     let slot = at + kept;
-    let end = write_row(arena, bytes, limiter, first, pointers, levels, into, slot, used)?;
+    let end = write_row(
+        arena, bytes, limiter, first, pointers, levels, into, slot, used,
+    )?;
     follow_nulls(limiter, cut.pointers as u32 - pointers);
     Ok(end)
 }
@@ -358,24 +334,12 @@ fn write_elements<A: ReaderArena>(
     }
     let width = cut.data_words as usize + cut.pointers as usize;
     let kept = cut.kept_words as usize + cut.kept_pointers as usize;
-    let mut end = used;
     if kept == width {
-        // All own words at once; pointers are then written over theirs.
-        are_words(arena, start.segment);
-        copy_words(arena, bytes, start, count as usize * width, into, at);
-        for i in 0..count {
-            let words_before = i as usize * width;
-            let first = Place {
-                segment: start.segment,
-                position: start.position + words_before + cut.data_words as usize,
-            };
-            let slot = at + words_before + cut.data_words as usize;
-            let pointers = cut.pointers as u32;
-            let next = write_row(arena, bytes, limiter, first, pointers, levels, into, slot, end)?;
-            end = next;
-        }
-        return Ok(end);
+        return write_wide(
+            arena, bytes, limiter, start, words, count, cut, levels, into, at, used,
+        );
     }
+    let mut end = used;
     for i in 0..count {
         let element = Place {
             segment: start.segment,
@@ -384,6 +348,51 @@ fn write_elements<A: ReaderArena>(
         let place = at + i as usize * kept;
         let next = write_element(
             arena, bytes, limiter, element, cut, levels, into, place, end,
+        )?;
+        end = next;
+    }
+    Ok(end)
+}
+
+/// Does the work of `write_elements` for elements that keep all words, which are copied at once.
+#[cycle(write)]
+#[inline(never)]
+fn write_wide<A: ReaderArena>(
+    arena: &A,
+    bytes: &[u8],
+    limiter: &mut ReadLimiter,
+    start: Place,
+    words: u32,
+    count: u32,
+    cut: Cut,
+    levels: u32,
+    into: &mut [Word],
+    at: usize,
+    used: usize,
+) -> Result<usize>
+    requires bytes { bytes.now ≡ segment_bytes (A.segments arena.now) start.segment }
+    requires inside { AreThere (words_in (A.segments arena.now)) (place_view start) words }
+    requires fit { count * (cut.data_words + cut.pointers) ≤ words }
+    requires whole { (cut.data_words ≡ cut.kept_words) × (cut.pointers ≡ cut.kept_pointers) }
+    requires place { HasPlace (at + count * (cut.kept_words + cut.kept_pointers)) used into.old }
+    ensures { let r = reach levels (words_in (A.segments arena.now)) in
+        WritesCopy (elements_copy r (place_view start) words count cut (write_spot at used))
+        (copy_state into.old limiter.old) result (copy_state into.new limiter.new) }
+{
+    let width = cut.data_words as usize + cut.pointers as usize;
+    are_words(arena, start.segment);
+    copy_words(arena, bytes, start, count as usize * width, into, at);
+    let mut end = used;
+    for i in 0..count {
+        let words_before = i as usize * width;
+        let first = Place {
+            segment: start.segment,
+            position: start.position + words_before + cut.data_words as usize,
+        };
+        let slot = at + words_before + cut.data_words as usize;
+        let pointers = cut.pointers as u32;
+        let next = write_row(
+            arena, bytes, limiter, first, pointers, levels, into, slot, end,
         )?;
         end = next;
     }

@@ -431,28 +431,29 @@ write_elements-returns-then-cut-eq0-2 g t c =
     empty_gives c.args.levels s p (words_there s p c.args.words) c.args.count c.args.at c.args.used c.args.into.now c.args.limiter.now cut.data_words cut.pointers cut.kept_words cut.kept_pointers
     c.if-cut-eq0.true c.if-cut-eq0-2.true c.requires.sizes.0 c.requires.sizes.1 c.requires.place.1 c.requires.place.2
 
--- an element that keeps as many words as it has keeps all of each kind
-keeps_both : (a b d k : ℕ) → a ≤ d → b ≤ k → a + b ≡ d + k → (d ≡ a) × (k ≡ b)
-keeps_both a b d k h j e = (omega arith, omega arith)
+-- elements that keep all their words take as many as they have
+wide_place : (at count used a b d k : ℕ) → d ≡ a → k ≡ b → at + count * (a + b) ≤ used → at + count * (d + k) ≤ used
+wide_place at count used a b d k e f h = let same : a + b ≡ d + k = omega arith in subst (λ (x : ℕ). at + count * x ≤ used) same h
 
-pub write_elements-loop-i-init : goal.write_elements-loop-i-init
-write_elements-loop-i-init g t c =
+pub write_wide-loop-i-init : goal.write_wide-loop-i-init
+write_wide-loop-i-init g t c =
     let s : Segments = words_in (g.A.ReaderArena.segments c.args.arena.now) in
     let p : Place = place_view c.args.start in
     let d = c.args.cut.data_words in
     let k = c.args.cut.pointers in
     let count = c.args.count in
     let at = c.args.at in
-    let both = keeps_both c.args.cut.kept_words c.args.cut.kept_pointers d k c.requires.sizes.0 c.requires.sizes.1 c.if-kept-width.true in
-    let place = subst (λ (x : ℕ). at + count * x ≤ c.args.used) c.if-kept-width.true c.requires.place.0 in
+    let both = c.requires.whole in
+    let place = wide_place at count c.args.used c.args.cut.kept_words c.args.cut.kept_pointers c.args.cut.data_words c.args.cut.pointers c.requires.whole.0 c.requires.whole.1 c.requires.place.0 in
     let bound = c.requires.place.1 in
     let there = front_there s p c.args.words c.requires.inside.0 (count * (d + k)) c.requires.fit in
-    let section = section_at s p (count * (d + k)) in
-    (laid_begins c.args.levels s p d k count at c.args.used c.args.into.now c.args.limiter.now (words_there s p c.args.words) section c.copy_words.new.into place bound c.requires.place.2 c.copy_words.ensures.words c.copy_words.ensures.behind,
-    laid_first s p d k count at c.args.into.now c.copy_words.new.into there c.are_words.ensures (omega arith) c.copy_words.ensures.words)
+    let section = section_at s p (count * (d + k)) in (
+      laid_begins c.args.levels s p d k count at c.args.used c.args.into.now c.args.limiter.now (words_there s p c.args.words) section c.copy_words.new.into place bound c.requires.place.2 c.copy_words.ensures.words c.copy_words.ensures.behind,
+      laid_first s p d k count at c.args.into.now c.copy_words.new.into there c.are_words.ensures (omega arith) c.copy_words.ensures.words,
+    )
 
-pub write_elements-returns-in_err-next : goal.write_elements-returns-in_err-next
-write_elements-returns-in_err-next g t c =
+pub write_wide-returns-in_err-next : goal.write_wide-returns-in_err-next
+write_wide-returns-in_err-next g t c =
     let s : Segments = words_in (g.A.ReaderArena.segments c.args.arena.now) in
     let p : Place = place_view c.args.start in
     let n = c.args.levels in
@@ -464,24 +465,24 @@ write_elements-returns-in_err-next g t c =
     let ws = words_there s p c.args.words in
     let r = err_from_is_err_and c.from_residual.result c.from_residual.ensures.1 in
     let e = c.in_err-next.field-0.0 in
-    let both = keeps_both cut.kept_words cut.kept_pointers d k c.requires.sizes.0 c.requires.sizes.1 c.if-kept-width.true in
-    let place = subst (λ (x : ℕ). at + count * x ≤ c.args.used) c.if-kept-width.true c.requires.place.0 in
+    let both = c.requires.whole in
+    let place = wide_place at count c.args.used c.args.cut.kept_words c.args.cut.kept_pointers c.args.cut.data_words c.args.cut.pointers c.requires.whole.0 c.requires.whole.1 c.requires.place.0 in
     let gives : ℕ → ℕ → Type 0 = λ x y. WritesCopy (over_used (each_element (tree_at n s) p ws d k count) elements_have_capability (elements_put at (at + count * (x + y)) x y) (from_elements (copy_visits n s) p d k count) c.args.used) (copy_state c.args.into.now c.args.limiter.now) c.from_residual.result (copy_state c.write_row.new.into c.write_row.new.limiter) in
     let here : gives d k = halts_is (over_used (each_element (tree_at n s) p ws d k count) elements_have_capability (elements_put at (at + count * (d + k)) d k) (from_elements (copy_visits n s) p d k count) c.args.used) (copy_state c.args.into.now c.args.limiter.now) (copy_state c.write_row.new.into c.write_row.new.limiter) c.from_residual.result r.0 e r.1 r.2
-        (laid_stopped n s p d k count at c.args.used c.args.into.now c.args.limiter.now c.args.words c.loop-i.i c.loop-i.end c.loop-i.into c.write_row.new.into c.loop-i.limiter c.write_row.new.limiter c.loop-i-test.true c.requires.inside c.requires.fit place c.loop-i.invariant e c.in_err-next.ensures) in
+    (laid_stopped n s p d k count at c.args.used c.args.into.now c.args.limiter.now c.args.words c.loop-i.i c.loop-i.end c.loop-i.into c.write_row.new.into c.loop-i.limiter c.write_row.new.limiter c.loop-i-test.true c.requires.inside c.requires.fit place c.loop-i.invariant e c.in_err-next.ensures) in
     subst (λ (x : ℕ). gives x cut.kept_pointers) both.0 (subst (λ (y : ℕ). gives d y) both.1 here)
 
-pub write_elements-loop-i-preserved : goal.write_elements-loop-i-preserved
-write_elements-loop-i-preserved g t c =
+pub write_wide-loop-i-preserved : goal.write_wide-loop-i-preserved
+write_wide-loop-i-preserved g t c =
     let s : Segments = words_in (g.A.ReaderArena.segments c.args.arena.now) in
     let p : Place = place_view c.args.start in
     let cut = c.args.cut in
-    let place = subst (λ (x : ℕ). c.args.at + c.args.count * x ≤ c.args.used) c.if-kept-width.true c.requires.place.0 in
+    let place = wide_place c.args.at c.args.count c.args.used cut.kept_words cut.kept_pointers cut.data_words cut.pointers c.requires.whole.0 c.requires.whole.1 c.requires.place.0 in
     laid_preserved c.args.levels s p cut.data_words cut.pointers c.args.count c.args.at c.args.used c.args.into.now c.args.limiter.now c.args.words c.loop-i.i c.loop-i.end c.loop-i.into c.write_row.new.into c.loop-i.limiter c.write_row.new.limiter
     c.loop-i-test.true c.requires.inside c.requires.fit place c.loop-i.invariant c.in_ok-next.next c.in_ok-next.ensures
 
-pub write_elements-returns-then-kept-width : goal.write_elements-returns-then-kept-width
-write_elements-returns-then-kept-width g t c =
+pub write_wide-returns : goal.write_wide-returns
+write_wide-returns g t c =
     let s : Segments = words_in (g.A.ReaderArena.segments c.args.arena.now) in
     let p : Place = place_view c.args.start in
     let n = c.args.levels in
@@ -493,20 +494,20 @@ write_elements-returns-then-kept-width g t c =
     let ws = words_there s p c.args.words in
     let past = c.loop-i-test.false in
     let last = c.loop-i.auto.i-end in
-    let both = keeps_both cut.kept_words cut.kept_pointers d k c.requires.sizes.0 c.requires.sizes.1 c.if-kept-width.true in
+    let both = c.requires.whole in
     let gives : ℕ → ℕ → Type 0 = λ x y. WritesCopy (over_used (each_element (tree_at n s) p ws d k count) elements_have_capability (elements_put at (at + count * (x + y)) x y) (from_elements (copy_visits n s) p d k count) c.args.used) (copy_state c.args.into.now c.args.limiter.now) (Ok c.loop-i.end) (copy_state c.loop-i.into c.loop-i.limiter) in
     let here : gives d k = elements_ended n s p d k d k count at c.args.used c.args.into.now c.args.limiter.now ws c.loop-i.i c.loop-i.end c.loop-i.into c.loop-i.limiter (omega arith) c.loop-i.invariant.0 in
     subst (λ (x : ℕ). gives x cut.kept_pointers) both.0 (subst (λ (y : ℕ). gives d y) both.1 here)
 
-pub write_elements-loop-i-2-init : goal.write_elements-loop-i-2-init
-write_elements-loop-i-2-init g t c =
+pub write_elements-loop-i-init : goal.write_elements-loop-i-init
+write_elements-loop-i-init g t c =
     let s : Segments = words_in (g.A.ReaderArena.segments c.args.arena.now) in
     let p : Place = place_view c.args.start in
     let cut = c.args.cut in
     elements_begun c.args.levels s p cut.data_words cut.pointers cut.kept_words cut.kept_pointers c.args.count c.args.at c.args.used c.args.into.now c.args.limiter.now (words_there s p c.args.words) c.requires.place.1 c.requires.place.2
 
-pub write_elements-returns-in_err-next-2 : goal.write_elements-returns-in_err-next-2
-write_elements-returns-in_err-next-2 g t c =
+pub write_elements-returns-in_err-next : goal.write_elements-returns-in_err-next
+write_elements-returns-in_err-next g t c =
     let s : Segments = words_in (g.A.ReaderArena.segments c.args.arena.now) in
     let p : Place = place_view c.args.start in
     let n = c.args.levels in
@@ -518,27 +519,27 @@ write_elements-returns-in_err-next-2 g t c =
     let count = c.args.count in
     let at = c.args.at in
     let ws = words_there s p c.args.words in
-    let r = err_from_is_err_and c.from_residual-in_err-next-2.result c.from_residual-in_err-next-2.ensures.1 in
-    let e = c.in_err-next-2.field-0.0 in
-    halts_is (over_used (each_element (tree_at n s) p ws d k count) elements_have_capability (elements_put at (at + count * (a + b)) a b) (from_elements (copy_visits n s) p d k count) c.args.used) (copy_state c.args.into.now c.args.limiter.now) (copy_state c.write_element.new.into c.write_element.new.limiter) c.from_residual-in_err-next-2.result r.0 e r.1 r.2
-    (elements_stopped n s p d k a b count at c.args.used c.args.into.now c.args.limiter.now c.args.words c.loop-i-2.i c.loop-i-2.end c.loop-i-2.into c.write_element.new.into c.loop-i-2.limiter c.write_element.new.limiter e c.loop-i-2-test.true c.requires.inside c.requires.fit c.requires.place.0 c.in_err-next-2.ensures c.loop-i-2.invariant)
+    let r = err_from_is_err_and c.from_residual.result c.from_residual.ensures.1 in
+    let e = c.in_err-next.field-0.0 in
+    halts_is (over_used (each_element (tree_at n s) p ws d k count) elements_have_capability (elements_put at (at + count * (a + b)) a b) (from_elements (copy_visits n s) p d k count) c.args.used) (copy_state c.args.into.now c.args.limiter.now) (copy_state c.write_element.new.into c.write_element.new.limiter) c.from_residual.result r.0 e r.1 r.2
+    (elements_stopped n s p d k a b count at c.args.used c.args.into.now c.args.limiter.now c.args.words c.loop-i.i c.loop-i.end c.loop-i.into c.write_element.new.into c.loop-i.limiter c.write_element.new.limiter e c.loop-i-test.true c.requires.inside c.requires.fit c.requires.place.0 c.in_err-next.ensures c.loop-i.invariant)
 
-pub write_elements-loop-i-2-preserved : goal.write_elements-loop-i-2-preserved
-write_elements-loop-i-2-preserved g t c =
+pub write_elements-loop-i-preserved : goal.write_elements-loop-i-preserved
+write_elements-loop-i-preserved g t c =
     let s : Segments = words_in (g.A.ReaderArena.segments c.args.arena.now) in
     let p : Place = place_view c.args.start in
     let cut = c.args.cut in
-    elements_next c.args.levels s p cut.data_words cut.pointers cut.kept_words cut.kept_pointers c.args.count c.args.at c.args.used c.args.into.now c.args.limiter.now c.args.words c.loop-i-2.i c.loop-i-2.end c.in_ok-next-2.next c.loop-i-2.into c.write_element.new.into c.loop-i-2.limiter c.write_element.new.limiter
-    c.loop-i-2-test.true c.requires.inside c.requires.fit c.requires.place.0 c.in_ok-next-2.ensures c.loop-i-2.invariant
+    elements_next c.args.levels s p cut.data_words cut.pointers cut.kept_words cut.kept_pointers c.args.count c.args.at c.args.used c.args.into.now c.args.limiter.now c.args.words c.loop-i.i c.loop-i.end c.in_ok-next.next c.loop-i.into c.write_element.new.into c.loop-i.limiter c.write_element.new.limiter
+    c.loop-i-test.true c.requires.inside c.requires.fit c.requires.place.0 c.in_ok-next.ensures c.loop-i.invariant
 
 pub write_elements-returns : goal.write_elements-returns
 write_elements-returns g t c =
     let s : Segments = words_in (g.A.ReaderArena.segments c.args.arena.now) in
     let p : Place = place_view c.args.start in
     let cut = c.args.cut in
-    let past = c.loop-i-2-test.false in
-    let last = c.loop-i-2.auto.i-end in
-    elements_ended c.args.levels s p cut.data_words cut.pointers cut.kept_words cut.kept_pointers c.args.count c.args.at c.args.used c.args.into.now c.args.limiter.now (words_there s p c.args.words) c.loop-i-2.i c.loop-i-2.end c.loop-i-2.into c.loop-i-2.limiter (omega arith) c.loop-i-2.invariant
+    let past = c.loop-i-test.false in
+    let last = c.loop-i.auto.i-end in
+    elements_ended c.args.levels s p cut.data_words cut.pointers cut.kept_words cut.kept_pointers c.args.count c.args.at c.args.used c.args.into.now c.args.limiter.now (words_there s p c.args.words) c.loop-i.i c.loop-i.end c.loop-i.into c.loop-i.limiter (omega arith) c.loop-i.invariant
 
 pub write_structs-write_elements-requires : goal.write_structs-write_elements-requires
 write_structs-write_elements-requires g t c =
@@ -578,33 +579,45 @@ write_object-returns-in-Null g t c =
       | inr e ↦ absurd (subst IsNoCapability e.1 c.requires.data)
     ]
 
-pub write_other-returns-in-Some : goal.write_other-returns-in-Some
-write_other-returns-in-Some g t c =
+pub write_at-returns-in-Some-follow_other : goal.write_at-returns-in-Some-follow_other
+write_at-returns-in-Some-follow_other g t c =
     let s : Segments = words_in (g.A.ReaderArena.segments c.args.arena.now) in
     let p : Place = place_view c.args.place in
     let n = c.args.levels in
     let l = c.args.limiter.now in
-    let k = c.follow_other.new.limiter in
-    let o = c.in-Some.object in
-    let deep : 0 < n = rw c.in-Some.is at c.follow_other.ensures.deep in
-    let followed : FollowsData n s p l (Ok o) k = rw c.in-Some.is at c.follow_other.ensures.followed in
-    deep_at n s p c.args.at c.args.used o c.args.into.now c.write_object.new.into l k c.write_object.new.limiter (n - 1) c.write_object.result (omega arith) followed.0 followed.1 followed.2 c.write_object.ensures
+    let m = c.follow_near_list.new.limiter in
+    let k = c.follow_near_struct.new.limiter in
+    let q = c.follow_other.new.limiter in
+    let o = c.in-Some-follow_other.object in
+    let same = untold list_object (FollowsData n s p) l m c.in_ok-list.field-0 c.in_default.not-Some c.in_ok-list.ensures.copied in
+    let same_too = untold struct_object (FollowsData n s p) m k c.in_ok-near.field-0 c.in_default-2.not-Some c.in_ok-near.ensures.copied in
+    let deep : 0 < n = rw c.in-Some-follow_other.is at c.follow_other.ensures.deep in
+    let here : FollowsData n s p k (Ok o) q = rw c.in-Some-follow_other.is at c.follow_other.ensures.followed in
+    let followed = subst (λ (x : ReadLimiter). FollowsData n s p x (Ok o) q) (same_too ∙ same) here in
+    deep_at n s p c.args.at c.args.used o c.args.into.now c.write_object.new.into l q c.write_object.new.limiter (n - 1) c.write_object.result (omega arith) followed.0 followed.1 followed.2 c.write_object.ensures
 
-pub write_other-write_object-requires : goal.write_other-write_object-requires
-write_other-write_object-requires g t c =
+pub write_at-write_object-requires : goal.write_at-write_object-requires
+write_at-write_object-requires g t c =
+    let s : Segments = words_in (g.A.ReaderArena.segments c.args.arena.now) in
+    let p : Place = place_view c.args.place in
+    let n = c.args.levels in
+    let k = c.follow_near_struct.new.limiter in
+    let q = c.follow_other.new.limiter in
+    let o = c.in-Some-follow_other.object in
+    let deep : 0 < n = rw c.in-Some-follow_other.is at c.follow_other.ensures.deep in
+    let followed : FollowsData n s p k (Ok o) q = rw c.in-Some-follow_other.is at c.follow_other.ensures.followed in
+    λ κs lives. (omega arith, (lives, (followed.0.inside, (followed.2, (short_at s p o k q followed.0, c.requires.place)))))
+
+pub write_at-returns : goal.write_at-returns
+write_at-returns g t c =
     let s : Segments = words_in (g.A.ReaderArena.segments c.args.arena.now) in
     let p : Place = place_view c.args.place in
     let n = c.args.levels in
     let l = c.args.limiter.now in
-    let k = c.follow_other.new.limiter in
-    let o = c.in-Some.object in
-    let deep : 0 < n = rw c.in-Some.is at c.follow_other.ensures.deep in
-    let followed : FollowsData n s p l (Ok o) k = rw c.in-Some.is at c.follow_other.ensures.followed in
-    λ κs lives. (omega arith, (lives, (followed.0.inside, (followed.2, (short_at s p o l k followed.0, c.requires.place)))))
-
-pub write_other-returns : goal.write_other-returns
-write_other-returns g t c =
-    let s : Segments = words_in (g.A.ReaderArena.segments c.args.arena.now) in
-    let p : Place = place_view c.args.place in
-    let same = c.follow_other.ensures.untold (none_is c.follow_other.result c.in_default.not-Some) in
-    subst (λ (x : ReadLimiter). WritesCopy (value_copy (reach c.args.levels s) p (write_spot c.args.at c.args.used)) (copy_state c.args.into.now x) c.write_any.result (copy_state c.write_any.new.into c.write_any.new.limiter)) same c.write_any.ensures
+    let m = c.follow_near_list.new.limiter in
+    let k = c.follow_near_struct.new.limiter in
+    let q = c.follow_other.new.limiter in
+    let same = untold list_object (FollowsData n s p) l m c.in_ok-list.field-0 c.in_default.not-Some c.in_ok-list.ensures.copied in
+    let same_too = untold struct_object (FollowsData n s p) m k c.in_ok-near.field-0 c.in_default-2.not-Some c.in_ok-near.ensures.copied in
+    let still = c.follow_other.ensures.untold (none_is c.follow_other.result c.in_default-follow_other.not-Some) in
+    subst (λ (x : ReadLimiter). WritesCopy (value_copy (reach n s) p (write_spot c.args.at c.args.used)) (copy_state c.args.into.now x) c.write_any.result (copy_state c.write_any.new.into c.write_any.new.limiter)) (still ∙ same_too ∙ same) c.write_any.ensures

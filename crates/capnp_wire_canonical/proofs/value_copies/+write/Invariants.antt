@@ -29,15 +29,15 @@ decreases-write_row g l = 12 * l.levels + 6
 abbrev pub decreases-write_at : goal.decreases-write_at
 decreases-write_at g l = 12 * l.levels + 4
 
-abbrev pub decreases-write_other : goal.decreases-write_other
-decreases-write_other g l = 12 * l.levels + 3
+abbrev pub decreases-write_wide : goal.decreases-write_wide
+decreases-write_wide g l = 12 * l.levels + 8
 
 abbrev pub decreases-write_any : goal.decreases-write_any
 decreases-write_any g l = 12 * l.levels
 
 -- as many are written, and paid; the own words of the others are there
-abbrev pub invariant-write_elements-loop-i : goal.invariant-write_elements-loop-i
-invariant-write_elements-loop-i g l =
+abbrev pub invariant-write_wide-loop-i : goal.invariant-write_wide-loop-i
+invariant-write_wide-loop-i g l =
     let s = words_in (g.A.ReaderArena.segments l.arena) in
     let p = place_view l.start in
     LaidSoFar l.levels s p l.cut.data_words l.cut.pointers l.count l.at l.used l.fn.into l.fn.limiter (words_there s p l.words) l.i l.end l.into l.limiter
@@ -49,8 +49,8 @@ invariant-write_row-loop-i g l =
     let p = place_view l.first in
     PointersSoFar l.levels s p l.count l.at l.i l.used l.fn.into l.fn.limiter l.end l.into l.limiter
 
-abbrev pub invariant-write_elements-loop-i-2 : goal.invariant-write_elements-loop-i-2
-invariant-write_elements-loop-i-2 g l =
+abbrev pub invariant-write_elements-loop-i : goal.invariant-write_elements-loop-i
+invariant-write_elements-loop-i g l =
     let s = words_in (g.A.ReaderArena.segments l.arena) in
     let p = place_view l.start in
     ElementsSoFar l.levels s p (words_there s p l.words) l.cut.data_words l.cut.pointers l.cut.kept_words l.cut.kept_pointers l.count l.at l.i l.used l.fn.into l.fn.limiter l.end l.into l.limiter
