@@ -1,5 +1,5 @@
 -- Elements whose own words are at their places before their pointers are written.
-use Rattle.std.proofs.Common.{◌≡◌, ℕ, ◌+◌, ◌-◌, ◌*◌, ◌^◌, ◌<◌, ◌≤◌, true, List, ◌++◌, length, take, drop, Ok, refl, ap, sym, ◌∙◌, subst, arith, append_assoc}
+use Rattle.std.proofs.Common.{◌≡◌, ℕ, zero, suc, ◌+◌, ◌-◌, ◌*◌, ◌^◌, ◌<◌, ◌≤◌, true, List, ◌++◌, length, take, drop, refl, ap, sym, ◌∙◌, subst, arith, append_assoc}
 use Rattle.std.specs.Int.{from_le_bytes, w64}
 use Rattle.std.specs.Option.{is_some}
 use Rattle.std.proofs.Math.Nat.{mul-le-mul_right}
@@ -8,9 +8,9 @@ use Rattle.std.proofs.lemmas.List.{take-append-drop, take-append-le, drop-append
 use Rattle.capnp_model.specs.Sections.{words_of}
 use Rattle.capnp_model.specs.Segments.{Segments, Place, after, words_at}
 use Rattle.capnp_model.specs.Spelling.{AreWords}
-use Rattle.capnp_model.specs.Trees.{Trees, Elements, no_elements, element, tree_count, resized, have_capability, elements_have_capability}
+use Rattle.capnp_model.specs.Trees.{Trees, Elements, none, no_elements, element, tree_count, resized, has_capability, have_capability, elements_have_capability}
 use Rattle.capnp_model.specs.Traversal.{tree_at, each, each_element}
-use Rattle.capnp_model.specs.Trimming.{trim_each, trim_elements, with_pointers}
+use Rattle.capnp_model.specs.Trimming.{trim, trim_each, trim_elements, with_pointers}
 use Rattle.capnp_model.specs.Coverage.{from_each, from_elements}
 use Rattle.capnp_model.specs.Encoding.{links, bodies, cells, element_bodies}
 use Rattle.capnp_model.proofs.lemmas.Numbers.{length-numbers_in}
@@ -23,6 +23,7 @@ use Rattle.capnp_units.specs.Limits.{Follows}
 use Rattle.capnp_units.proofs.lemmas.Spending.{spends_nothing}
 use Rattle.capnp_wire_objects.specs.Objects.{AreThere}
 use Rattle.capnp_wire_objects.specs.Inside.{section_at, words_there}
+use Rattle.capnp_wire_objects.proofs.lemmas.Walks.{walked_none}
 use Rattle.capnp_wire_canonical.specs.Standing.{segment_words}
 use Rattle.capnp_wire_canonical.specs.Widths.{kept}
 use Rattle.capnp_wire_canonical.specs.Writes.{words_view, filled, with_section_at, with_links, with_cells}
@@ -31,7 +32,7 @@ use Rattle.capnp_wire_canonical.proofs.Copying.{over_used, behind_none, behind_m
 use Rattle.capnp_wire_canonical.proofs.Objects.{filled_length}
 use Rattle.capnp_wire_canonical.proofs.Holding.{own_words_are}
 use Rattle.capnp_wire_canonical.proofs.Parts.{part_there, part_is, part_room, there_length}
-use Rattle.capnp_wire_canonical.proofs.lemmas.Putting.{take_with_words}
+use Rattle.capnp_wire_canonical.proofs.lemmas.Putting.{take_with_words, links_all}
 use Rattle.capnp_wire_canonical.proofs.Kept.{kept_few}
 use Rattle.capnp_wire_canonical.proofs.Elements.{ElementsSoFar, elements_put, elements_begun, elements_stopped, elements_next}
 use Rattle.capnp_wire_canonical.proofs.Finals.{element_halts, element_gives}
@@ -122,14 +123,14 @@ laid_next n s p q d k count at i used end now new l t h room inside w laid = λ 
 
 -- what was written of the pointers of an element that keeps all of them
 module _ (n : ℕ) (s : Segments) (p : Place) (k at d' used section : ℕ) (now new : List (List ℕ)) (l m : ReadLimiter) (there : is_some (words_at s p k) ≡ true) (few : kept (words_there s p k) ≤ k) (room : at + (d' + k) ≤ used) (inside : used ≤ length now) (held : words_view now ≡ with_section_at at d' section (words_view now)) where
-  none : k + 0 ≡ k
-  none = omega arith
+  same_count : k + 0 ≡ k
+  same_count = omega arith
 
   laid_gives : (end : ℕ) → Written (over_used (each (tree_at n s) p k) have_capability (λ ts. with_links (at + d') (at + d' + k) (trim_each ts)) (from_each (copy_visits n s) p k) used) (copy_state now l) end (copy_state new m)
       → Written (over_used (each (tree_at n s) p k) have_capability (λ ts. with_cells at (at + (d' + k)) d' k (element section (resized k (trim_each ts)) no_elements)) (from_each (copy_visits n s) p k) used) (copy_state now l) end (copy_state new m)
   laid_gives end x =
-      subst (λ (j : ℕ). Written (over_used (each (tree_at n s) p j) have_capability (λ ts. with_cells at (at + (d' + k)) d' k (element section (resized k (trim_each ts)) no_elements)) (from_each (copy_visits n s) p j) used) (copy_state now l) end (copy_state new m)) none
-      (element_gives n s p k 0 at d' used section now now new l m m end (ap (λ (j : ℕ). is_some (words_at s p j)) none ∙ there) (subst (λ (j : ℕ). kept (words_there s p j) ≤ k) (sym none) few) room inside held (behind_none (at + d') now) follows (spends_nothing m) x)
+      subst (λ (j : ℕ). Written (over_used (each (tree_at n s) p j) have_capability (λ ts. with_cells at (at + (d' + k)) d' k (element section (resized k (trim_each ts)) no_elements)) (from_each (copy_visits n s) p j) used) (copy_state now l) end (copy_state new m)) same_count
+      (element_gives n s p k 0 at d' used section now now new l m m end (ap (λ (j : ℕ). is_some (words_at s p j)) same_count ∙ there) (subst (λ (j : ℕ). kept (words_there s p j) ≤ k) (sym same_count) few) room inside held (behind_none (at + d') now) follows (spends_nothing m) x)
     where
       follows : Follows m m 0
       follows = omega arith
@@ -137,8 +138,8 @@ module _ (n : ℕ) (s : Segments) (p : Place) (k at d' used section : ℕ) (now 
   laid_halts : (e : Error) → Unwritten (over_used (each (tree_at n s) p k) have_capability (λ ts. with_links (at + d') (at + d' + k) (trim_each ts)) (from_each (copy_visits n s) p k) used) (copy_state now l) e (copy_state new m)
       → Unwritten (over_used (each (tree_at n s) p k) have_capability (λ ts. with_cells at (at + (d' + k)) d' k (element section (resized k (trim_each ts)) no_elements)) (from_each (copy_visits n s) p k) used) (copy_state now l) e (copy_state new m)
   laid_halts e x =
-      subst (λ (j : ℕ). Unwritten (over_used (each (tree_at n s) p j) have_capability (λ ts. with_cells at (at + (d' + k)) d' k (element section (resized k (trim_each ts)) no_elements)) (from_each (copy_visits n s) p j) used) (copy_state now l) e (copy_state new m)) none
-      (element_halts n s p k 0 at d' used section now now new l m e (ap (λ (j : ℕ). is_some (words_at s p j)) none ∙ there) (subst (λ (j : ℕ). kept (words_there s p j) ≤ k) (sym none) few) room inside held (behind_none (at + d') now) x)
+      subst (λ (j : ℕ). Unwritten (over_used (each (tree_at n s) p j) have_capability (λ ts. with_cells at (at + (d' + k)) d' k (element section (resized k (trim_each ts)) no_elements)) (from_each (copy_visits n s) p j) used) (copy_state now l) e (copy_state new m)) same_count
+      (element_halts n s p k 0 at d' used section now now new l m e (ap (λ (j : ℕ). is_some (words_at s p j)) same_count ∙ there) (subst (λ (j : ℕ). kept (words_there s p j) ≤ k) (sym same_count) few) room inside held (behind_none (at + d') now) x)
 
 -- ---- all own words at once
 
@@ -253,3 +254,35 @@ module _ (n : ℕ) (s : Segments) (p : Place) (d k count at first : ℕ) (old : 
         let held = so_far.1 i (omega arith) h in
         let one = laid_halts n s (after (after p (i * (d + k))) d) k (at + i * (d + k)) d used (section_at s (after p (i * (d + k))) d) now new j m pointers (omega arith) (omega arith) so_far.0.bound held e w in
         elements_stopped n s p d k d k count at first old l words i used now new j m e h there fit inside one so_far.0
+
+  -- ---- elements without pointers
+
+  -- nothing is written of a row without pointers
+  no_row : (q : Place) (x used : ℕ) (now : List (List ℕ)) (j : ReadLimiter) → used ≤ length now → used < 2 ^ 29
+      → Written (over_used (each (tree_at n s) q 0) have_capability (λ ts. with_links x (x + 0) (trim_each ts)) (from_each (copy_visits n s) q 0) used) (copy_state now j) used (copy_state now j)
+  unfolding has_capability trim
+  no_row q x used now j bound near = record {
+    what = none;
+    there_is = refl;
+    clean = refl;
+    words = sym (links_all x (x + 0) (filled used now) (omega arith));
+    behind = behind_none used now;
+    bound = bound;
+    near = near;
+    more = omega arith;
+    cost = 0;
+    cost_is = refl;
+    walked = walked_none j;
+    few = omega arith;
+  }
+
+  module _ (words : ℕ) (mid : List (List ℕ)) (without : k ≡ 0) (there : AreThere s p words) (fit : count * (d + k) ≤ words) (inside : at + count * (d + k) ≤ first) where
+    pub laid_through : (i : ℕ) → i ≤ count → LaidSoFar (words_there s p words) 0 first mid l → LaidSoFar (words_there s p words) i first mid l
+    laid_through zero h x = x
+    laid_through (suc i) h x =
+        let so_far = laid_through i (omega arith) x in
+        let q = after (after p (i * (d + k))) d in
+        let a = at + i * (d + k) + d in
+        let row = subst (λ (y : ℕ). Written (over_used (each (tree_at n s) q y) have_capability (λ ts. with_links a (a + y) (trim_each ts)) (from_each (copy_visits n s) q y) first) (copy_state mid l) first (copy_state mid l)) (sym without) (no_row q a first mid l so_far.0.bound so_far.0.near) in
+        let one : i + 1 ≡ suc i = omega arith in
+        subst (λ (y : ℕ). LaidSoFar (words_there s p words) y first mid l) one (laid_preserved words i first mid mid l l (omega arith) there fit inside so_far first row)

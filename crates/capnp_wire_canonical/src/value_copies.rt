@@ -329,9 +329,6 @@ fn write_elements<A: ReaderArena>(
         WritesCopy (elements_copy r (place_view start) words count cut (write_spot at used))
         (copy_state into.old limiter.old) result (copy_state into.new limiter.new) }
 {
-    if cut.data_words == 0 && cut.pointers == 0 {
-        return Ok(used);
-    }
     let width = cut.data_words as usize + cut.pointers as usize;
     let kept = cut.kept_words as usize + cut.kept_pointers as usize;
     if kept == width {
@@ -382,6 +379,9 @@ fn write_wide<A: ReaderArena>(
     let width = cut.data_words as usize + cut.pointers as usize;
     are_words(arena, start.segment);
     copy_words(arena, bytes, start, count as usize * width, into, at);
+    if cut.pointers == 0 {
+        return Ok(used);
+    }
     let mut end = used;
     for i in 0..count {
         let words_before = i as usize * width;

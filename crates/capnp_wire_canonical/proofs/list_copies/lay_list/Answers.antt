@@ -1,27 +1,20 @@
 -- The words of a list, without the bits behind its last element.
-use Rattle.std.proofs.Common.{◌≡◌, ℕ, ◌+◌, ◌-◌, ◌*◌, ◌%◌, ◌^◌, List, [], ◌++◌, Err, take, set, refl, ap, sym, ◌∙◌, arith}
+use Rattle.std.proofs.Common.{◌≡◌, ℕ, ◌+◌, ◌-◌, ◌*◌, ◌%◌, ◌^◌, List, ◌++◌, take, set, refl, ap, sym, ◌∙◌, arith}
 use Rattle.std.specs.Int.{from_le_bytes, w64}
 use Rattle.std.proofs.Math.Seq.{take-set-lt}
 use Rattle.std.proofs.lemmas.List.{length-map}
-use Rattle.std.proofs.lemmas.Result.{err_from_is_err_and}
 use Rattle.capnp_model.specs.Sections.{words_for, words_of}
 use Rattle.capnp_model.specs.Segments.{Segments, Place}
 use Rattle.capnp_model.specs.Trees.{plain_list, size_bits, has_capability}
-use Rattle.capnp_model.specs.Traversal.{tree_at}
-use Rattle.capnp_model.specs.Trimming.{trim}
 use Rattle.capnp_model.specs.Encoding.{list_pointer}
-use Rattle.capnp_units.specs.declared.errors.Error.{Error}
 use Rattle.capnp_units.specs.Segments.{words_in}
 use Rattle.capnp_units.specs.Sizes.{size_number, data_bits}
-use Rattle.capnp_wire_objects.specs.declared.object.Object.TheVariants as object
 use Rattle.capnp_wire_objects.specs.Places.{place_view}
-use Rattle.capnp_wire_objects.specs.Inside.{section_at, tree_in}
+use Rattle.capnp_wire_objects.specs.Inside.{section_at}
 use Rattle.capnp_wire_objects.proofs.lemmas.Walks.{walked_none}
 use Rattle.capnp_wire_objects.proofs.lemmas.Measuring.{data_bits_plain}
-use Rattle.capnp_wire_canonical.specs.Copies.{copy_state}
-use Rattle.capnp_wire_canonical.specs.Writes.{words_view, filled, with_section_at, with_link}
-use Rattle.capnp_wire_canonical.proofs.Copying.{behind_both, no_room}
-use Rattle.capnp_wire_canonical.proofs.Rooms.{no_room_for_list}
+use Rattle.capnp_wire_canonical.specs.Writes.{words_view, filled, with_section_at}
+use Rattle.capnp_wire_canonical.proofs.Copying.{behind_both}
 use Rattle.capnp_wire_canonical.proofs.lemmas.Putting.{take_words}
 use Rattle.capnp_wire_canonical.proofs.Objects.{filled_length, list_written}
 use Rattle.capnp_wire_canonical.proofs.Finals.{own_at_least}

@@ -7,7 +7,7 @@ use Rattle.capnp_wire_objects.specs.Arenas.{segment_bytes}
 use Rattle.capnp_wire_objects.specs.Places.{place_view}
 use Rattle.capnp_wire_objects.specs.Near.{list_object, IsNear}
 use Rattle.capnp_wire_canonical.proofs.Held.{word_held}
-use Rattle.capnp_wire_canonical.proofs.NearFollowed.{near_paid, null_near, null_paid, bytes_cost, levels_are}
+use Rattle.capnp_wire_canonical.proofs.NearFollowed.{near_paid, null_paid, bytes_cost, levels_are}
 use Rattle.capnp_wire_canonical.proofs.Steps.{near_short, null_put, deep_at}
 use Rattle.capnp_wire_canonical.proofs.list_copies.write_common.Goals as goal
 

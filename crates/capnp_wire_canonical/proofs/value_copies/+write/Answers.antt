@@ -36,9 +36,9 @@ use Rattle.capnp_wire_canonical.proofs.NearFollowed.{some_left, untold, none_is}
 use Rattle.capnp_wire_canonical.proofs.Kept.{widest_one, no_wider}
 use Rattle.capnp_wire_canonical.proofs.Nulls.{kept_count}
 use Rattle.capnp_wire_canonical.proofs.Parts.{part_there, front_there, there_length, word_is}
-use Rattle.capnp_wire_canonical.proofs.Finals.{struct_gives, pointers_gives, same_words, element_halts, element_gives, structs_gives, empty_gives, cut_parts}
+use Rattle.capnp_wire_canonical.proofs.Finals.{struct_gives, pointers_gives, same_words, element_halts, element_gives, structs_gives, cut_parts}
 use Rattle.capnp_wire_canonical.proofs.Elements.{elements_put, elements_begun, elements_stopped, elements_next, elements_ended}
-use Rattle.capnp_wire_canonical.proofs.Laying.{laid_begins, laid_first, laid_preserved, laid_stopped}
+use Rattle.capnp_wire_canonical.proofs.Laying.{laid_begins, laid_first, laid_preserved, laid_stopped, laid_through}
 use Rattle.capnp_wire_canonical.proofs.Pointers.{trees_put, pointers_begun, pointers_stopped, pointers_next, pointers_ended}
 use Rattle.capnp_wire_canonical.proofs.value_copies.+write.Goals as goal
 
@@ -423,14 +423,6 @@ write_structs-returns g t c = λ most room.
     structs_gives n s p c.args.words count d k a b at used end most c.pointer_to_list-word.result c.pointer_to_struct-tag.result old first mid new l m r c.requires.inside.0 fit end_is (omega arith) (omega arith) c.requires.place.1 (omega arith) (omega arith)
     c.put.ensures.words c.put.ensures.behind c.put-2.ensures.words c.put-2.ensures.behind c.cut_of-cut.ensures.words c.cut_of-cut.ensures.pointers c.pointer_to_list-word.ensures c.pointer_to_struct-tag.ensures x
 
-pub write_elements-returns-then-cut-eq0-2 : goal.write_elements-returns-then-cut-eq0-2
-write_elements-returns-then-cut-eq0-2 g t c =
-    let s : Segments = words_in (g.A.ReaderArena.segments c.args.arena.now) in
-    let p : Place = place_view c.args.start in
-    let cut = c.args.cut in
-    empty_gives c.args.levels s p (words_there s p c.args.words) c.args.count c.args.at c.args.used c.args.into.now c.args.limiter.now cut.data_words cut.pointers cut.kept_words cut.kept_pointers
-    c.if-cut-eq0.true c.if-cut-eq0-2.true c.requires.sizes.0 c.requires.sizes.1 c.requires.place.1 c.requires.place.2
-
 -- elements that keep all their words take as many as they have
 wide_place : (at count used a b d k : ℕ) → d ≡ a → k ≡ b → at + count * (a + b) ≤ used → at + count * (d + k) ≤ used
 wide_place at count used a b d k e f h = let same : a + b ≡ d + k = omega arith in subst (λ (x : ℕ). at + count * x ≤ used) same h
@@ -480,6 +472,33 @@ write_wide-loop-i-preserved g t c =
     let place = wide_place c.args.at c.args.count c.args.used cut.kept_words cut.kept_pointers cut.data_words cut.pointers c.requires.whole.0 c.requires.whole.1 c.requires.place.0 in
     laid_preserved c.args.levels s p cut.data_words cut.pointers c.args.count c.args.at c.args.used c.args.into.now c.args.limiter.now c.args.words c.loop-i.i c.loop-i.end c.loop-i.into c.write_row.new.into c.loop-i.limiter c.write_row.new.limiter
     c.loop-i-test.true c.requires.inside c.requires.fit place c.loop-i.invariant c.in_ok-next.next c.in_ok-next.ensures
+
+pub write_wide-returns-then-cut-eq0 : goal.write_wide-returns-then-cut-eq0
+write_wide-returns-then-cut-eq0 g t c =
+    let s : Segments = words_in (g.A.ReaderArena.segments c.args.arena.now) in
+    let p : Place = place_view c.args.start in
+    let n = c.args.levels in
+    let cut = c.args.cut in
+    let d = cut.data_words in
+    let k = cut.pointers in
+    let count = c.args.count in
+    let at = c.args.at in
+    let used = c.args.used in
+    let old = c.args.into.now in
+    let mid = c.copy_words.new.into in
+    let l = c.args.limiter.now in
+    let ws = words_there s p c.args.words in
+    let both = c.requires.whole in
+    let place = wide_place at count used cut.kept_words cut.kept_pointers d k both.0 both.1 c.requires.place.0 in
+    let there = front_there s p c.args.words c.requires.inside.0 (count * (d + k)) c.requires.fit in
+    let bound = c.requires.place.1 in
+    let section = section_at s p (count * (d + k)) in
+    let begins = laid_begins n s p d k count at used old l ws section mid place bound c.requires.place.2 c.copy_words.ensures.words c.copy_words.ensures.behind in
+    let first = laid_first s p d k count at old mid there c.are_words.ensures (omega arith) c.copy_words.ensures.words in
+    let all = laid_through n s p d k count at used old l c.args.words mid c.if-cut-eq0.true c.requires.inside c.requires.fit place count (omega arith) (begins, first) in
+    let gives : ℕ → ℕ → Type 0 = λ x y. WritesCopy (over_used (each_element (tree_at n s) p ws d k count) elements_have_capability (elements_put at (at + count * (x + y)) x y) (from_elements (copy_visits n s) p d k count) used) (copy_state old l) (Ok used) (copy_state mid l) in
+    let here : gives d k = elements_ended n s p d k d k count at used old l ws count used mid l refl all.0 in
+    subst (λ (x : ℕ). gives x cut.kept_pointers) both.0 (subst (λ (y : ℕ). gives d y) both.1 here)
 
 pub write_wide-returns : goal.write_wide-returns
 write_wide-returns g t c =
