@@ -1,4 +1,4 @@
-//! Tests of values for canonical words.
+//! Tests whether values are laid out as their canonical words.
 ghost use Rattle.std.specs.Prelude.{◌≡◌, ◌+◌, None, IfSome, not, false};
 ghost use Rattle.std.specs.Option.{is_some};
 ghost use Rattle.capnp_model.specs.Segments.{place, words_at};
@@ -19,25 +19,24 @@ use capnp_wire_objects::arena::ReaderArena;
 use capnp_wire_objects::follow::follow_within;
 use capnp_wire_objects::place::{Place, ROOT, has_words, segment_bytes};
 
-/// Returns whether the pointer at a place and its value are the value's canonical words. At the place
-/// is the pointer. From the head on, a place after it in its segment, are the words of the objects
-/// that it leads to, trimmed. If the result is true, the head is left after those words, otherwise
-/// where it was.
+/// Tests whether the pointer at a place and its value are laid out as the value's canonical words.
+/// The pointer is at the place. The trimmed words below it are from the head on, a place after the
+/// pointer in its segment. On a yes, the head is moved past those words. Otherwise it stays.
 ///
 /// Pointers are followed, and objects paid for, as by `size_at`, up to the first difference. A
-/// capability is one, and so is a head that lies in another segment or not after the pointer (the
-/// pointer itself is followed even then). It is refused only if a walk over the whole value would
-/// be:
-/// - at the first fault, by its kind;
-/// - with `ReadLimitExceeded` at the first object that costs more words than are left.
+/// capability is a difference. So is a head that is in another segment or not after the pointer,
+/// although the pointer itself is followed even then. Returns an error only if a walk over the
+/// whole value does:
+/// - the first fault, by its kind;
+/// - `ReadLimitExceeded` at the first object that costs more words than are left.
 ///
-/// If the result is false, more levels don't make it true, so a value that is only too deep is
-/// refused. The result false is exact in a segment of at most 2^29 - 1 words, the most that a
-/// message has. The result true is exact everywhere, and then the value is within the levels and the
-/// budget.
+/// Raising the limit of levels never turns a no into a yes, so a value that is only too deep is
+/// refused with an error. A no is exact in a segment of at most 2^29 - 1 words, which is the most
+/// that a message has. A yes is exact in any segment, and says that the value is within the levels
+/// and the budget.
 ///
-/// It takes no memory, and a step for each pointer that it follows and each word of an object. An
-/// element without words takes no step. Each level takes a few hundred bytes of stack.
+/// Takes no memory. Takes a step for each pointer that is followed and each word of an object, so
+/// no step for an element without words. Each level takes a few hundred bytes of stack.
 pub fn is_canonical<A: ReaderArena>(
     arena: &A,
     limiter: &mut ReadLimiter,
@@ -58,9 +57,9 @@ pub fn is_canonical<A: ReaderArena>(
     Ok(move_on(head, end))
 }
 
-/// Returns whether the values of n pointers in a row, as those of a struct, are canonical words with
-/// the pointers. From the head on are the words of the values, one after the other. If the head lies
-/// elsewhere, no pointer is followed.
+/// Tests whether n pointers in a row, such as those of a struct, and their values are laid out as
+/// canonical words. The words below each pointer are from the head on, one after the other. If the
+/// head is elsewhere, no pointer is followed.
 pub fn are_canonical<A: ReaderArena>(
     arena: &A,
     limiter: &mut ReadLimiter,
@@ -82,12 +81,12 @@ pub fn are_canonical<A: ReaderArena>(
     Ok(move_on(head, end))
 }
 
-/// Returns whether a struct's own words and the values of its pointers are canonical words. Neither
-/// its last data word nor its last pointer is a word of zeros. From the head on are the words of the
-/// values, one after the other. Its own words were paid for already.
+/// Tests whether a struct's own words and the objects below it are laid out as canonical words.
+/// Neither its last data word nor its last pointer is a word of zeros. The words below its pointers
+/// are from the head on, one after the other. Its own words were paid for already.
 ///
-/// It is refused, and exact, as `is_canonical` is. If the struct can do with less, or the head lies
-/// elsewhere, no pointer is followed.
+/// Errors come, and a no is exact, as for `is_canonical`. If the struct can do with less, or the
+/// head is elsewhere, no pointer is followed.
 pub fn is_canonical_struct<A: ReaderArena>(
     arena: &A,
     limiter: &mut ReadLimiter,
@@ -112,7 +111,7 @@ pub fn is_canonical_struct<A: ReaderArena>(
     are_canonical(arena, limiter, first, size.pointers as u32, levels, head)
 }
 
-/// Returns whether the words of a message's value end where its first segment does.
+/// Tests whether the words of a message's value end at the end of its first segment.
 #[inline(always)]
 fn is_last<A: ReaderArena>(arena: &A, end: Option<usize>) -> bool
     ensures some { IfSome end (λ position.
@@ -129,11 +128,11 @@ fn is_last<A: ReaderArena>(arena: &A, end: Option<usize>) -> bool
     !has_words(arena, behind, 1)
 }
 
-/// Returns whether a message is one segment of the canonical words of its value. If there is a second
-/// segment, the result is false, no pointer is followed, and nothing is paid.
+/// Tests whether a message is one segment of the canonical words of its value. If there is a second
+/// segment, the answer is no, no pointer is followed, and nothing is paid.
 ///
-/// It is refused as `is_canonical` is. If the result is false, more levels don't make it true. The
-/// result false is exact if the segment has at most 2^29 - 1 words.
+/// Errors come as for `is_canonical`. Raising the limit of levels never turns a no into a yes. A no
+/// is exact if the segment has at most 2^29 - 1 words.
 pub fn is_canonical_message<A: ReaderArena>(
     arena: &A,
     limiter: &mut ReadLimiter,

@@ -16,7 +16,8 @@ use crate::words::pointer_to_struct;
 use capnp_wire_objects::arena::ReaderArena;
 use capnp_wire_objects::place::Place;
 
-/// The numbers of a struct's data words and pointers, and of those of each kind that are kept.
+/// The cut of a struct: the words of its data and its pointers, and the number of each that is
+/// kept.
 #[derive(Clone, Copy)]
 pub(crate) struct Cut {
     pub(crate) data_words: u16,
@@ -61,8 +62,8 @@ pub(crate) fn cut_of<A: ReaderArena>(
     }
 }
 
-/// Returns the pointer to a struct that begins n words after it. An empty struct lies at the pointer
-/// itself.
+/// Returns the pointer to a struct that begins n words after the pointer. An empty struct is at the
+/// pointer itself.
 #[inline(always)]
 pub(crate) fn pointer_to_cut(gap: usize, cut: Cut) -> u64
     requires { gap < 2 ^ 29 }

@@ -1,7 +1,7 @@
-//! Ends of values that are their canonical words.
+//! Ends of values that are laid out as their canonical words.
 //!
-//! `structs_end` takes its list part by part, as `value_copies` does, since a record would go
-//! through memory for each list.
+//! As in `copy`, `structs_end` takes its list part by part, because a record would go through
+//! memory for each list.
 ghost use Rattle.std.specs.Prelude.{◌≡◌, ℕ, ◌+◌, ◌*◌, ◌^◌, ◌≤◌, ◌<◌};
 ghost use Rattle.capnp_units.specs.Segments.{words_in};
 ghost use Rattle.capnp_wire_objects.specs.declared.object.Object.TheVariants as seen;
@@ -30,13 +30,13 @@ use capnp_wire_objects::object::Object;
 use capnp_wire_objects::place::{Place, segment_bytes};
 use capnp_wire_objects::structs::NearStruct;
 
-/// The number of kinds of pointers in the lowest two bits of a word.
+/// The number of kinds of pointers that the lowest two bits of a word have.
 const KINDS: u64 = 4;
-/// The kind of pointers to a landing pad, which no canonical pointer is.
+/// The kind of pointers that lead to a landing pad. A canonical pointer doesn't.
 const FAR: u64 = 2;
 
-/// Returns where the words of the value of the pointer at a place end, if they are its canonical
-/// words from the head on.
+/// Returns the end of the words of the value of the pointer at a place, if they are from the head
+/// on.
 #[cycle(check)]
 #[inline(always)]
 pub(crate) fn value_end<A: ReaderArena>(
@@ -61,7 +61,7 @@ pub(crate) fn value_end<A: ReaderArena>(
     any_end(arena, limiter, place, levels, head)
 }
 
-/// Does the work of `value_end` out of line, for pointers to values that `common_end` doesn't find.
+/// Works as `value_end`, out of line, for pointers to values that `common_end` doesn't find.
 #[cycle(check)]
 #[inline(never)]
 fn other_end<A: ReaderArena>(
@@ -79,8 +79,8 @@ fn other_end<A: ReaderArena>(
     value_end(arena, limiter, place, levels, head)
 }
 
-/// Does the work of `value_end` for a pointer in a row, which mostly is null or leads to bytes. The
-/// segment is the one of these bytes.
+/// Works as `value_end` for a pointer in a row, which mostly is null or leads to bytes. The segment
+/// is the one of these bytes.
 #[cycle(check)]
 #[inline(always)]
 fn item_end<A: ReaderArena>(
@@ -103,7 +103,7 @@ fn item_end<A: ReaderArena>(
     other_end(arena, limiter, place, levels, head)
 }
 
-/// Does the work of `value_end` for any object, a near list or struct too.
+/// Returns the end of the words of any value of the pointer, even a near list or struct.
 #[cycle(check)]
 fn any_end<A: ReaderArena>(
     arena: &A,
@@ -127,8 +127,8 @@ fn any_end<A: ReaderArena>(
     object_end(arena, limiter, object, place, levels - 1, head)
 }
 
-/// Returns where the words end of the object that the pointer at a place leads to, which is paid
-/// for, if they are canonical from the head on.
+/// Returns the end of the words of the object that the pointer at a place leads to. The object is
+/// paid for.
 #[cycle(check)]
 fn object_end<A: ReaderArena>(
     arena: &A,
@@ -192,7 +192,7 @@ fn object_end<A: ReaderArena>(
     }
 }
 
-/// Does the work of `struct_here` out of line.
+/// Works as `struct_here`, out of line.
 #[cycle(check)]
 #[inline(never)]
 fn struct_end<A: ReaderArena>(
@@ -213,7 +213,7 @@ fn struct_end<A: ReaderArena>(
     struct_here(arena, limiter, place, near, levels, head)
 }
 
-/// Returns where the words of a struct end, if they are canonical from the head on.
+/// Returns the end of the words of a struct, if they are from the head on.
 #[cycle(check)]
 #[inline(always)]
 pub(crate) fn struct_here<A: ReaderArena>(
@@ -247,7 +247,7 @@ pub(crate) fn struct_here<A: ReaderArena>(
     row_end(arena, limiter, first, pointers, levels, head + words)
 }
 
-/// Returns where the words of a list of pointers end, if they are canonical from the head on.
+/// Returns the end of the words of a list of pointers, if they are from the head on.
 #[cycle(check)]
 fn pointers_end<A: ReaderArena>(
     arena: &A,
@@ -276,7 +276,7 @@ fn pointers_end<A: ReaderArena>(
     row_end(arena, limiter, start, count, levels, behind)
 }
 
-/// Returns where the words of a list of structs end, if they are canonical from the head on.
+/// Returns the end of the words of a list of structs, if they are from the head on.
 #[cycle(check)]
 fn structs_end<A: ReaderArena>(
     arena: &A,
@@ -325,8 +325,7 @@ fn structs_end<A: ReaderArena>(
     elements_end(arena, limiter, start, count, size, levels, behind)
 }
 
-/// Returns where the words of the values of pointers in a row end, if they are canonical from the
-/// head on.
+/// Returns the end of the words below the pointers in a row, if they are from the head on.
 #[cycle(check)]
 #[inline(always)]
 pub(crate) fn row_end<A: ReaderArena>(
@@ -357,8 +356,8 @@ pub(crate) fn row_end<A: ReaderArena>(
     Ok(Some(end))
 }
 
-/// Returns where the words of the values of the pointers in the elements of a list of structs end, if
-/// they are canonical from the head on. Elements without pointers take no step.
+/// Returns the end of the words below the pointers in the elements of a list of structs, if they
+/// are from the head on. Elements without pointers take no step.
 #[cycle(check)]
 fn elements_end<A: ReaderArena>(
     arena: &A,

@@ -1,0 +1,5 @@
+//! The rules that the nodes of compiled sources keep.
+#![tactic(auto)]
+
+pub mod rules;
+pub mod sizes;
