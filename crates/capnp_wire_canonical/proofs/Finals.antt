@@ -1,5 +1,5 @@
 -- What is written of each kind of object.
-use Rattle.std.proofs.Common.{◌≡◌, ℕ, zero, suc, ◌+◌, ◌-◌, ◌*◌, ◌/◌, ◌^◌, ◌<◌, ◌≤◌, Bool, true, false, List, [], ◌∷◌, ◌++◌, length, take, drop, set, Option, Some, Result, Ok, refl, ap, sym, ◌∙◌, subst, arith, eqb, if◌then◌else◌, ◌==◌}
+use Rattle.std.proofs.Common.{◌≡◌, ℕ, zero, suc, ◌+◌, ◌-◌, ◌*◌, ◌/◌, ◌<◌, ◌≤◌, Bool, true, false, List, [], ◌∷◌, ◌++◌, length, take, drop, set, Option, Some, Result, refl, ap, sym, ◌∙◌, subst, arith, eqb, if◌then◌else◌, ◌==◌}
 use Rattle.std.specs.Option.{is_some}
 use Rattle.std.specs.Int.{from_le_bytes, w64}
 use Rattle.std.proofs.lemmas.Bool.{eqb-true}
@@ -23,7 +23,6 @@ use Rattle.capnp_units.specs.Limits.{Spends, Follows}
 use Rattle.capnp_units.specs.Sizes.{data_bits}
 use Rattle.capnp_wire_objects.specs.Inside.{section_at, words_there}
 use Rattle.capnp_wire_objects.specs.Walks.{Walked}
-use Rattle.capnp_wire_objects.proofs.lemmas.Rows.{nothing_met}
 use Rattle.capnp_wire_objects.proofs.lemmas.Walks.{walked_none, walked_both}
 use Rattle.capnp_wire_objects.specs.Objects.{AreThere}
 use Rattle.capnp_model.proofs.lemmas.CanonicalCopies.{free_resized}
@@ -33,13 +32,13 @@ use Rattle.capnp_wire_canonical.specs.Objects.{IsCut}
 use Rattle.capnp_wire_canonical.specs.Widths.{kept, widest}
 use Rattle.capnp_wire_canonical.specs.Writes.{words_view, filled, with_section_at, with_link, with_links, with_cells}
 use Rattle.capnp_wire_canonical.specs.Copies.{copy_visits, Behind, Written, WritesCopy, Unwritten, copy_state}
-use Rattle.capnp_wire_canonical.proofs.Copying.{behind_none, behind_more, behind_both, unwritten_later, made_of, over_used}
+use Rattle.capnp_wire_canonical.proofs.Copying.{behind_more, behind_both, unwritten_later, made_of, over_used}
 use Rattle.capnp_wire_canonical.proofs.Parts.{there_length, section_is, word_is, part_there, part_room, front_section}
 use Rattle.capnp_wire_canonical.proofs.Kept.{widest_at}
 use Rattle.capnp_wire_canonical.proofs.Fronts.{front_words}
 use Rattle.capnp_wire_canonical.proofs.lemmas.Putting.{struct_cell, take_with_words}
 use Rattle.capnp_wire_canonical.proofs.Nulls.{free, free_cost, free_length, nulls_read, each_nulls, met_both, kept_front, kept_zeros}
-use Rattle.capnp_wire_canonical.proofs.Rows.{least_words, least_pointers, empty_elements}
+use Rattle.capnp_wire_canonical.proofs.Rows.{least_words, least_pointers}
 use Rattle.capnp_wire_canonical.proofs.Objects.{filled_length, filled_part, filled_put, struct_written, pointers_written, structs_written}
 
 -- a list's words cost no less
@@ -213,43 +212,6 @@ module _ (n : ℕ) (s : Segments) (p : Place) (words count d k d' k' at used end
       ))
       (λ t e. let a = bind_some all _ t e in (a.0, a.1))
       (behind_both (at + 1) (used + 1) end old first mid (omega arith) (omega arith) behind behind_tag) (omega arith) little little x
-
--- ---- elements without a word
-
-module _ (n : ℕ) (s : Segments) (p : Place) (ws : List ℕ) (count at used : ℕ) (old : List (List ℕ)) (l : ReadLimiter) where
-  -- What is written of them.
-  abbrev EmptyGives : ℕ → ℕ → ℕ → ℕ → Type 0
-  EmptyGives d k v m = WritesCopy (over_used (each_element (tree_at n s) p ws d k count) elements_have_capability (λ es. with_cells at (at + count * (v + m)) v m (with_pointers m (trim_elements es))) (from_elements (copy_visits n s) p d k count) used) (copy_state old l) (Ok used) (copy_state old l)
-
-  empty_written : used ≤ length old → used < 2 ^ 29 → EmptyGives 0 0 0 0
-  empty_written bound near =
-      let es = empty_elements count (tree_at n s) p ws (filled used old) at in
-      let none = nothing_met (copy_visits n s) p 0 count in
-      let end : at + count * (0 + 0) ≡ at = omega arith in
-      record {
-        what = es.0;
-        there_is = es.1;
-        clean = es.2;
-        words = sym (ap (λ (j : ℕ). with_cells at j 0 0 (with_pointers 0 (trim_elements es.0)) (filled used old)) end ∙ es.3);
-        behind = behind_none used old;
-        bound = bound;
-        near = near;
-        more = omega arith;
-        cost = 0;
-        cost_is = ap visits_cost none;
-        walked = subst (λ (vs : List Visit). Walked vs l l) (sym none) (walked_none l);
-        few = omega arith;
-      }
-
-  pub empty_gives : (d k v m : ℕ) → d ≡ 0 → k ≡ 0 → v ≤ d → m ≤ k → used ≤ length old → used < 2 ^ 29 → EmptyGives d k v m
-  empty_gives d k v m e f h j bound near =
-      let no_words : v ≡ 0 = omega arith in
-      let no_pointers : m ≡ 0 = omega arith in
-      let a : EmptyGives 0 0 0 0 = empty_written bound near in
-      let b : EmptyGives d 0 0 0 = subst (λ (x : ℕ). EmptyGives x 0 0 0) (sym e) a in
-      let c : EmptyGives d k 0 0 = subst (λ (x : ℕ). EmptyGives d x 0 0) (sym f) b in
-      let q : EmptyGives d k v 0 = subst (λ (x : ℕ). EmptyGives d k x 0) (sym no_words) c in
-      subst (λ (x : ℕ). EmptyGives d k v x) (sym no_pointers) q
 
 -- ---- each element of a list is cut alike
 

@@ -30,3 +30,4 @@ mod Telling
 mod Rowing
 mod StandingStructs
 mod Flat
+mod Laying

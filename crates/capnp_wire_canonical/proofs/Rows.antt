@@ -1,12 +1,11 @@
 -- Pointers and elements that are copied one by one.
-use Rattle.std.proofs.Common.{◌≡◌, ℕ, zero, suc, ◌+◌, ◌-◌, ◌*◌, ◌<◌, ◌≤◌, max, true, false, List, [], ◌∷◌, ◌++◌, length, take, drop, Option, Some, refl, ap, sym, ◌∙◌, arith}
+use Rattle.std.proofs.Common.{◌≡◌, ℕ, zero, suc, ◌+◌, ◌-◌, ◌*◌, ◌<◌, ◌≤◌, max, true, false, List, [], ◌∷◌, length, take, drop, Option, Some, refl, ap, sym, ◌∙◌, arith}
 use Rattle.std.specs.Option.{is_some}
-use Rattle.std.proofs.lemmas.List.{length-drop, take-append-drop, append-nil}
+use Rattle.std.proofs.lemmas.List.{length-drop}
 use Rattle.capnp_model.specs.Sections.{section_of, needed_words}
 use Rattle.capnp_model.specs.Segments.{Segments, Place, place, after, words_at}
-use Rattle.capnp_model.specs.Trees.{Tree, Trees, none, ◌▸◌, Elements, no_elements, element, tree_count, element_count, resized, has_capability, have_capability, elements_have_capability}
+use Rattle.capnp_model.specs.Trees.{Tree, Trees, ◌▸◌, Elements, no_elements, element, tree_count, element_count, resized, has_capability, have_capability, elements_have_capability}
 use Rattle.capnp_model.specs.Traversal.{tree_at, each, each_element}
-use Rattle.capnp_model.specs.Encoding.{cells, element_bodies}
 use Rattle.capnp_model.specs.Trimming.{common_words, common_pointers, with_pointers, stripped, trim, trim_each, trim_elements}
 use Rattle.capnp_model.proofs.lemmas.Chaining.{bind_some, some_is}
 use Rattle.capnp_model.proofs.lemmas.TrimFits.{count-trim_each, count-with_pointers, count-trim_elements}
@@ -123,27 +122,3 @@ least_pointers (suc n) levels s p ws m d k es there h e =
     let swap : p.position + (d + k) + d ≡ p.position + d + (d + k) = omega arith in
     let behind = rest ∙ ap (λ (q : ℕ). widest (λ x. kept (words_there s x k)) (place p.segment q) (d + k) n) swap in
     ap (λ (xs : Elements). common_pointers (trim_elements xs)) (sym (some_is _ _ b.2)) ∙ ap (λ (x : ℕ). max x (common_pointers (trim_elements b.0))) first ∙ ap (max (kept (words_there s (after p d) k))) behind
-
--- ---- elements without a word
-
-no_cells : (es : Elements) (before : ℕ) → cells before 0 0 (with_pointers 0 es) ≡ []
-no_cells no_elements before = refl
-no_cells (element x kids es) before = no_cells es (before + 0)
-
-no_bodies : (es : Elements) → element_bodies (with_pointers 0 es) ≡ []
-no_bodies no_elements = refl
-no_bodies (element x kids es) = no_bodies es
-
-empty_cells : (es : Elements) (at : ℕ) (w : List ℕ) → with_cells at at 0 0 (with_pointers 0 es) w ≡ w
-unfolding with_cells
-empty_cells es at w =
-    ap (λ (xs : List ℕ). take at w ++ (xs ++ (drop at w ++ element_bodies (with_pointers 0 es)))) (no_cells es (length w - at))
-    ∙ ap (λ (xs : List ℕ). take at w ++ (drop at w ++ xs)) (no_bodies es) ∙ ap (λ (xs : List ℕ). take at w ++ xs) (append-nil (drop at w)) ∙ take-append-drop at w
-
-empty_read : (n : ℕ) (f : Place → Option Tree) (p : Place) (ws : List ℕ) → (es : Elements) × (each_element f p ws 0 0 n ≡ Some es) × (elements_have_capability es ≡ false)
-unfolding has_capability
-empty_read zero f p ws = (no_elements, refl, refl)
-empty_read (suc n) f p ws = let rest = empty_read n f (after p 0) (drop 0 ws) in let more = rest.1 in (element (section_of (take 0 ws)) none rest.0, rw more refl, rest.2)
-
-pub empty_elements : (n : ℕ) (f : Place → Option Tree) (p : Place) (ws w : List ℕ) (at : ℕ) → (es : Elements) × (each_element f p ws 0 0 n ≡ Some es) × (elements_have_capability es ≡ false) × (with_cells at at 0 0 (with_pointers 0 (trim_elements es)) w ≡ w)
-empty_elements n f p ws w at = let es = empty_read n f p ws in (es.0, es.1, es.2, empty_cells (trim_elements es.0) at w)

@@ -16,21 +16,21 @@ ghost use Rattle.capnp_wire_canonical.specs.Objects.{IsShort, WritesObject, HasP
 use crate::cuts::{Cut, cut_of, pointer_to_cut};
 use crate::follow::{follow_data, follow_near_list, follow_near_struct, follow_nulls};
 use crate::landed::follow_other;
-use crate::list_copies::write_list;
-use crate::own_words::copy_words;
+use crate::list_copies::{write_common, write_list};
+use crate::own_words::{are_words, copy_words};
 use crate::words::{end_of, pointer_to_list, pointer_to_struct, put};
 use capnp_units::errors::Result;
 use capnp_units::limiter::ReadLimiter;
-use capnp_units::sizes::{StructSize, Word};
+use capnp_units::sizes::Word;
 use capnp_wire_objects::arena::ReaderArena;
 use capnp_wire_objects::lists::NearList;
 use capnp_wire_objects::object::Object;
 use capnp_wire_objects::place::{Place, segment_bytes};
 
 /// Writes the pointer at a place to what it leads to, which goes after the words that are used. It
-/// returns where that ends.
+/// returns where that ends. It is out of line, so the loops over rows have registers enough.
 #[cycle(write)]
-#[inline(always)]
+#[inline(never)]
 pub(crate) fn write_at<A: ReaderArena>(
     arena: &A,
     bytes: &[u8],
@@ -51,38 +51,13 @@ pub(crate) fn write_at<A: ReaderArena>(
         return write_list(arena, bytes, list, into, at, used);
     }
     if let Some(near) = follow_near_struct(arena, bytes, limiter, place, levels)? {
-        let StructSize {
-            data_words,
-            pointers,
-        } = near.size;
+        let data_words = near.size.data_words;
+        let pointers = near.size.pointers;
         let below = levels - 1;
         return write_struct(
             arena, bytes, limiter, near.start, data_words, pointers, below, into, at, used,
         );
     }
-    write_other(arena, bytes, limiter, place, levels, into, at, used)
-}
-
-/// Does the work of `write_at` for objects that `follow_near_list` and `follow_near_struct` don't
-/// find.
-#[cycle(write)]
-#[inline(never)]
-fn write_other<A: ReaderArena>(
-    arena: &A,
-    bytes: &[u8],
-    limiter: &mut ReadLimiter,
-    place: Place,
-    levels: u32,
-    into: &mut [Word],
-    at: usize,
-    used: usize,
-) -> Result<usize>
-    requires bytes { bytes.now ≡ segment_bytes (A.segments arena.now) place.segment }
-    requires place { HasPlace (at + 1) used into.old }
-    ensures { let r = reach levels (words_in (A.segments arena.now)) in
-        WritesCopy (value_copy r (place_view place) (write_spot at used))
-        (copy_state into.old limiter.old) result (copy_state into.new limiter.new) }
-{
     if let Some(object) = follow_other(arena, bytes, limiter, place, levels) {
         return write_object(arena, limiter, object, levels - 1, into, at, used);
     }
@@ -91,6 +66,7 @@ fn write_other<A: ReaderArena>(
 
 /// Does the work of `write_at` for any object, a near list or struct too.
 #[cycle(write)]
+#[inline(never)]
 fn write_any<A: ReaderArena>(
     arena: &A,
     limiter: &mut ReadLimiter,
@@ -178,6 +154,7 @@ fn write_object<A: ReaderArena>(
 
 /// Writes the pointer to a struct, and the struct with what is below it after the words in use.
 #[cycle(write)]
+#[inline(never)]
 fn write_struct<A: ReaderArena>(
     arena: &A,
     bytes: &[u8],
@@ -208,6 +185,7 @@ fn write_struct<A: ReaderArena>(
 
 /// Writes the pointer to a list of structs, and it with what is below it after the words in use.
 #[cycle(write)]
+#[inline(never)]
 fn write_structs<A: ReaderArena>(
     arena: &A,
     bytes: &[u8],
@@ -243,18 +221,9 @@ fn write_structs<A: ReaderArena>(
         cut.kept_pointers as u64,
     );
     put(into, used, tag);
+    let first = used + 1;
     write_elements(
-        arena,
-        bytes,
-        limiter,
-        start,
-        words,
-        count,
-        cut,
-        levels,
-        into,
-        used + 1,
-        end,
+        arena, bytes, limiter, start, words, count, cut, levels, into, first, end,
     )
 }
 
@@ -285,16 +254,12 @@ fn write_row<A: ReaderArena>(
             segment: first.segment,
             position: first.position + i as usize,
         };
-        let next = write_at(
-            arena,
-            bytes,
-            limiter,
-            place,
-            levels,
-            into,
-            at + i as usize,
-            end,
-        )?;
+        let slot = at + i as usize;
+        if let Some(next) = write_common(arena, bytes, limiter, place, levels, into, slot, end) {
+            end = next;
+            continue;
+        }
+        let next = write_at(arena, bytes, limiter, place, levels, into, slot, end)?;
         end = next;
     }
     Ok(end)
@@ -329,16 +294,9 @@ fn write_element<A: ReaderArena>(
         position: start.position + cut.data_words as usize,
     };
     let pointers = cut.kept_pointers as u32;
+    let slot = at + kept;
     let end = write_row(
-        arena,
-        bytes,
-        limiter,
-        first,
-        pointers,
-        levels,
-        into,
-        at + kept,
-        used,
+        arena, bytes, limiter, first, pointers, levels, into, slot, used,
     )?;
     follow_nulls(limiter, cut.pointers as u32 - pointers);
     Ok(end)
@@ -371,13 +329,15 @@ fn write_elements<A: ReaderArena>(
         WritesCopy (elements_copy r (place_view start) words count cut (write_spot at used))
         (copy_state into.old limiter.old) result (copy_state into.new limiter.new) }
 {
-    if cut.data_words == 0 && cut.pointers == 0 {
-        return Ok(used);
+    let width = cut.data_words as usize + cut.pointers as usize;
+    let kept = cut.kept_words as usize + cut.kept_pointers as usize;
+    if kept == width {
+        return write_wide(
+            arena, bytes, limiter, start, words, count, cut, levels, into, at, used,
+        );
     }
     let mut end = used;
     for i in 0..count {
-        let width = cut.data_words as usize + cut.pointers as usize;
-        let kept = cut.kept_words as usize + cut.kept_pointers as usize;
         let element = Place {
             segment: start.segment,
             position: start.position + i as usize * width,
@@ -385,6 +345,54 @@ fn write_elements<A: ReaderArena>(
         let place = at + i as usize * kept;
         let next = write_element(
             arena, bytes, limiter, element, cut, levels, into, place, end,
+        )?;
+        end = next;
+    }
+    Ok(end)
+}
+
+/// Does the work of `write_elements` for elements that keep all words, which are copied at once.
+#[cycle(write)]
+#[inline(never)]
+fn write_wide<A: ReaderArena>(
+    arena: &A,
+    bytes: &[u8],
+    limiter: &mut ReadLimiter,
+    start: Place,
+    words: u32,
+    count: u32,
+    cut: Cut,
+    levels: u32,
+    into: &mut [Word],
+    at: usize,
+    used: usize,
+) -> Result<usize>
+    requires bytes { bytes.now ≡ segment_bytes (A.segments arena.now) start.segment }
+    requires inside { AreThere (words_in (A.segments arena.now)) (place_view start) words }
+    requires fit { count * (cut.data_words + cut.pointers) ≤ words }
+    requires whole { (cut.data_words ≡ cut.kept_words) × (cut.pointers ≡ cut.kept_pointers) }
+    requires place { HasPlace (at + count * (cut.kept_words + cut.kept_pointers)) used into.old }
+    ensures { let r = reach levels (words_in (A.segments arena.now)) in
+        WritesCopy (elements_copy r (place_view start) words count cut (write_spot at used))
+        (copy_state into.old limiter.old) result (copy_state into.new limiter.new) }
+{
+    let width = cut.data_words as usize + cut.pointers as usize;
+    are_words(arena, start.segment);
+    copy_words(arena, bytes, start, count as usize * width, into, at);
+    if cut.pointers == 0 {
+        return Ok(used);
+    }
+    let mut end = used;
+    for i in 0..count {
+        let words_before = i as usize * width;
+        let first = Place {
+            segment: start.segment,
+            position: start.position + words_before + cut.data_words as usize,
+        };
+        let slot = at + words_before + cut.data_words as usize;
+        let pointers = cut.pointers as u32;
+        let next = write_row(
+            arena, bytes, limiter, first, pointers, levels, into, slot, end,
         )?;
         end = next;
     }

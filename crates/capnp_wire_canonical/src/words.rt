@@ -1,5 +1,6 @@
 //! Words of a slice.
 ghost use Rattle.std.specs.Prelude.{◌≡◌, ℕ, ◌+◌, ◌-◌, ◌*◌, ◌%◌, ◌≤◌, ◌<◌, ◌^◌, ◌++◌, List, length, get_or, set, min, MatchResult};
+ghost use Rattle.std.specs.Bool.{OnTrue};
 ghost use Rattle.capnp_model.specs.Encoding.{struct_pointer, list_pointer};
 ghost use Rattle.capnp_units.specs.declared.kinds.ErrorKind.TheVariants.{BufferNotLargeEnough};
 ghost use Rattle.capnp_model.specs.Sections.{words_for, words_of};
@@ -11,8 +12,8 @@ use capnp_units::kinds::ErrorKind;
 use capnp_units::limits::MOST_WORDS;
 use capnp_units::sizes::Word;
 
-/// Where n words end that are behind those that are used. They are refused with
-/// `BufferNotLargeEnough` exactly where the slice, or a message's 2^29 - 1 words, has no room for
+/// Returns where n words end that come after those that are used. They are refused with
+/// `BufferNotLargeEnough` exactly when the slice, or a message's 2^29 - 1 words, has no room for
 /// them.
 #[inline(always)]
 pub(crate) fn end_of(into: &[Word], used: usize, words: usize) -> Result<usize>
@@ -27,6 +28,16 @@ pub(crate) fn end_of(into: &[Word], used: usize, words: usize) -> Result<usize>
     Ok(used + words)
 }
 
+/// Returns whether the slice, and a message's 2^29 - 1 words, have room for n words after those
+/// that are used.
+#[inline(always)]
+pub(crate) fn has_room(into: &[Word], used: usize, words: usize) -> bool
+    requires { (used ≤ length into.now) × (used < 2 ^ 29) }
+    ensures { OnTrue result ((used + words ≤ length into.now) × (used + words < 2 ^ 29)) }
+{
+    words <= into.len().min(MOST_WORDS as usize) - used
+}
+
 /// Puts a word at a place.
 #[inline(always)]
 pub(crate) fn put(into: &mut [Word], at: usize, word: u64)
@@ -37,7 +48,7 @@ pub(crate) fn put(into: &mut [Word], at: usize, word: u64)
     into[at] = word.to_le_bytes();
 }
 
-/// A struct pointer.
+/// Returns a struct pointer.
 #[inline(always)]
 pub(crate) fn pointer_to_struct(offset: u64, data_words: u64, pointers: u64) -> u64
     requires offset { offset < 2 ^ 30 }
@@ -48,7 +59,7 @@ pub(crate) fn pointer_to_struct(offset: u64, data_words: u64, pointers: u64) -> 
     4 * offset + 0x1_0000_0000 * data_words + 0x1_0000_0000_0000 * pointers
 }
 
-/// A list pointer.
+/// Returns a list pointer.
 #[inline(always)]
 pub(crate) fn pointer_to_list(offset: u64, size: u64, count: u64) -> u64
     requires offset { offset < 2 ^ 30 }
@@ -59,7 +70,7 @@ pub(crate) fn pointer_to_list(offset: u64, size: u64, count: u64) -> u64
     1 + 4 * offset + 0x1_0000_0000 * size + 0x8_0000_0000 * count
 }
 
-/// The word at a place.
+/// Returns the word at a place.
 #[inline(always)]
 fn word_in(into: &[Word], at: usize) -> u64
     requires { at < length into.now }
@@ -68,7 +79,7 @@ fn word_in(into: &[Word], at: usize) -> u64
     u64::from_le_bytes(into[at])
 }
 
-/// Clears the bits behind n in the words that end at a place.
+/// Clears the bits after the first n in the words that end at a place.
 #[inline(always)]
 pub(crate) fn mask_last(into: &mut [Word], end: usize, bits: u64)
     requires end { end ≤ length into.old }

@@ -1,11 +1,11 @@
 -- What each step writes and pays.
-use Rattle.std.proofs.Common.{◌≡◌, ℕ, ◌+◌, ◌-◌, ◌*◌, ◌<◌, ◌≤◌, refl, ap, sym, ◌∙◌, subst, inl, inr, arith}
-use Rattle.std.proofs.Common.{Ok, Err}
+use Rattle.std.proofs.Common.{◌≡◌, ℕ, List, ◌+◌, ◌-◌, ◌*◌, ◌<◌, ◌≤◌, refl, ap, sym, ◌∙◌, subst, inl, inr, arith}
+use Rattle.std.proofs.Common.{Result, Ok, Err}
 use Rattle.std.specs.Option.{is_some}
 use Rattle.std.proofs.lemmas.Result.{err_from_is_err_and}
 use Rattle.capnp_model.specs.Sections.{needed_words}
 use Rattle.capnp_model.specs.Segments.{Segments, Place, after, words_at}
-use Rattle.capnp_model.specs.Trees.{no_elements, element, resized, have_capability, elements_have_capability}
+use Rattle.capnp_model.specs.Trees.{Tree, no_elements, element, resized, have_capability, elements_have_capability}
 use Rattle.capnp_model.specs.Traversal.{tree_at, each, each_element}
 use Rattle.capnp_model.specs.Trimming.{trim_each, trim_elements, with_pointers}
 use Rattle.capnp_model.specs.Coverage.{from_each, from_elements}
@@ -24,7 +24,7 @@ use Rattle.capnp_model.proofs.lemmas.Counts.{each_count, each_element_count}
 use Rattle.capnp_wire_canonical.specs.Reaches.{reach}
 use Rattle.capnp_wire_canonical.specs.Writes.{words_view, with_links, with_cells}
 use Rattle.capnp_wire_canonical.specs.Widths.{kept}
-use Rattle.capnp_wire_canonical.specs.Copies.{copy_visits, IsNoCapability, FollowsData, WritesCopy, Unwritten, copy_state}
+use Rattle.capnp_wire_canonical.specs.Copies.{copy_visits, IsNoCapability, FollowsData, CopyState, Copying, Written, WritesCopy, Unwritten, copy_state}
 use Rattle.capnp_wire_canonical.specs.Objects.{IsShort, WritesObject, write_spot, value_copy, object_copy}
 use Rattle.capnp_wire_canonical.proofs.Copying.{unwritten_at, no_room, halts_is, over_used}
 use Rattle.capnp_wire_canonical.proofs.lemmas.Faults.{stopped_otherwise}
@@ -36,8 +36,9 @@ use Rattle.capnp_wire_canonical.proofs.NearFollowed.{some_left, untold, none_is}
 use Rattle.capnp_wire_canonical.proofs.Kept.{widest_one, no_wider}
 use Rattle.capnp_wire_canonical.proofs.Nulls.{kept_count}
 use Rattle.capnp_wire_canonical.proofs.Parts.{part_there, front_there, there_length, word_is}
-use Rattle.capnp_wire_canonical.proofs.Finals.{struct_gives, pointers_gives, same_words, element_halts, element_gives, structs_gives, empty_gives, cut_parts}
+use Rattle.capnp_wire_canonical.proofs.Finals.{struct_gives, pointers_gives, same_words, element_halts, element_gives, structs_gives, cut_parts}
 use Rattle.capnp_wire_canonical.proofs.Elements.{elements_put, elements_begun, elements_stopped, elements_next, elements_ended}
+use Rattle.capnp_wire_canonical.proofs.Laying.{laid_begins, laid_first, laid_preserved, laid_stopped, laid_through}
 use Rattle.capnp_wire_canonical.proofs.Pointers.{trees_put, pointers_begun, pointers_stopped, pointers_next, pointers_ended}
 use Rattle.capnp_wire_canonical.proofs.value_copies.+write.Goals as goal
 
@@ -165,6 +166,10 @@ write_row-loop-i-init g t c =
     let s : Segments = words_in (g.A.ReaderArena.segments c.args.arena.now) in
     pointers_begun c.args.levels s (place_view c.args.first) c.args.count c.args.at c.args.used c.args.into.now c.args.limiter.now c.requires.place.1 c.requires.place.2
 
+-- what was written over words and a budget that nothing had changed
+same_start : (copy : Copying Tree) (a b : List (List ℕ)) (l k : ReadLimiter) (r : Result ℕ Error) (new : CopyState) → (k ≡ l) × (b ≡ a) → WritesCopy copy (copy_state b k) r new → WritesCopy copy (copy_state a l) r new
+same_start copy a b l k r new same w = subst (λ (x : ReadLimiter). WritesCopy copy (copy_state a x) r new) same.0 (subst (λ (x : List (List ℕ)). WritesCopy copy (copy_state x k) r new) same.1 w)
+
 pub write_row-returns-in_err-next : goal.write_row-returns-in_err-next
 write_row-returns-in_err-next g t c =
     let s : Segments = words_in (g.A.ReaderArena.segments c.args.arena.now) in
@@ -174,14 +179,27 @@ write_row-returns-in_err-next g t c =
     let at = c.args.at in
     let r = err_from_is_err_and c.from_residual.result c.from_residual.ensures.1 in
     let e = c.in_err-next.field-0.0 in
+    let same = c.write_common.ensures.untold (none_is c.write_common.result c.in_default.not-Some) in
+    let here = same_start (value_copy (reach n s) (after p c.loop-i.i) (write_spot (at + c.loop-i.i) c.loop-i.end)) c.loop-i.into c.write_common.new.into c.loop-i.limiter c.write_common.new.limiter (Err e) (copy_state c.write_at.new.into c.write_at.new.limiter) same c.in_err-next.ensures in
     halts_is (over_used (each (tree_at n s) p count) have_capability (trees_put at (at + count)) (from_each (copy_visits n s) p count) c.args.used) (copy_state c.args.into.now c.args.limiter.now) (copy_state c.write_at.new.into c.write_at.new.limiter) c.from_residual.result r.0 e r.1 r.2
-    (pointers_stopped c.args.levels s (place_view c.args.first) c.args.count c.args.at c.args.used c.args.into.now c.args.limiter.now c.loop-i.i c.loop-i.end c.loop-i.into c.write_at.new.into c.loop-i.limiter c.write_at.new.limiter e c.loop-i-test.true c.requires.place.0 c.in_err-next.ensures c.loop-i.invariant)
+    (pointers_stopped c.args.levels s (place_view c.args.first) c.args.count c.args.at c.args.used c.args.into.now c.args.limiter.now c.loop-i.i c.loop-i.end c.loop-i.into c.write_at.new.into c.loop-i.limiter c.write_at.new.limiter e c.loop-i-test.true c.requires.place.0 here c.loop-i.invariant)
+
+pub write_row-loop-i-preserved-in-Some : goal.write_row-loop-i-preserved-in-Some
+write_row-loop-i-preserved-in-Some g t c =
+    let s : Segments = words_in (g.A.ReaderArena.segments c.args.arena.now) in
+    let p : Place = place_view c.args.first in
+    let written : Written (value_copy (reach c.args.levels s) (after p c.loop-i.i) (write_spot (c.args.at + c.loop-i.i) c.loop-i.end)) (copy_state c.loop-i.into c.loop-i.limiter) c.in-Some.next (copy_state c.write_common.new.into c.write_common.new.limiter) = rw c.in-Some.is at c.write_common.ensures.written in
+    pointers_next c.args.levels s p c.args.count c.args.at c.args.used c.args.into.now c.args.limiter.now c.loop-i.i c.loop-i.end c.in-Some.next c.loop-i.into c.write_common.new.into c.loop-i.limiter c.write_common.new.limiter
+    c.loop-i-test.true c.requires.place.0 written c.loop-i.invariant
 
 pub write_row-loop-i-preserved : goal.write_row-loop-i-preserved
 write_row-loop-i-preserved g t c =
     let s : Segments = words_in (g.A.ReaderArena.segments c.args.arena.now) in
-    pointers_next c.args.levels s (place_view c.args.first) c.args.count c.args.at c.args.used c.args.into.now c.args.limiter.now c.loop-i.i c.loop-i.end c.in_ok-next.next c.loop-i.into c.write_at.new.into c.loop-i.limiter c.write_at.new.limiter
-    c.loop-i-test.true c.requires.place.0 c.in_ok-next.ensures c.loop-i.invariant
+    let p : Place = place_view c.args.first in
+    let same = c.write_common.ensures.untold (none_is c.write_common.result c.in_default.not-Some) in
+    let here = same_start (value_copy (reach c.args.levels s) (after p c.loop-i.i) (write_spot (c.args.at + c.loop-i.i) c.loop-i.end)) c.loop-i.into c.write_common.new.into c.loop-i.limiter c.write_common.new.limiter (Ok c.in_ok-next.next) (copy_state c.write_at.new.into c.write_at.new.limiter) same c.in_ok-next.ensures in
+    pointers_next c.args.levels s p c.args.count c.args.at c.args.used c.args.into.now c.args.limiter.now c.loop-i.i c.loop-i.end c.in_ok-next.next c.loop-i.into c.write_at.new.into c.loop-i.limiter c.write_at.new.limiter
+    c.loop-i-test.true c.requires.place.0 here c.loop-i.invariant
 
 pub write_row-returns : goal.write_row-returns
 write_row-returns g t c =
@@ -405,13 +423,100 @@ write_structs-returns g t c = λ most room.
     structs_gives n s p c.args.words count d k a b at used end most c.pointer_to_list-word.result c.pointer_to_struct-tag.result old first mid new l m r c.requires.inside.0 fit end_is (omega arith) (omega arith) c.requires.place.1 (omega arith) (omega arith)
     c.put.ensures.words c.put.ensures.behind c.put-2.ensures.words c.put-2.ensures.behind c.cut_of-cut.ensures.words c.cut_of-cut.ensures.pointers c.pointer_to_list-word.ensures c.pointer_to_struct-tag.ensures x
 
-pub write_elements-returns-then-cut-eq0-2 : goal.write_elements-returns-then-cut-eq0-2
-write_elements-returns-then-cut-eq0-2 g t c =
+-- elements that keep all their words take as many as they have
+wide_place : (at count used a b d k : ℕ) → d ≡ a → k ≡ b → at + count * (a + b) ≤ used → at + count * (d + k) ≤ used
+wide_place at count used a b d k e f h = let same : a + b ≡ d + k = omega arith in subst (λ (x : ℕ). at + count * x ≤ used) same h
+
+pub write_wide-loop-i-init : goal.write_wide-loop-i-init
+write_wide-loop-i-init g t c =
+    let s : Segments = words_in (g.A.ReaderArena.segments c.args.arena.now) in
+    let p : Place = place_view c.args.start in
+    let d = c.args.cut.data_words in
+    let k = c.args.cut.pointers in
+    let count = c.args.count in
+    let at = c.args.at in
+    let both = c.requires.whole in
+    let place = wide_place at count c.args.used c.args.cut.kept_words c.args.cut.kept_pointers c.args.cut.data_words c.args.cut.pointers c.requires.whole.0 c.requires.whole.1 c.requires.place.0 in
+    let bound = c.requires.place.1 in
+    let there = front_there s p c.args.words c.requires.inside.0 (count * (d + k)) c.requires.fit in
+    let section = section_at s p (count * (d + k)) in (
+      laid_begins c.args.levels s p d k count at c.args.used c.args.into.now c.args.limiter.now (words_there s p c.args.words) section c.copy_words.new.into place bound c.requires.place.2 c.copy_words.ensures.words c.copy_words.ensures.behind,
+      laid_first s p d k count at c.args.into.now c.copy_words.new.into there c.are_words.ensures (omega arith) c.copy_words.ensures.words,
+    )
+
+pub write_wide-returns-in_err-next : goal.write_wide-returns-in_err-next
+write_wide-returns-in_err-next g t c =
+    let s : Segments = words_in (g.A.ReaderArena.segments c.args.arena.now) in
+    let p : Place = place_view c.args.start in
+    let n = c.args.levels in
+    let cut = c.args.cut in
+    let d = cut.data_words in
+    let k = cut.pointers in
+    let count = c.args.count in
+    let at = c.args.at in
+    let ws = words_there s p c.args.words in
+    let r = err_from_is_err_and c.from_residual.result c.from_residual.ensures.1 in
+    let e = c.in_err-next.field-0.0 in
+    let both = c.requires.whole in
+    let place = wide_place at count c.args.used c.args.cut.kept_words c.args.cut.kept_pointers c.args.cut.data_words c.args.cut.pointers c.requires.whole.0 c.requires.whole.1 c.requires.place.0 in
+    let gives : ℕ → ℕ → Type 0 = λ x y. WritesCopy (over_used (each_element (tree_at n s) p ws d k count) elements_have_capability (elements_put at (at + count * (x + y)) x y) (from_elements (copy_visits n s) p d k count) c.args.used) (copy_state c.args.into.now c.args.limiter.now) c.from_residual.result (copy_state c.write_row.new.into c.write_row.new.limiter) in
+    let here : gives d k = halts_is (over_used (each_element (tree_at n s) p ws d k count) elements_have_capability (elements_put at (at + count * (d + k)) d k) (from_elements (copy_visits n s) p d k count) c.args.used) (copy_state c.args.into.now c.args.limiter.now) (copy_state c.write_row.new.into c.write_row.new.limiter) c.from_residual.result r.0 e r.1 r.2
+    (laid_stopped n s p d k count at c.args.used c.args.into.now c.args.limiter.now c.args.words c.loop-i.i c.loop-i.end c.loop-i.into c.write_row.new.into c.loop-i.limiter c.write_row.new.limiter c.loop-i-test.true c.requires.inside c.requires.fit place c.loop-i.invariant e c.in_err-next.ensures) in
+    subst (λ (x : ℕ). gives x cut.kept_pointers) both.0 (subst (λ (y : ℕ). gives d y) both.1 here)
+
+pub write_wide-loop-i-preserved : goal.write_wide-loop-i-preserved
+write_wide-loop-i-preserved g t c =
     let s : Segments = words_in (g.A.ReaderArena.segments c.args.arena.now) in
     let p : Place = place_view c.args.start in
     let cut = c.args.cut in
-    empty_gives c.args.levels s p (words_there s p c.args.words) c.args.count c.args.at c.args.used c.args.into.now c.args.limiter.now cut.data_words cut.pointers cut.kept_words cut.kept_pointers
-    c.if-cut-eq0.true c.if-cut-eq0-2.true c.requires.sizes.0 c.requires.sizes.1 c.requires.place.1 c.requires.place.2
+    let place = wide_place c.args.at c.args.count c.args.used cut.kept_words cut.kept_pointers cut.data_words cut.pointers c.requires.whole.0 c.requires.whole.1 c.requires.place.0 in
+    laid_preserved c.args.levels s p cut.data_words cut.pointers c.args.count c.args.at c.args.used c.args.into.now c.args.limiter.now c.args.words c.loop-i.i c.loop-i.end c.loop-i.into c.write_row.new.into c.loop-i.limiter c.write_row.new.limiter
+    c.loop-i-test.true c.requires.inside c.requires.fit place c.loop-i.invariant c.in_ok-next.next c.in_ok-next.ensures
+
+pub write_wide-returns-then-cut-eq0 : goal.write_wide-returns-then-cut-eq0
+write_wide-returns-then-cut-eq0 g t c =
+    let s : Segments = words_in (g.A.ReaderArena.segments c.args.arena.now) in
+    let p : Place = place_view c.args.start in
+    let n = c.args.levels in
+    let cut = c.args.cut in
+    let d = cut.data_words in
+    let k = cut.pointers in
+    let count = c.args.count in
+    let at = c.args.at in
+    let used = c.args.used in
+    let old = c.args.into.now in
+    let mid = c.copy_words.new.into in
+    let l = c.args.limiter.now in
+    let ws = words_there s p c.args.words in
+    let both = c.requires.whole in
+    let place = wide_place at count used cut.kept_words cut.kept_pointers d k both.0 both.1 c.requires.place.0 in
+    let there = front_there s p c.args.words c.requires.inside.0 (count * (d + k)) c.requires.fit in
+    let bound = c.requires.place.1 in
+    let section = section_at s p (count * (d + k)) in
+    let begins = laid_begins n s p d k count at used old l ws section mid place bound c.requires.place.2 c.copy_words.ensures.words c.copy_words.ensures.behind in
+    let first = laid_first s p d k count at old mid there c.are_words.ensures (omega arith) c.copy_words.ensures.words in
+    let all = laid_through n s p d k count at used old l c.args.words mid c.if-cut-eq0.true c.requires.inside c.requires.fit place count (omega arith) (begins, first) in
+    let gives : ℕ → ℕ → Type 0 = λ x y. WritesCopy (over_used (each_element (tree_at n s) p ws d k count) elements_have_capability (elements_put at (at + count * (x + y)) x y) (from_elements (copy_visits n s) p d k count) used) (copy_state old l) (Ok used) (copy_state mid l) in
+    let here : gives d k = elements_ended n s p d k d k count at used old l ws count used mid l refl all.0 in
+    subst (λ (x : ℕ). gives x cut.kept_pointers) both.0 (subst (λ (y : ℕ). gives d y) both.1 here)
+
+pub write_wide-returns : goal.write_wide-returns
+write_wide-returns g t c =
+    let s : Segments = words_in (g.A.ReaderArena.segments c.args.arena.now) in
+    let p : Place = place_view c.args.start in
+    let n = c.args.levels in
+    let cut = c.args.cut in
+    let d = cut.data_words in
+    let k = cut.pointers in
+    let count = c.args.count in
+    let at = c.args.at in
+    let ws = words_there s p c.args.words in
+    let past = c.loop-i-test.false in
+    let last = c.loop-i.auto.i-end in
+    let both = c.requires.whole in
+    let gives : ℕ → ℕ → Type 0 = λ x y. WritesCopy (over_used (each_element (tree_at n s) p ws d k count) elements_have_capability (elements_put at (at + count * (x + y)) x y) (from_elements (copy_visits n s) p d k count) c.args.used) (copy_state c.args.into.now c.args.limiter.now) (Ok c.loop-i.end) (copy_state c.loop-i.into c.loop-i.limiter) in
+    let here : gives d k = elements_ended n s p d k d k count at c.args.used c.args.into.now c.args.limiter.now ws c.loop-i.i c.loop-i.end c.loop-i.into c.loop-i.limiter (omega arith) c.loop-i.invariant.0 in
+    subst (λ (x : ℕ). gives x cut.kept_pointers) both.0 (subst (λ (y : ℕ). gives d y) both.1 here)
 
 pub write_elements-loop-i-init : goal.write_elements-loop-i-init
 write_elements-loop-i-init g t c =
@@ -493,33 +598,45 @@ write_object-returns-in-Null g t c =
       | inr e ↦ absurd (subst IsNoCapability e.1 c.requires.data)
     ]
 
-pub write_other-returns-in-Some : goal.write_other-returns-in-Some
-write_other-returns-in-Some g t c =
+pub write_at-returns-in-Some-follow_other : goal.write_at-returns-in-Some-follow_other
+write_at-returns-in-Some-follow_other g t c =
     let s : Segments = words_in (g.A.ReaderArena.segments c.args.arena.now) in
     let p : Place = place_view c.args.place in
     let n = c.args.levels in
     let l = c.args.limiter.now in
-    let k = c.follow_other.new.limiter in
-    let o = c.in-Some.object in
-    let deep : 0 < n = rw c.in-Some.is at c.follow_other.ensures.deep in
-    let followed : FollowsData n s p l (Ok o) k = rw c.in-Some.is at c.follow_other.ensures.followed in
-    deep_at n s p c.args.at c.args.used o c.args.into.now c.write_object.new.into l k c.write_object.new.limiter (n - 1) c.write_object.result (omega arith) followed.0 followed.1 followed.2 c.write_object.ensures
+    let m = c.follow_near_list.new.limiter in
+    let k = c.follow_near_struct.new.limiter in
+    let q = c.follow_other.new.limiter in
+    let o = c.in-Some-follow_other.object in
+    let same = untold list_object (FollowsData n s p) l m c.in_ok-list.field-0 c.in_default.not-Some c.in_ok-list.ensures.copied in
+    let same_too = untold struct_object (FollowsData n s p) m k c.in_ok-near.field-0 c.in_default-2.not-Some c.in_ok-near.ensures.copied in
+    let deep : 0 < n = rw c.in-Some-follow_other.is at c.follow_other.ensures.deep in
+    let here : FollowsData n s p k (Ok o) q = rw c.in-Some-follow_other.is at c.follow_other.ensures.followed in
+    let followed = subst (λ (x : ReadLimiter). FollowsData n s p x (Ok o) q) (same_too ∙ same) here in
+    deep_at n s p c.args.at c.args.used o c.args.into.now c.write_object.new.into l q c.write_object.new.limiter (n - 1) c.write_object.result (omega arith) followed.0 followed.1 followed.2 c.write_object.ensures
 
-pub write_other-write_object-requires : goal.write_other-write_object-requires
-write_other-write_object-requires g t c =
+pub write_at-write_object-requires : goal.write_at-write_object-requires
+write_at-write_object-requires g t c =
+    let s : Segments = words_in (g.A.ReaderArena.segments c.args.arena.now) in
+    let p : Place = place_view c.args.place in
+    let n = c.args.levels in
+    let k = c.follow_near_struct.new.limiter in
+    let q = c.follow_other.new.limiter in
+    let o = c.in-Some-follow_other.object in
+    let deep : 0 < n = rw c.in-Some-follow_other.is at c.follow_other.ensures.deep in
+    let followed : FollowsData n s p k (Ok o) q = rw c.in-Some-follow_other.is at c.follow_other.ensures.followed in
+    λ κs lives. (omega arith, (lives, (followed.0.inside, (followed.2, (short_at s p o k q followed.0, c.requires.place)))))
+
+pub write_at-returns : goal.write_at-returns
+write_at-returns g t c =
     let s : Segments = words_in (g.A.ReaderArena.segments c.args.arena.now) in
     let p : Place = place_view c.args.place in
     let n = c.args.levels in
     let l = c.args.limiter.now in
-    let k = c.follow_other.new.limiter in
-    let o = c.in-Some.object in
-    let deep : 0 < n = rw c.in-Some.is at c.follow_other.ensures.deep in
-    let followed : FollowsData n s p l (Ok o) k = rw c.in-Some.is at c.follow_other.ensures.followed in
-    λ κs lives. (omega arith, (lives, (followed.0.inside, (followed.2, (short_at s p o l k followed.0, c.requires.place)))))
-
-pub write_other-returns : goal.write_other-returns
-write_other-returns g t c =
-    let s : Segments = words_in (g.A.ReaderArena.segments c.args.arena.now) in
-    let p : Place = place_view c.args.place in
-    let same = c.follow_other.ensures.untold (none_is c.follow_other.result c.in_default.not-Some) in
-    subst (λ (x : ReadLimiter). WritesCopy (value_copy (reach c.args.levels s) p (write_spot c.args.at c.args.used)) (copy_state c.args.into.now x) c.write_any.result (copy_state c.write_any.new.into c.write_any.new.limiter)) same c.write_any.ensures
+    let m = c.follow_near_list.new.limiter in
+    let k = c.follow_near_struct.new.limiter in
+    let q = c.follow_other.new.limiter in
+    let same = untold list_object (FollowsData n s p) l m c.in_ok-list.field-0 c.in_default.not-Some c.in_ok-list.ensures.copied in
+    let same_too = untold struct_object (FollowsData n s p) m k c.in_ok-near.field-0 c.in_default-2.not-Some c.in_ok-near.ensures.copied in
+    let still = c.follow_other.ensures.untold (none_is c.follow_other.result c.in_default-follow_other.not-Some) in
+    subst (λ (x : ReadLimiter). WritesCopy (value_copy (reach n s) p (write_spot c.args.at c.args.used)) (copy_state c.args.into.now x) c.write_any.result (copy_state c.write_any.new.into c.write_any.new.limiter)) (still ∙ same_too ∙ same) c.write_any.ensures
