@@ -115,6 +115,39 @@ static int frames(void) {
   return 0;
 }
 
+/* Messages that aren't shown: cut, out of kind, or too deep. Each has its status, and the next message is shown. */
+static int shows(void) {
+  static const char *const tree = "[{\"id\":1,\"name\":\"T\",\"data\":1,\"pointers\":1,\"fields\":["
+                                  "{\"name\":\"n\",\"type\":{\"struct\":1},\"offset\":0}]}]";
+  static const char *const few_levels = "{\"calls\":[],\"words\":1000,\"nesting\":3}";
+  /* The root's pointer is that of a list, of a capability, and leads out of the message; so does that of the text. */
+  static const uint8_t places[][2] = {{8, 1}, {8, 3}, {8, 0xfc}, {24, 0}, {24, 3}, {24, 101}};
+  hagzimot handle = {0};
+  uint8_t in[8 * 7] = {0};
+  CHECK(hagzimot_open(&handle, TEXT(schema), TEXT("P"), TEXT(no_call), 0, OUT) == HAGZIMOT_OK);
+  for (size_t len = 0; len < sizeof message; len++)
+    CHECK(hagzimot_show(&handle, message, len, OUT) == HAGZIMOT_FRAMING && out_len == 0);
+  for (size_t i = 0; i < sizeof places / sizeof *places; i++) {
+    memcpy(in, message, sizeof message);
+    in[places[i][0]] = places[i][1];
+    hagzimot_status status = hagzimot_show(&handle, in, sizeof message, OUT);
+    CHECK(status == HAGZIMOT_VALUE && out_len == 0);
+    CHECK(hagzimot_show(&handle, message, sizeof message, OUT) == HAGZIMOT_OK && out_len == 17);
+  }
+  hagzimot_close(&handle);
+  /* A chain of structs without data, each the only pointer of the one before. */
+  CHECK(hagzimot_open(&handle, TEXT(tree), TEXT("T"), TEXT(few_levels), 0, OUT) == HAGZIMOT_OK);
+  memset(in, 0, sizeof in);
+  for (int levels = 1; levels <= 5; levels++) {
+    in[4] = (uint8_t)(levels + 1);
+    in[8 * levels + 6] = 1;
+    hagzimot_status status = hagzimot_show(&handle, in, 8 * (size_t)(levels + 2), OUT);
+    CHECK(status == (levels <= 3 ? HAGZIMOT_OK : HAGZIMOT_VALUE));
+  }
+  hagzimot_close(&handle);
+  return 0;
+}
+
 static int compares(void) {
   CHECK(hagzimot_compatible(TEXT(schema), TEXT(schema), NULL, 0, TEXT("P"), OUT) == HAGZIMOT_OK && out_len == 0);
   CHECK(hagzimot_compatible(TEXT(schema), TEXT(other), NULL, 0, TEXT("P"), OUT) == HAGZIMOT_NO);
@@ -234,7 +267,7 @@ static int growths(void) {
 
 int main(int count, char **words) {
   if (count == 2 && strcmp(words[1], "calls") == 0)
-    return opens() || relays() || frames() || compares() || points();
+    return opens() || relays() || shows() || frames() || compares() || points();
   if (count == 3 && strcmp(words[1], "pages") == 0)
     return pages(atoi(words[2]));
   if (count == 2 && strcmp(words[1], "growths") == 0)

@@ -39,6 +39,13 @@ int main() {
     many.insert(many.end(), wide.begin(), wide.end());
   CHECK(relay.relay(many).out.size() == 100 * narrow.size());
   CHECK(status_of([&] { relay.relay(View(wide.data(), 11)); }) == HAGZIMOT_FRAMING);
+  try {
+    relay.relay(View(many.data(), many.size() - 8));
+    CHECK(false);
+  } catch (const Stopped &stopped) {
+    CHECK(stopped.answers().out.size() == 99 * narrow.size() && stopped.status() == HAGZIMOT_FRAMING);
+  }
+  CHECK(version() == HAGZIMOT_VERSION);
   CHECK(status_of([&] { Relay("[", "P", calls); }) == HAGZIMOT_REFUSED);
   CHECK(canonical(wide) == narrow && !is_canonical(wide) && is_canonical(narrow));
   CHECK(!first_break(schema, schema) && first_break(schema, other, "P") == "P: field \"a\" lies elsewhere in the newer schema");

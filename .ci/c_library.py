@@ -1,15 +1,19 @@
 #!/usr/bin/env python3
 """Makes the library for C, and tries it from C, C++ and Python.
 
-usage: c_library.py [--unproved]     (at the top of the repository, after the proofs)
+usage: c_library.py [--unproved] [--rate]     (at the top of the repository, after the proofs)
 
 The library is made of the proved crate hagzimot_c, which is linked first, or without proof. Then:
 - C calls each function with good arguments and bad ones, with sanitizers and under valgrind if they are there;
 - messages with changed bytes lie at the end of memory that can be read, and so do their outputs;
 - each allocation of each call is refused in turn;
-- C++ and the example of Python run;
-- Python relays the stored runs and compares the stored pairs of schemas.
-Ends with status 1 if one fails.
+- four threads with a handle each have the results of one thread;
+- C++ and Python call each function, and the example of Python runs;
+- Python relays the stored runs and random messages, and compares the stored pairs of schemas;
+- the crates of Rust, the module of Go, the wheel of Python, the examples of the pages and the benchmark are
+  tried (c_bindings.py).
+What the machine lacks, as go or cargo, is left out, and a line says so. With --rate, four threads must have 3.5 times the
+rate of one, which needs a quiet machine. Ends with status 1 if one fails.
 """
 import glob
 import os
@@ -21,6 +25,7 @@ import tempfile
 TOP = os.path.dirname(os.path.dirname(os.path.realpath(__file__)))
 sys.dont_write_bytecode = True
 sys.path.insert(0, f"{TOP}/tools")
+import c_bindings
 import c_library
 import unproved
 
@@ -28,6 +33,8 @@ CRATE = "hagzimot_c"
 C_WORDS = ("-std=c99", "-pedantic", "-Wall", "-Wextra", "-Werror", "-g", "-O1")
 SANITIZERS = ("-fsanitize=address,undefined", "-fno-sanitize-recover=all")
 PAGES, FEW_PAGES = "3000", "300"
+# Messages of each thread, and how many times the rate of one thread four have on a quiet machine.
+MESSAGES, RATE = "100000", "3.5"
 # Allocations of a run that are refused in turn; a run has fewer.
 MOST_REFUSALS = 5000
 # Seconds that a command may take; the link proves the crate.
@@ -79,6 +86,12 @@ def calls(room, out):
         print("the compiler has no sanitizers, and they aren't tried")
 
 
+def threads(room, out, is_quiet):
+    """Compares four threads with one."""
+    run("cc", *C_WORDS, "-pthread", f"-I{out}", f"{TOP}/.ci/c_threads.c", f"{out}/libhagzimot.a", "-o", f"{room}/threads")
+    print(run(f"{room}/threads", MESSAGES, *[RATE] * is_quiet))
+
+
 def refusals(room):
     """Refuses each allocation of the calls in turn, until none is left to refuse."""
     run("cc", "-shared", "-fPIC", "-O1", f"{TOP}/.ci/refuse.c", "-o", f"{room}/refuse.so")
@@ -111,23 +124,29 @@ def others(room, out):
     edited = run(sys.executable, f"{TOP}/bindings/python/edit.py", env=env)
     if not edited.endswith('(a = 9, t = "hi")'):
         raise Wrong(f"the example of Python writes\n{edited}")
+    print(run(sys.executable, f"{TOP}/.ci/c_python.py", out))
     cases = sorted(glob.glob(f"{TOP}/crates/cases_relay/data/*.jsonl"))
     print(run(sys.executable, f"{TOP}/.ci/c_runs.py", out, *cases))
+    print(run(sys.executable, f"{TOP}/.ci/c_random.py", out))
 
 
 def main(words):
-    if words not in ([], ["--unproved"]):
+    if not {*words} <= {"--unproved", "--rate"}:
         print(__doc__)
         return 2
+    is_proved = "--unproved" not in words
     try:
-        if not words:
+        if is_proved:
             print(run(sys.executable, f"{TOP}/tools/check.py", "link", CRATE, limit=LINK_LIMIT).splitlines()[-1])
         with tempfile.TemporaryDirectory(prefix="c-library-") as room:
-            c_library.make(f"{room}/out", not words, lambda _text: None)
+            c_library.make(f"{room}/out", is_proved, lambda _text: None)
             calls(room, f"{room}/out")
+            threads(room, f"{room}/out", "--rate" in words)
             refusals(room)
             others(room, f"{room}/out")
-    except (Wrong, unproved.Failed) as wrong:
+            for line in c_bindings.tried(room, f"{room}/out"):
+                print(line, flush=True)
+    except (Wrong, c_bindings.Wrong, unproved.Failed) as wrong:
         print(wrong)
         return 1
     return 0

@@ -27,6 +27,15 @@ def refused(program, run, folder, shim, number):
     return it, met
 
 
+def as_written(program, run):
+    """A plain run, with the output that it has where nothing is refused: how it is cut into segments isn't promised."""
+    with room(run) as folder:
+        it = ran(program, run, folder, run.given)
+    if it._replace(out=b"") != run.wanted:
+        raise Failure(f"{run.words} on {run.given.hex()}: {it}, and not {run.wanted}")
+    return run._replace(wanted=it)
+
+
 def renumbered(lines, before):
     """Lines as a run writes them that begins behind so many messages."""
     out = []

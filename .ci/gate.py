@@ -60,7 +60,7 @@ def shown(*words, log=None):
 
 
 def relays_the_example():
-    """The relay program, unproved, writes the example's message as docs/PIPES.md has it."""
+    """The relay program, unproved, writes the example's message as docs/manual/pipes.md has it."""
     data = ["--data", "p.json=../../examples/p.json", "--data", "set_a.json=../../examples/set_a.json"]
     with open(f"{TOP}/examples/newer_record", "rb") as message:
         words = ["rt", "try", *data, "--", "p.json", "set_a.json", "1", "framed"]
@@ -101,13 +101,19 @@ def stages_after_proof():
     cases = [f"crates/cases_relay/data/{it}" for it in sorted(os.listdir(f"{TOP}/crates/cases_relay/data")) if it.endswith(".jsonl")]
     yield "stored runs", script("program_runs.py", relay, "examples", *cases)
     yield "random messages", script("random_sets.py", relay)
-    yield "devices, inputs, sizes and growths", script("faults.py", relay, "crates/cases_relay/data/relay.jsonl")
+    yield "random builder calls", script("random_builders.py", built("cases_builders"))
+    yield "random and damaged messages", script("random_messages.py", built("cases_segments"), built("cases_builders"))
+    yield "devices, inputs, sizes and growths", script("faults.py", relay, *(f"crates/cases_relay/data/{it}.jsonl" for it in ("relay", "renames", "plain")))
     # Each script .ci/tool_*.py tries the command, and takes its path.
     for path in sorted(glob.glob(f"{TOP}/.ci/tool_*.py")):
         yield f"the command: {os.path.basename(path)}", script(os.path.basename(path), command)
+    yield "long messages and files", script("long_inputs.py", relay, command)
+    yield "damaged requests", script("requests_damaged.py", command)
     yield "faults of files", script("faults_of_files.py", command)
     yield "devices that fail at each byte", script("faults_at_each_byte.py", built("cases_devices"), "crates/cases_devices")
     yield "the library for C", script("c_library.py")
+    yield "growths refused in each builder call", script("faults_of_builders.py", built("cases_builders"), "crates/cases_builders/data/growths.txt")
+    yield "growths refused in each dynamic call", script("faults_of_dynamic.py", built("cases_dynamic"), "crates/cases_dynamic/data/growths.txt")
     yield "growths refused in each call", script("faults_at_each_growth.py", built("cases_growths"), "crates/cases_growths")
 
 

@@ -1,5 +1,5 @@
 #!/usr/bin/env python3
-"""Runs the built program on the examples of docs/PIPES.md, on the stored runs, and as a child that is waited for.
+"""Runs the built program on the example of docs/manual/pipes.md, on the stored runs, and as a child that is waited for.
 
 usage: program_runs.py PROGRAM EXAMPLES CASES..
 
@@ -127,7 +127,7 @@ def waits_for_no_part(program):
 
 
 def answers_the_examples(program, folder):
-    """Whether both messages of the examples become the words that docs/PIPES.md has, and the newer one also where its schema renames a field."""
+    """Whether both messages of the examples become the words that docs/manual/pipes.md has, and the newer one also where its schema renames a field."""
     null_root = "0000000002000000" + "0000000001000000" + "0700000000000000"
     newer_record = "0000000003000000" + "0000000002000000" + "0700000000000000" + "6300000000000000"
     written = b"message 1 written; done\n"

@@ -186,17 +186,39 @@ def faults_of_edits(crates):
         yield f"there are {count} edits, and {MOST_EDITS} are the most"
 
 
+def anchors_of(page):
+    """The anchors of a page's headings, as the hosts of repositories make them."""
+    heads = re.findall(r"(?m)^#+ (.*)$", re.sub(r"(?s)```.*?```", "", text_of(page)))
+    return {re.sub(r"[^\w\- ]", "", it.lower()).replace(" ", "-") for it in heads}
+
+
 def faults_of_links():
-    """Links of the pages to files that are not there."""
+    """Links of the pages to files or headings that are not there."""
     pages = subprocess.run(["git", "ls-files", "*.md"], capture_output=True, text=True, check=True).stdout.split()
     for page in pages:
         text = re.sub(r"(?s)```.*?```", "", text_of(page))
         for link in re.findall(r"\]\(([^)\s]+)\)", text):
-            target = link.split("#")[0]
-            if "://" in link or not target:
+            target, _, anchor = link.partition("#")
+            path = os.path.join(os.path.dirname(page), target) if target else page
+            if "://" in link:
                 continue
-            if not os.path.exists(os.path.join(os.path.dirname(page), target)):
+            if not os.path.exists(path):
                 yield f"{page}: there is no {target}"
+            elif anchor and path.endswith(".md") and anchor not in anchors_of(path):
+                yield f"{page}: {target or 'the page'} has no heading #{anchor}"
+
+
+def faults_of_records():
+    """Design records that the index doesn't list once, and numbers that two records have."""
+    index, numbers = text_of("docs/design/README.md"), set()
+    for name in sorted(os.listdir("docs/design")):
+        if name == "README.md":
+            continue
+        if index.count(f"({name})") != 1:
+            yield f"docs/design/README.md lists {name} {index.count(f'({name})')} times"
+        if name[:4] in numbers:
+            yield f"docs/design/{name}: another record has this number"
+        numbers.add(name[:4])
 
 
 def faults_of_samples():
@@ -275,7 +297,7 @@ def faults_of_layout(crate, room):
 
 def main():
     crates = listed_crates()
-    found = [*faults_of_crates(crates), *faults_of_uses(), *faults_of_edits(crates), *faults_of_links(), *faults_of_samples()]
+    found = [*faults_of_crates(crates), *faults_of_uses(), *faults_of_edits(crates), *faults_of_links(), *faults_of_records(), *faults_of_samples()]
     found += [*faults_of_named_tests(), *faults_of_lengths(crates), *faults_of_counts(crates), *faults_of_answers(crates)]
     found += [*faults_of_storeys(), *faults_of_roads(crates), *faults_of_words(crates), *faults_of_parameters(crates)]
     found += style.faults()

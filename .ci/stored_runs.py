@@ -32,8 +32,8 @@ class Run(NamedTuple):
     wanted: Ran
 
     def forms(self):
-        """The forms of input and output; none where the words name none."""
-        names = (self.words[3] if len(self.words) > 3 else "").split("-")
+        """The forms of input and output, without the word for plain output; none where the words name none."""
+        names = (self.words[3] if len(self.words) > 3 else "").removesuffix("+plain").split("-")
         return (names[0], names[-1])
 
     def lines(self):
@@ -46,12 +46,12 @@ class Cut(Exception):
 
 
 def stored_runs(path):
-    """The runs of a file that has one a line."""
+    """The runs of a file that has one a line. Those with plain output have no bytes of it."""
     with open(path, encoding="ascii") as file:
         for line in file:
             it = json.loads(line)
             files = {name: bytes.fromhex(text) for name, text in it["files"].items()}
-            wanted = Ran(it["status"], bytes.fromhex(it["stdout"]), bytes.fromhex(it["stderr"]))
+            wanted = Ran(it["status"], bytes.fromhex(it.get("stdout", "")), bytes.fromhex(it["stderr"]))
             yield Run(it["args"], files, bytes.fromhex(it["stdin"]), wanted)
 
 

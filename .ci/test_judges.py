@@ -20,9 +20,15 @@ TOP = os.path.dirname(HERE)
 sys.dont_write_bytecode = True
 sys.path.insert(0, HERE)
 os.chdir(TOP)
+import builder_trees
+import faults_of_builders
+import faults_of_dynamic
+import message_values
 import plain_judge
 import program_runs
 import quick
+import random_builders
+import random_messages
 import random_sets
 import source_texts
 import stored_runs
@@ -188,6 +194,149 @@ class Encoders(unittest.TestCase):
         self.assertIsNotNone(plain_judge.difference("framed", other, [SEVEN]))
         self.assertIsNotNone(plain_judge.difference("framed", SEVEN * 2, [SEVEN]))
         self.assertIsNotNone(plain_judge.difference("framed", SEVEN[:-1], [SEVEN]))
+
+
+class Builders(unittest.TestCase):
+    """Random builder calls, and the plain model beside them."""
+
+    def test_trees_are_spelled_by_the_encoding(self):
+        seven = builder_trees.Node("struct", data=1)
+        seven.words = [7]
+        self.assertEqual(builder_trees.framed(seven), SEVEN.hex())
+        text = builder_trees.Node("numbers", builder_trees.BYTE, 3)
+        text.words = list(b"hi\0")
+        self.assertEqual(builder_trees.framed(text)[16:], "010000001a0000006869000000000000")
+        text.widen(1, 1)
+        self.assertEqual((text.sort, text.words, text.kids), ("structs", list(b"hi\0"), [None] * 3))
+
+    def test_another_answer_is_seen(self):
+        script = random_builders.Script(1)
+        for line in script.answers:
+            with self.assertRaises(random_builders.Differs):
+                script.correct(line, "Ok(Some(77))")
+        for line in script.looks:
+            with self.assertRaises(random_builders.Differs):
+                script.correct(line, "Err(Shape)")
+
+    def test_only_what_takes_words_is_refused_for_room(self):
+        script, room = random_builders.Script(1), "Err(Refused(OutOfMemory))"
+        line, number = next((line, it) for line, it in script.answers.items() if not script.calls[it].takes)
+        with self.assertRaises(random_builders.Differs):
+            script.correct(line, room)
+        line, number = next((line, it) for line, it in script.answers.items() if script.calls[it].takes)
+        before = script.lines[:line]
+        script.correct(line, room)
+        self.assertEqual((script.lines[:line], script.lines[line], script.refused), (before, "= em", {number: "m"}))
+        with self.assertRaises(random_builders.Differs):
+            script.correct(line, room)
+
+    def test_a_program_that_is_wrong_is_seen(self):
+        with tempfile.TemporaryDirectory() as room:
+            for said in ("line 5 of scripts differs: Ok(Some(7))", "", "1 scripts of scripts are as they should be"):
+                with open(f"{room}/p", "w", encoding="utf-8") as file:
+                    file.write(f"#!/bin/sh\necho '{said}'\n")
+                os.chmod(f"{room}/p", stat.S_IRWXU)
+                run = subprocess.run([sys.executable, f"{HERE}/random_builders.py", f"{room}/p", "100"], capture_output=True, check=False)
+                self.assertEqual(run.returncode, 1, said)
+
+
+class Messages(unittest.TestCase):
+    """The small reader of messages, and the lines and scripts that are made with it."""
+
+    def read(self, *segments, levels=8, limit=None):
+        """A message of segments in hex: the value, or the fault, with what was granted and followed."""
+        words = [[int.from_bytes(bytes.fromhex(it)[at : at + 8], "little") for at in range(0, len(it) // 2, 8)] for it in segments]
+        walk, value, fault = random_messages.read_of(words, levels, limit)
+        return fault or value, walk.granted, walk.followed
+
+    def test_pads_of_one_word_and_of_two_lead_to_a_struct(self):
+        seven = ("struct", [7], [])
+        self.assertEqual(self.read("0200000001000000", "00000000010000000700000000000000"), (seven, 2, 1))
+        self.assertEqual(self.read("0600000001000000", "02000000020000000000000001000000", "0700000000000000"), (seven, 3, 1))
+
+    def test_faults_are_told_in_the_order_of_reading(self):
+        self.assertEqual(self.read("0600000001000000", "02000000020000000200000000000000"), ("MalformedFarPointer", 0, 1))
+        self.assertEqual(self.read("0200000005000000"), ("OutOfBounds", 0, 1))
+        nested = "0000000000000100" + "010000001a000000" + "6869000000000000"
+        self.assertEqual(self.read(nested, levels=1)[0], "NestingLimitExceeded")
+        self.assertEqual(self.read(nested), (("struct", [], [("bits", 2, 3, 0x6968)]), 2, 2))
+        self.assertEqual(self.read(nested, limit=1)[0], "ReadLimitExceeded")
+
+    def test_values_are_trimmed_and_spelled(self):
+        value = ("structs", 2, 1, [([1, 0], [None]), ([0, 0], [None])])
+        self.assertEqual(message_values.trimmed(value), ("structs", 1, 0, [([1], []), ([0], [])]))
+        self.assertEqual(random_messages.hex_of(message_values.spelled(("struct", [7], []))), "00000000010000000700000000000000")
+        self.assertEqual(message_values.spelled(("struct", [], [])), [0xFFFFFFFC])
+
+    def test_what_is_scattered_is_read_back(self):
+        chance = random.Random(5)
+        for _ in range(200):
+            value, segments = random_messages.value(chance, 3), [[0]]
+            random_messages.scatter(chance, segments, (0, 0), value)
+            self.assertEqual(random_messages.read_of(segments, 8)[1:], (value, None))
+
+    def test_a_program_that_is_wrong_is_seen(self):
+        with tempfile.TemporaryDirectory() as room:
+            for said in ("file: the case of line 5 differs", "line 7 of file differs: Ok(None)", "", "file: 1 cases are as they should be"):
+                with open(f"{room}/p", "w", encoding="utf-8") as file:
+                    file.write(f"#!/bin/sh\necho '{said}'\n")
+                os.chmod(f"{room}/p", stat.S_IRWXU)
+                run = subprocess.run([sys.executable, f"{HERE}/random_messages.py", f"{room}/p", f"{room}/p", "20"], capture_output=True, check=False)
+                self.assertEqual(run.returncode, 1, said)
+
+
+class Growths(unittest.TestCase):
+    """The judge of builder calls whose growths are refused."""
+
+    CASE = (["set_text", "may leave 00"], ["0 1 1", "6 0 1 aa", "2 1 0 25", "= k0", "2 0 0 5 0", "= k", "1 A B"])
+
+    def test_a_refused_call_is_made_again(self):
+        case = faults_of_builders.Case(*self.CASE)
+        wanted = ["0 1 1", "6 0 1 aa", "2 1 0 25", "= k0", "2 0 0 5 0", "= em", "13 0 1 aa", "2 0 0 5 0", "= k", "1 A B"]
+        self.assertEqual((case.name, case.is_free, case.refused(case.states[0])), ("set_text", False, wanted))
+        self.assertEqual(case.states[1], f"1 00 {faults_of_builders.NULL}")
+
+    def test_only_differences_before_the_refusal_are_elsewhere(self):
+        case = faults_of_builders.Case(*self.CASE)
+        refused, memory = faults_of_builders.REFUSED, faults_of_builders.MEMORY
+        for said in ((5, "Ok(None)"), (5, memory), (0, memory), (3, refused)):
+            self.assertTrue(faults_of_builders.is_elsewhere(case, said), said)
+        for said in ((5, refused), (5, "Err(Refused(OutOfBounds))"), (7, "Err(Shape)"), (8, memory), (8, "Ok(None)"), (10, "Err(Shape)")):
+            self.assertFalse(faults_of_builders.is_elsewhere(case, said), said)
+
+    def test_stored_scripts_have_one_call_each(self):
+        cases = list(faults_of_builders.cases_of(f"{TOP}/crates/cases_builders/data/growths.txt"))
+        self.assertEqual(len({it.name for it in cases}), len(cases))
+        self.assertTrue(all(it.lines[0] == "0 1 1" and it.lines[-1].startswith("1 ") for it in cases))
+        self.assertTrue(any(it.is_free for it in cases) and any(len(it.states) > 1 for it in cases))
+
+
+class DynamicGrowths(unittest.TestCase):
+    """The judge of dynamic calls whose growths are refused."""
+
+    SCRIPTS = f"{TOP}/crates/cases_dynamic/data/growths.txt"
+
+    def test_a_refused_call_is_made_again(self):
+        lines = ["N 1 5 0000000000000000", "clear .text", "= k", "get", "= 'x", ". AA"]
+        case = faults_of_dynamic.Case("[]", ["* clear", "* may leave BB"], lines)
+        front = ["[]", lines[0], "where .numbers", "= 'list 2", "clear .text"]
+        self.assertEqual(case.made, [*front, "= k", ". AA"])
+        self.assertEqual(case.left, [[*front, "= eOutOfMemory", it] for it in (". 00000000010000000000000000000000", ". BB")])
+        self.assertEqual(case.again, [*front, "= eOutOfMemory", "clear .text", "= k", ". AA"])
+
+    def test_stored_scripts_have_one_call_each(self):
+        cases = list(faults_of_dynamic.cases_of(self.SCRIPTS))
+        self.assertEqual(len({it.name for it in cases}), len(cases))
+        self.assertTrue(any(it.is_free for it in cases) and any(len(it.left) > 1 for it in cases))
+
+    def test_a_program_that_is_wrong_is_seen(self):
+        with tempfile.TemporaryDirectory() as room:
+            for said in ("script: 1 cases are as they should be, 0 differ", "script: 0 cases are as they should be, 1 differ", "", "script: no case"):
+                with open(f"{room}/p", "w", encoding="utf-8") as file:
+                    file.write(f"#!/bin/sh\necho '{said}'\n")
+                os.chmod(f"{room}/p", stat.S_IRWXU)
+                run = subprocess.run([sys.executable, f"{HERE}/faults_of_dynamic.py", f"{room}/p", self.SCRIPTS], capture_output=True, check=False)
+                self.assertEqual(run.returncode, 1, said)
 
 
 class QuickLook(unittest.TestCase):

@@ -2,7 +2,7 @@
 
     python3 .ci/tool_user_edits.py [PROGRAM]
 
-Each check runs the program in a folder of its own and compares its status, its output and what it says with what they must be by the rules of docs/TOOL.md. The messages of crates/hagzimot/data/user were written by the C++ tool; others are made here, word by
+Each check runs the program in a folder of its own and compares its status, its output and what it says with what they must be by the rules of docs/manual. The messages of crates/hagzimot/data/user were written by the C++ tool; others are made here, word by
 word. A check that fails is shown, and the status is 1. Nothing is written below the repository.
 """
 import json

@@ -3,7 +3,7 @@
     python3 .ci/tool_user_schemas.py [PROGRAM]
 
 Each case is a command, what it has to print on standard output and on standard error, and its status. The schemas and messages are those of crates/hagzimot/data/user; the C++ tool made them of the sources beside them. What is printed of messages is what
-`capnp decode --short` and `capnp convert binary:json --short` print of them, apart from the differences that docs/TOOL.md lists. The files are copied to a folder of their own, where further ones are written. A case that differs is shown, and the status is 1.
+`capnp decode --short` and `capnp convert binary:json --short` print of them, apart from the differences that docs/manual/show.md lists. The files are copied to a folder of their own, where further ones are written. A case that differs is shown, and the status is 1.
 """
 import gzip
 import json

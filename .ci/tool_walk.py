@@ -1,12 +1,18 @@
-"""Compares what README.md and docs/TOOL.md say with what the built program prints.
+"""Compares what README.md, the manual and .ci/tool_walk.md say with what the built program prints.
 
     python3 .ci/tool_walk.py [PROGRAM]
 
-Each block of a document that begins with ```console is a walk of commands: a line '$ COMMAND' and what the command prints, standard output before standard error. A command is `hagzimot` with its words, `cat FILE` or a pipe
-of such commands; its files are those of crates/hagzimot/data, and what it writes lies beside them in a folder of its own. A last line '[status N]' tells a status that isn't 0. A command whose output differs is shown, and the
-status is 1. Nothing is written below the repository.
+Each block of a page that begins with ```console is a walk of commands: a line '$ COMMAND', and then its standard output and
+its standard error. A last line '[status N]' has a status that isn't 0. A command is `hagzimot` with its arguments, `cat FILE`,
+another reader of files, or a pipe of such commands. The commands of a page run in order in a copy of crates/hagzimot/data. A
+command whose output differs is shown, and the status is 1. Nothing is written in the repository.
 
-Then `hagzimot schema` is run on each request of crates/cases_requests/data, and what it prints is compared, node by node, with the schema file that independent software made of it.
+A block ```capnp has to be a part of a .capnp file of crates/hagzimot/data, apart from white space.
+
+Then `hagzimot schema` is run on each request of crates/hagzimot/data/requests. What it prints is compared, node by node, with
+the schema file that independent software made of the request.
+
+The first steps are a page of the manual that tools/tests/test_first_steps.py follows.
 """
 import json
 import pathlib
@@ -18,18 +24,21 @@ import sys
 import tempfile
 
 TOP = pathlib.Path(__file__).resolve().parent.parent
-DOCUMENTS = (TOP / "README.md", TOP / "docs" / "TOOL.md")
+MANUAL = TOP / "docs" / "manual"
+# The pages that need no walk, and the one that another test follows.
+WITHOUT_WALK, FIRST_STEPS = ("id", "pipes", "version"), "first-steps"
 DATA = TOP / "crates" / "hagzimot" / "data"
 PROGRAM = TOP / "crates" / "hagzimot" / "out" / "hagzimot"
-REQUESTS = TOP / "crates" / "cases_requests" / "data"
+REQUESTS = TOP / "crates" / "hagzimot" / "data" / "requests"
 # What floats become with --floats-as-bits.
 AS_BITS = {"Float32": "UInt32", "Float64": "UInt64"}
 BLOCK = re.compile(r"^```console\n(.*?)^```$", re.MULTILINE | re.DOTALL)
+SCHEMA = re.compile(r"^```capnp\n(.*?)^```$", re.MULTILINE | re.DOTALL)
 ALLOWED = ("hagzimot", "cat", "ls", "xxd")
 
 
 def commands(text):
-    """The commands of the document's walks, each with what it should print."""
+    """The commands of a page's walks, each with what it should print."""
     for block in BLOCK.findall(text):
         command, said = None, []
         for line in block.splitlines():
@@ -67,15 +76,15 @@ def said_by(command, folder, program):
     return lines
 
 
-def type_as_bits(told):
+def type_as_bits(named):
     """A type of a schema file, with whole numbers in place of floats."""
-    if isinstance(told, str):
-        return AS_BITS.get(told, told)
-    return {key: type_as_bits(value) if key == "list" else value for key, value in told.items()}
+    if isinstance(named, str):
+        return AS_BITS.get(named, named)
+    return {key: type_as_bits(value) if key == "list" else value for key, value in named.items()}
 
 
 def without_absent(keys, absent):
-    """The keys of a node or a field, but for those whose values mean the same as none."""
+    """The keys of a node or a field, except those whose values mean the same as an absent key."""
     return {key: value for key, value in keys.items() if key not in absent or value not in absent[key]}
 
 
@@ -94,7 +103,7 @@ def nodes_by_id(text):
 
 
 def differing_requests(program):
-    """How many requests there are, and the names of those whose schema isn't what independent software made of them."""
+    """The number of requests, and the names of those whose schema isn't what independent software made of them."""
     names = sorted(path.stem for path in REQUESTS.glob("*.request"))
     differing = []
     for name in names:
@@ -106,7 +115,7 @@ def differing_requests(program):
 
 
 def differing_commands(walks, name, program):
-    """How many commands of a document print something else; each is shown."""
+    """The number of commands of a page that print something else; each is shown."""
     differing = 0
     with tempfile.TemporaryDirectory() as folder:
         folder = pathlib.Path(folder) / "walk"
@@ -122,24 +131,39 @@ def differing_commands(walks, name, program):
     return differing
 
 
+def pages():
+    """The pages whose commands are run."""
+    return [TOP / "README.md", *(it for it in sorted(MANUAL.glob("*.md")) if it.stem != FIRST_STEPS), TOP / ".ci" / "tool_walk.md"]
+
+
+def unknown_schemas(text):
+    """The blocks of schemas that no file of the data has."""
+    files = [" ".join(path.read_text().split()) for path in DATA.rglob("*.capnp")]
+    return [block for block in SCHEMA.findall(text) if not any(" ".join(block.split()) in file for file in files)]
+
+
 def main():
     program = pathlib.Path(sys.argv[1]).resolve() if len(sys.argv) > 1 else PROGRAM
     if not program.exists():
         raise SystemExit(f"{program} is not built")
-    ran = differing = 0
-    for document in DOCUMENTS:
-        walks = list(commands(document.read_text()))
-        if not walks:
-            raise SystemExit(f"{document.name} has no walk")
+    ran = differing = unknown = 0
+    for page in pages():
+        text = page.read_text()
+        walks = list(commands(text))
+        if not walks and page.stem not in WITHOUT_WALK:
+            raise SystemExit(f"{page.name} has no walk")
         ran += len(walks)
-        differing += differing_commands(walks, document.name, program)
+        differing += differing_commands(walks, page.name, program)
+        for block in unknown_schemas(text):
+            unknown += 1
+            print(f"{page.name}: no file of {DATA.relative_to(TOP)} has this schema:\n{block}")
     requests, others = differing_requests(program)
     for name in others:
         print(f"the schema of {name}.request differs from {name}.json")
     if not requests:
         raise SystemExit(f"{REQUESTS} has no requests")
     print(f"tool walk: {ran} commands, {differing} differ; {requests} requests, {len(others)} differ")
-    return 1 if differing or others else 0
+    return 1 if differing or unknown or others else 0
 
 
 if __name__ == "__main__":

@@ -71,7 +71,7 @@ enum {
 
 /* Opens a relay. `schema` is what `capnp compile -o-` writes, or a JSON schema file. `root` names the struct at the root of
  * messages, by its name or id; if it is empty, the root is the one struct at the top of the schema. `calls` is a calls file, which
- * also has the limits. (docs/FILES.md) `flags` are HAGZIMOT_PACKED_IN and the others, added up.
+ * also has the limits. (docs/manual/calls.md) `flags` are HAGZIMOT_PACKED_IN and the others, added up.
  *
  * OK: the handle holds the relay, and hagzimot_close must follow. REFUSED: `text` says why, cut after `text_cap` bytes; the whole
  * text has `*text_len`. It isn't ended by a zero. Else OPEN, FORM, MEMORY or POINTER. After all but OK the handle is as it was. */
@@ -83,7 +83,7 @@ hagzimot_status hagzimot_open(hagzimot *handle, const uint8_t *schema, size_t sc
 void hagzimot_close(hagzimot *handle);
 
 /* Answers the messages of `in`, which are one behind the other: any number in one call. `out` gets the messages that are written,
- * and `log` a line for each message, as docs/FILES.md has it. Neither gets more than its `_cap`.
+ * and `log` a line for each message, as docs/manual/relay.md has it. Neither gets more than its `_cap`.
  *
  * OK: all are answered. ROOM: so too, but `out` or `log` is too short for them; hagzimot_take gets them without answering again.
  * FRAMING, SIZE, MEMORY: the messages before are answered, and `out` and `log` have them, if they fit. CLOSED, POINTER: nothing is

@@ -68,6 +68,19 @@ struct Answers {
   std::string log;
 };
 
+// A run that was ended by a status, with the answers to the messages before.
+class Stopped : public Error {
+public:
+  Stopped(hagzimot_status status, Answers answers) : Error(status, text_of(status)), answers_(std::move(answers)) {}
+  const Answers &answers() const noexcept { return answers_; }
+
+private:
+  Answers answers_;
+};
+
+// Returns the version of the library's interface.
+inline uint32_t version() noexcept { return hagzimot_version(); }
+
 // A relay. It moves and isn't copied. It is used by one call at a time, in the thread that made it.
 class Relay {
 public:
@@ -89,7 +102,7 @@ public:
   Relay(const Relay &) = delete;
   Relay &operator=(const Relay &) = delete;
 
-  // Answers the messages of the input. If the input, or its rest, doesn't begin with a message, this throws.
+  // Answers the messages of the input. If the input, or its rest, doesn't begin with a message, this throws Stopped.
   Answers relay(View in) {
     Answers answers;
     answers.out.resize(in.size + 256);
@@ -98,14 +111,15 @@ public:
     auto log = [&] { return reinterpret_cast<uint8_t *>(answers.log.data()); };
     auto status = hagzimot_relay(&handle_, in.data, in.size, answers.out.data(), answers.out.size(), &out_len, log(),
                                  answers.log.size(), &log_len);
-    if (status == HAGZIMOT_ROOM) {
-      answers.out.resize(out_len);
-      answers.log.resize(log_len);
-      status = hagzimot_take(&handle_, answers.out.data(), out_len, &out_len, log(), log_len, &log_len);
-    }
-    check(status);
+    const bool is_cut = out_len > answers.out.size() || log_len > answers.log.size();
     answers.out.resize(out_len);
     answers.log.resize(log_len);
+    if (is_cut) {
+      auto taken = hagzimot_take(&handle_, answers.out.data(), out_len, &out_len, log(), log_len, &log_len);
+      status = status == HAGZIMOT_ROOM ? taken : status;
+    }
+    if (status != HAGZIMOT_OK)
+      throw Stopped(status, std::move(answers));
     return answers;
   }
 

@@ -20,8 +20,11 @@ def digest(crate):
     return found.hexdigest()
 
 
-def built(crate, level, note):
-    """The path of a program below out/unproved, which is built unless nothing has changed since it was; and the seconds that took."""
+def built(crate, level, note, parts=1):
+    """The path of a program below out/unproved, which is built unless nothing has changed since it was; and the seconds that took.
+
+    The compiler works on so many parts side by side.
+    """
     path, wanted = f"{TOP}/out/unproved/{crate}", f"{digest(crate)} {level}"
     try:
         with open(f"{path}.digest", encoding="utf-8") as file:
@@ -29,7 +32,7 @@ def built(crate, level, note):
                 return path, 0.0
     except OSError:
         pass
-    seconds = unproved.build(crate, path, level, note=note)
+    seconds = unproved.build(crate, path, level, note=note, parts=parts)
     with open(f"{path}.digest", "w", encoding="utf-8") as file:
         file.write(wanted)
     return path, seconds

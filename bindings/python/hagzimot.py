@@ -12,12 +12,17 @@ from __future__ import annotations
 import ctypes
 import json
 import os
-from typing import Any, NamedTuple, Sequence
+import threading
+import warnings
+from types import TracebackType
+from typing import Any, Mapping, NamedTuple, Sequence, Type, Union
 
 __all__ = ["Answers", "Error", "PACKED_IN", "PACKED_OUT", "PLAIN", "Relay", "canonical", "first_break", "is_canonical", "version"]
 
 PACKED_IN, PACKED_OUT, PLAIN = 1, 2, 4
 WORDS, LEVELS = 8_388_608, 64
+
+Bytes = Union[bytes, bytearray, memoryview]
 
 _OK, _MEMORY, _CLOSED, _OPEN, _ROOM, _REFUSED, _FRAMING, _VALUE, _SIZE, _NO, _FORM, _POINTER = range(12)
 _TEXTS = {
@@ -92,21 +97,21 @@ class _Room:
     """Memory that a call writes, and how much it wanted."""
 
     def __init__(self, size: int) -> None:
-        self.cells = ctypes.create_string_buffer(size)
+        self.cells: ctypes.Array[ctypes.c_char] = ctypes.create_string_buffer(size)
         self.size = size
         self.len = _SIZE_T(0)
 
     def arguments(self) -> tuple[Any, int, Any]:
         return self.cells, self.size, ctypes.byref(self.len)
 
-    def bytes(self) -> bytes:
+    def written(self) -> bytes:
         return ctypes.string_at(self.cells, min(self.len.value, self.size))
 
     def text(self) -> str:
-        return self.bytes().decode("utf-8", "surrogateescape")
+        return self.written().decode("utf-8", "surrogateescape")
 
 
-def _slice(data: bytes | bytearray | memoryview) -> tuple[bytes, int]:
+def _slice(data: Bytes) -> tuple[bytes, int]:
     """The arguments of bytes that a call reads."""
     held = bytes(data)
     return held, len(held)
@@ -123,13 +128,13 @@ def version() -> int:
 
 
 class Relay:
-    """A relay: a schema, the struct at the root of messages, calls, and limits. Use it in the thread that made it."""
+    """A relay: a schema, the struct at the root of messages, calls, and limits. Only the thread that made it may use it."""
 
     def __init__(
         self,
-        schema: bytes,
+        schema: Bytes,
         root: str = "",
-        calls: bytes | Sequence[dict[str, Any]] = (),
+        calls: Bytes | Sequence[Mapping[str, Any]] = (),
         flags: int = 0,
         words: int = WORDS,
         nesting: int = LEVELS,
@@ -137,7 +142,8 @@ class Relay:
         """Opens a relay. `schema` is what `capnp compile -o-` writes, or a JSON schema file; `root` names a struct by its name or
         id; `calls` are the bytes of a calls file, which also has the limits, or its list of calls."""
         self._handle = _Handle(None)
-        if not isinstance(calls, (bytes, bytearray)):
+        self._thread = threading.get_ident()
+        if not isinstance(calls, (bytes, bytearray, memoryview)):
             calls = json.dumps({"calls": list(calls), "words": words, "nesting": nesting}).encode()
         text = _Room(_TEXT_ROOM)
         given = (*_slice(schema), *_slice(root.encode()), *_slice(calls))
@@ -146,21 +152,28 @@ class Relay:
             raise Error(status, text.text())
         _check(status)
 
-    def relay(self, messages: bytes) -> Answers:
-        """Answers messages that stand one behind the other, any number of them. If the rest of the input is no message, an `Error`
-        has the answers of those before."""
+    def _check_thread(self) -> None:
+        """Raises an error if the thread isn't the one that made the relay."""
+        if threading.get_ident() != self._thread:
+            raise RuntimeError("relay: it is used in another thread than the one that made it")
+
+    def relay(self, messages: Bytes) -> Answers:
+        """Answers messages that are one after the other, any number of them. If the rest of the input isn't a message, an
+        `Error` has the answers to those before."""
+        self._check_thread()
         out, log = _Room(len(messages) + 256), _Room(256)
         status = _relay(ctypes.byref(self._handle), *_slice(messages), *out.arguments(), *log.arguments())
         if out.len.value > out.size or log.len.value > log.size:
             out, log = _Room(out.len.value), _Room(log.len.value)
             taken = _take(ctypes.byref(self._handle), *out.arguments(), *log.arguments())
             status = taken if status == _ROOM else status
-        answers = Answers(out.bytes(), log.text())
+        answers = Answers(out.written(), log.text())
         _check(status, answers)
         return answers
 
-    def show(self, message: bytes) -> str:
+    def show(self, message: Bytes) -> str:
         """Returns the record of the first message as text on one line."""
+        self._check_thread()
         text = _Room(1024)
         status = _show(ctypes.byref(self._handle), *_slice(message), *text.arguments())
         if status == _ROOM:
@@ -170,21 +183,27 @@ class Relay:
         return text.text()
 
     def close(self) -> None:
-        """Gives the memory of the relay back. Later calls raise an `Error`."""
+        """Returns the memory of the relay. Later calls raise an `Error`."""
+        self._check_thread()
         _close(ctypes.byref(self._handle))
 
     def __enter__(self) -> Relay:
         return self
 
-    def __exit__(self, *_: object) -> None:
+    def __exit__(self, kind: Type[BaseException] | None, error: BaseException | None, where: TracebackType | None) -> None:
         self.close()
 
     def __del__(self) -> None:
-        if getattr(self, "_handle", None) is not None:
+        handle = getattr(self, "_handle", None)
+        if handle is None or not handle.at:
+            return
+        if threading.get_ident() == self._thread:
             self.close()
+        else:
+            warnings.warn("relay: another thread drops it, so its memory is kept (close it)", ResourceWarning, source=self)
 
 
-def canonical(message: bytes, words: int = WORDS, levels: int = LEVELS) -> bytes:
+def canonical(message: Bytes, words: int = WORDS, levels: int = LEVELS) -> bytes:
     """Returns the canonical form of the first message, framed."""
     count = len(message) // 8 + 2
     while True:
@@ -197,7 +216,7 @@ def canonical(message: bytes, words: int = WORDS, levels: int = LEVELS) -> bytes
     return ctypes.string_at(out.cells, 8 * out.len.value)
 
 
-def is_canonical(message: bytes, words: int = WORDS, levels: int = LEVELS) -> bool:
+def is_canonical(message: Bytes, words: int = WORDS, levels: int = LEVELS) -> bool:
     """Returns whether the first message is canonical."""
     status = _is_canonical(*_slice(message), words, levels)
     if status == _NO:
@@ -206,7 +225,7 @@ def is_canonical(message: bytes, words: int = WORDS, levels: int = LEVELS) -> bo
     return True
 
 
-def first_break(older: bytes, newer: bytes, root: str = "", renames: bytes = b"") -> str | None:
+def first_break(older: Bytes, newer: Bytes, root: str = "", renames: Bytes = b"") -> str | None:
     """Returns the sentence of the first break between two versions of a schema; `None` if they are compatible."""
     text = _Room(_TEXT_ROOM)
     status = _compatible(*_slice(older), *_slice(newer), *_slice(renames), *_slice(root.encode()), *text.arguments())

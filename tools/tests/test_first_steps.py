@@ -1,4 +1,4 @@
-"""Follows docs/FIRST_STEPS.md in an empty folder: writes its files, runs its commands, and compares what they print.
+"""Follows docs/manual/first-steps.md in an empty folder: writes its files, runs its commands, and compares what they print.
 
 usage: tools/tests/test_first_steps.py PROGRAM
 
@@ -14,7 +14,7 @@ import sys
 import tempfile
 
 TOP = os.path.dirname(os.path.dirname(os.path.dirname(os.path.realpath(__file__))))
-PAGE = f"{TOP}/docs/FIRST_STEPS.md"
+PAGE = f"{TOP}/docs/manual/first-steps.md"
 # The messages that the page's last commands write, as the tool capnp decodes them by a schema of the page.
 DECODED = (
     ("edited.bin", "weather.capnp", '(name = "Oslo", height = 94, readings = [(hour = 6, celsius = -3.5, sky = clear), (hour = 12, celsius = 1.25, sky = clear)])\n(name = "Lima", height = 161.5, readings = [(hour = 6, celsius = 17, sky = rain)])\n'),

@@ -15,10 +15,14 @@ import tempfile
 
 TOP = os.path.dirname(os.path.dirname(os.path.dirname(os.path.realpath(__file__))))
 sys.dont_write_bytecode = True
-sys.path.insert(0, f"{TOP}/tools")
+sys.path[:0] = [f"{TOP}/tools", f"{TOP}/.ci"]
+import command_help
 import statement
+import style
 
 FAULTS = []
+# How no text of the help begins: with a noun, a question, or a verb in the third person.
+NOT_IMPERATIVE = re.compile(r"(?:The|A|An|What|Whether|How|[A-Z][a-z]*[a-rt-z]s)\b")
 
 
 def expect(is_well, what):
@@ -71,21 +75,53 @@ def plain_page(path):
     return text.replace("\u2010", "-").replace("\u2212", "-")
 
 
+def options_of_page(text):
+    """The options that a page of docs/manual has in its section on options."""
+    section = re.search(r"(?ms)^## Options\n(.*?)(?=^## |\Z)", text)
+    return set(re.findall(r"`(--?[\w-]+)", section[1])) if section else set()
+
+
+def try_help(name, said):
+    """The texts of a command's help are imperative, and keep docs/STYLE.md."""
+    command = command_help.command_of(name, said)
+    for text in (command.about, *(it.plain_text for it in (*command.arguments, *command.options))):
+        expect(not NOT_IMPERATIVE.match(text), f"{name} --help: '{text}' isn't imperative")
+        for _, what in style.faults_of_text(text, False):
+            expect(False, f"{name} --help: '{text}': {what}")
+
+
+def try_page(root, name, program):
+    """A command's page has the usage of its help, and the same options; the page and the man page are installed."""
+    said = ran(program, name, "--help")
+    try_help(name, said)
+    options = set(re.findall(r"(?m)^ +(?:-\w, )?(--[\w-]+)", said)) - {"--help"}
+    short = dict(re.findall(r"(?m)^ +(-\w), (--[\w-]+)", said))
+    with open(f"{root}/share/doc/hagzimot/manual/{name}.md", encoding="utf-8") as file:
+        text = file.read()
+    there = {short.get(it, it) for it in options_of_page(text)}
+    # A section on options names an option of another one in what it says.
+    expect(options <= there, f"docs/manual/{name}.md lacks {sorted(options - there)}")
+    rows = set(re.findall(r"(?m)^\| `(--[\w-]+)", text)) if options else set()
+    expect(rows <= options, f"docs/manual/{name}.md has {sorted(rows - options)}, which {name} --help doesn't list")
+    usage = " ".join(re.search(r"(?m)^Usage: (.*)$", said)[1].split())
+    expect(f"\n    {usage}\n" in text, f"docs/manual/{name}.md has another usage than '{usage}'")
+    about = " ".join(said.partition("\n\nUsage:")[0].split())
+    expect(f"\n\n{about}.\n" in text, f"docs/manual/{name}.md has another summary than '{about}'")
+    page = plain_page(f"{root}/share/man/man1/hagzimot-{name}.1")
+    for option in options:
+        expect(re.search(rf"(?<![\w-]){option}(?![\w-])", page), f"the man page of {name} lacks {option}")
+    return len(options)
+
+
 def try_manual(root):
-    """Each command has a page, with each option that its help has."""
-    program, folder = f"{root}/bin/hagzimot", f"{root}/share/man/man1"
+    """Each command has a page, and each page of the manual a man page."""
+    program, folder = f"{root}/bin/hagzimot", f"{root}/share/man"
     names = re.findall(r"(?m)^  (\w+)  ", ran(program, "--help").partition("Commands:")[2].partition("Options:")[0])
     names = [it for it in names if it != "help"]
-    expect(sorted(os.listdir(folder)) == sorted(["hagzimot.1", *(f"hagzimot-{it}.1" for it in names)]), f"the manual has other pages than {names}")
-    count = 0
-    for name in names:
-        options = re.findall(r"(?m)^ +(?:-\w, )?(--[\w-]+)", ran(program, name, "--help"))
-        page = plain_page(f"{folder}/hagzimot-{name}.1")
-        expect(options, f"{name} --help lists no options")
-        for option in options:
-            count += 1
-            expect(re.search(rf"(?<![\w-]){option}(?![\w-])", page), f"the page of {name} lacks {option}")
-    return len(names), count
+    others = {it.removesuffix(".md") for it in os.listdir(f"{TOP}/docs/manual")} - {"README", *names}
+    wanted = ["man1/hagzimot.1", *(f"man1/hagzimot-{it}.1" for it in names), *(f"man7/hagzimot-{it}.7" for it in others)]
+    expect(files_below(folder) == sorted(wanted), f"the manual has other pages than {wanted}")
+    return len(names), sum(try_page(root, name, program) for name in names)
 
 
 def try_uninstall(root):
@@ -106,6 +142,8 @@ def main(program, relay):
         expect(files_below(root) == first, "a second installation has other files")
         pages = [f"share/doc/hagzimot/html/{it}" for it in ("index.html", "capnp_relay.html", "definitions.html", "style.css")]
         expect(set(pages) <= set(first), "the reference of the library isn't there")
+        manual = [f"share/doc/hagzimot/{it}" for it in ("concepts.md", "manual/README.md", "manual/first-steps.md")]
+        expect(set(manual) <= set(first), "the manual isn't there")
         try_programs(root)
         pages, options = try_manual(root)
         try_uninstall(root)

@@ -2,8 +2,9 @@
 
 usage: tools/tests/test_manual.py PROGRAM
 
-The pages are made from the program's own help. A page has to begin with its name, to end with the version, to have a line of
-an index, and to be set without a warning and within the terminal's width. Without man, less or tmux the status is 77.
+The pages are made from docs/manual and the program's own help. A page has to begin with its name, to end with the version, to
+have a line of an index, and to be set without a warning and within the terminal's width. Without man, less or tmux the status
+is 77.
 """
 import os
 import shutil
@@ -32,7 +33,8 @@ def set_page(path, columns):
 
 def faults_of_text(folder, name):
     """Faults of a page's text: warnings, long lines, no line of an index."""
-    path = f"{folder}/man1/{name}.1"
+    name, section = name.rsplit(".", 1)
+    path = f"{folder}/man{section}/{name}.{section}"
     for columns in (COLUMNS, 132):
         text, warnings = set_page(path, columns)
         if warnings:
@@ -48,8 +50,9 @@ def faults_of_text(folder, name):
 
 def faults_of_page(folder, name, version, socket):
     """Faults of a page in a terminal: no head, no end, a search that finds nothing."""
+    name, section = name.rsplit(".", 1)
     tmux(socket, "new-session", "-d", "-s", "t", "-x", str(COLUMNS), "-y", str(LINES), f"env LESS= MANPAGER=less PAGER=less LANG=C.UTF-8 TERM=screen man -M {folder} {name}")
-    head = f"{name.upper()}(1)"
+    head = f"{name.upper()}({section})"
     try:
         for keys, what, wanted in (
             ((), "begins with its name", lambda it: it.startswith(head) and it.endswith(head)),
@@ -74,11 +77,11 @@ def main(program):
         return CANT_RUN
     with tempfile.TemporaryDirectory() as room:
         made = man_pages.pages(os.path.abspath(program))
-        os.makedirs(f"{room}/man1")
         for name, text in made.items():
-            with open(f"{room}/man1/{name}", "w", encoding="utf-8") as file:
+            os.makedirs(f"{room}/man{name[-1]}", exist_ok=True)
+            with open(f"{room}/man{name[-1]}/{name}", "w", encoding="utf-8") as file:
                 file.write(text)
-        names = [it.removesuffix(".1") for it in sorted(made)]
+        names = sorted(made)
         version = command_help.version_of(program)
         faults = [it for name in names for it in (*faults_of_text(room, name), *faults_of_page(room, name, version, f"{room}/tmux"))]
     print("\n".join(faults), end="\n" if faults else "")

@@ -22,6 +22,7 @@ CANT_RUN = 77
 # The packages of the library, and what stands in for it.
 LIBRARY_PACKAGES = ("libhagzimot1", "libhagzimot-dev", "python3-hagzimot")
 STAND_IN = "#include <stdlib.h>\nint hagzimot_one(void) { return getenv(\"\") == NULL ? 1 : 0; }\n"
+SOURCES = ("share/hagzimot/bindings/go/go.mod", "share/hagzimot/bindings/rust/hagzimot/src/lib.rs")
 CALLER = "#include <hagzimot.h>\nint main(void) { return hagzimot_one() - 1; }\n"
 PKG_CONFIG = "prefix=@PREFIX@\nlibdir=${prefix}/lib\nincludedir=${prefix}/include\n\nName: hagzimot\nDescription: stand-in\nVersion: 0\nLibs: -L${libdir} -lhagzimot\nCflags: -I${includedir}\n"
 
@@ -94,6 +95,8 @@ def make_library(folder, room):
     put(f"{folder}/include/hagzimot.h", "int hagzimot_one(void);\n")
     put(f"{folder}/lib/pkgconfig/hagzimot.pc", PKG_CONFIG)
     put(f"{folder}/lib/python3/dist-packages/hagzimot.py", '"""A stand-in."""\n')
+    for name in SOURCES:
+        put(f"{folder}/{name}", "A stand-in.\n")
     shared = ("-shared", "-Wl,-soname,libhagzimot.so.1", "-Wl,-z,relro,-z,now")
     ran("cc", "-O2", "-fPIC", "-c", f"{room}/stand_in.c", "-o", f"{room}/stand_in.o")
     ran("cc", *shared, f"{room}/stand_in.o", "-o", f"{folder}/lib/libhagzimot.so.1")
@@ -112,6 +115,7 @@ def try_library(paths, room):
     put(f"{room}/caller.c", CALLER)
     ran("cc", f"-I{root}/usr/include", f"{room}/caller.c", "-o", f"{room}/caller", f"-L{libraries}", "-lhagzimot")
     ran(f"{room}/caller", env={**os.environ, "LD_LIBRARY_PATH": libraries})
+    expect(all(os.path.isfile(f"{root}/usr/{it}") for it in SOURCES), "the packages have no sources of the bindings")
     expect(os.path.isfile(f"{root}/usr/lib/python3/dist-packages/hagzimot.py"), "the package of the Python module has no module")
 
 

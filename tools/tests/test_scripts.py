@@ -21,6 +21,7 @@ import check
 import command_help
 import completions
 import man_pages
+import manual_roff
 import proved
 import stages
 import statement
@@ -124,7 +125,6 @@ class Help(unittest.TestCase):
     def test_statuses_under_a_head(self):
         text = SHORT.replace("Status: 0 done", "Status:\n  0  done\n  3  skipped")
         self.assertEqual(command_help.command_of("convert", text).after, "Status:\n0  done\n3  skipped")
-        self.assertEqual(man_pages.status_lines("Status:\n0  done\n3  skipped"), [".SH EXIT STATUS", "0  done", ".br", "3  skipped"])
 
     def test_a_text_without_usage_is_refused(self):
         with self.assertRaises(command_help.Unreadable):
@@ -139,10 +139,32 @@ class Pages(unittest.TestCase):
         self.assertEqual(man_pages.quoted(".so \\x --in 'a'"), "\\&.so \\ex \\-\\-in \\(aqa\\(aq")
 
     def test_page_has_each_option(self):
-        page = man_pages.command_page(self.command, self.whole, "2026-11-30", "0.2.0")
-        for text in ("\\fB\\-o\\fR, \\fB\\-\\-output\\fR \\fIFILE\\fR", "One of \\fBframed\\fR, \\fBpacked\\fR.", ".SH EXIT STATUS\n0 done"):
+        page = man_pages.command_page(self.command, "2026-11-30", "0.2.0")
+        for text in ("\\fB\\-o\\fR, \\fB\\-\\-output\\fR \\fIFILE\\fR", "One of \\fBframed\\fR, \\fBpacked\\fR.", ".SH EXIT STATUS\n", ".SH EXAMPLES\n"):
             self.assertIn(text, page)
-        self.assertIn("hagzimot\\-convert \\- writes the same messages\n", page)
+        self.assertIn("hagzimot\\-convert \\- write the same messages in another form, framed or packed\n", page)
+        self.assertNotIn("Also: ", page)
+
+    def test_a_command_without_a_page_is_refused(self):
+        with self.assertRaisesRegex(command_help.Unreadable, "docs/manual/unknown.md"):
+            man_pages.page_of("unknown")
+
+    def test_links_become_references(self):
+        self.assertEqual(manual_roff.inline("use [`redact`](redact.md)"), "use \\fBhagzimot\\-redact\\fR(1)")
+        self.assertEqual(manual_roff.inline("[paths](calls.md#paths)"), "paths (\\fBhagzimot\\-calls\\fR(7))")
+        self.assertEqual(manual_roff.inline("[why](../concepts.md) and [below](#below)"), "why and below")
+        self.assertEqual(manual_roff.inline("`a*b` *c* 2*3"), "\\fBa*b\\fR \\fIc\\fR 2*3")
+
+    def test_tables_and_lists_of_a_page(self):
+        lines = ["| Status | When |", "|---|---|", "| 0 | `a|b` done |", "", "- one", "  more", "- two"]
+        self.assertEqual(manual_roff.roff_of(lines), [".TP", "0", "\\fBa|b\\fR done", ".IP \\(bu 2", "one more", ".IP \\(bu 2", "two"])
+        wide = ["| A | B | C |", "|---|---|---|", "| x | y | z |"]
+        self.assertEqual(manual_roff.roff_of(wide), [".TP", "x", "B: y.", ".br", "C: z."])
+
+    def test_long_lines_of_code_are_folded(self):
+        command = manual_roff.folded("$ hagzimot show --schema shop.capnp --root Order --where 'a = b and c = d' orders.bin")
+        self.assertEqual(command, ["$ hagzimot show --schema shop.capnp --root Order \\", "    --where 'a = b and c = d' orders.bin"])
+        self.assertTrue(all(len(it) <= manual_roff.COLUMNS for it in manual_roff.folded("x" * 200)))
 
     def test_completions_have_each_option(self):
         made = {name: make(self.whole, [self.command]) for name, make in completions.SHELLS.items()}

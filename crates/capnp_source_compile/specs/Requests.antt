@@ -7,6 +7,7 @@ use Rattle.capnp_source_nodes.specs.declared.nodes.NodeBody.{NodeBody}
 use Rattle.capnp_source_nodes.specs.declared.nodes.NodeBody.TheVariants as B
 use Rattle.capnp_source_nodes.specs.declared.nodes.Request.{Request}
 use Rattle.capnp_source_nodes.specs.declared.nodes.RequestedFile.{RequestedFile}
+use Rattle.capnp_source_rules.specs.Nodes.{AreGoodNodes}
 use Rattle.capnp_source_compile.specs.Declarations.{NodeKey, declared_by_asked}
 
 -- The id and the name of a file, as a request lists them.
@@ -33,8 +34,9 @@ abbrev pub node_key : Node → NodeKey
 node_key n = (n.id, (kind_of_node n.body, n.scope))
 
 -- A request lists the files that are asked for. Each of them, and all that it declares, is a node. No two nodes have
--- the same id.
+-- the same id. Nodes keep the rules of single nodes and those of groups.
 pub record IsRequestOf (files : List Loaded) (r : Request) : Type 0 where
   pub asked : map listed r.files.items ≡ asked_of files
   pub declared : All (λ d. Contains (map node_key r.nodes.items) d) (declared_by_asked files)
   pub ids : AllPairs (λ x y. x ≢ y) (map (λ n. n.id) r.nodes.items)
+  pub rules : AreGoodNodes r.nodes.items

@@ -82,7 +82,8 @@ fn has(nodes: &HashMap<u64, (Kind, u64)>, id: u64, kind: Kind, scope: u64) -> bo
 /// Whether a declaration in a scope, and what is declared in it, are among nodes.
 #[cycle(declarations)]
 fn is_there(declaration: &Declaration, nodes: &HashMap<u64, (Kind, u64)>, scope: u64) -> bool
-    ensures { IsTrue result → All (λ d. get nat_eq nodes.now d.0 ≡ Some d.1) (declared_in declaration.now scope) }
+    ensures { IsTrue result
+        → All (λ d. get nat_eq nodes.now d.0 ≡ Some d.1) (declared_in declaration.now scope) }
 {
     let Some(kind) = kind_of(&declaration.body) else {
         return true;
@@ -97,7 +98,8 @@ fn is_there(declaration: &Declaration, nodes: &HashMap<u64, (Kind, u64)>, scope:
 /// Whether declarations in a scope, and what is declared in them, are among nodes.
 #[cycle(declarations)]
 fn are_there(declarations: &[Declaration], nodes: &HashMap<u64, (Kind, u64)>, scope: u64) -> bool
-    ensures { IsTrue result → All (λ d. get nat_eq nodes.now d.0 ≡ Some d.1) (declared_in_all scope declarations.now) }
+    ensures { IsTrue result
+        → All (λ d. get nat_eq nodes.now d.0 ≡ Some d.1) (declared_in_all scope declarations.now) }
 {
     for declaration in declarations {
         if !is_there(declaration, nodes, scope) {
@@ -109,7 +111,8 @@ fn are_there(declarations: &[Declaration], nodes: &HashMap<u64, (Kind, u64)>, sc
 
 /// Whether a file and what it declares are among nodes.
 fn is_file_there(file: &Loaded, nodes: &HashMap<u64, (Kind, u64)>) -> bool
-    ensures { IsTrue result → All (λ d. get nat_eq nodes.now d.0 ≡ Some d.1) (declared_by file.now) }
+    ensures { IsTrue result
+        → All (λ d. get nat_eq nodes.now d.0 ≡ Some d.1) (declared_by file.now) }
 {
     let Some(number) = &file.file.id else {
         return true;
@@ -120,7 +123,8 @@ fn is_file_there(file: &Loaded, nodes: &HashMap<u64, (Kind, u64)>) -> bool
 
 /// Whether the files that are asked for, and what they declare, are among nodes.
 pub(crate) fn are_files_there(files: &[Loaded], nodes: &HashMap<u64, (Kind, u64)>) -> bool
-    ensures { IsTrue result → All (λ d. get nat_eq nodes.now d.0 ≡ Some d.1) (declared_by_asked files.now) }
+    ensures { IsTrue result
+        → All (λ d. get nat_eq nodes.now d.0 ≡ Some d.1) (declared_by_asked files.now) }
 {
     let mut left = files;
     while let [file, others @ ..] = left {

@@ -1,9 +1,11 @@
 //! The nodes, constants and files that values refer to.
 
+ghost use Rattle.std.specs.Prelude.{◌≡◌};
+
 use capnp_source_drafts::drafts::Drafts;
 use capnp_source_names::problems::{Stop, wrong};
 use capnp_source_nodes::nodes::{Node, NodeBody};
-use capnp_source_nodes::types::Type;
+use capnp_source_rules::sizes::is_pointer;
 use capnp_source_syntax::tree::{Expression, Span};
 use capnp_source_types::paths::{span_of, target_of};
 use capnp_source_types::resolver::{Place, Resolver};
@@ -24,26 +26,6 @@ pub struct Known<'k, 'a> {
     pub are_pointers: bool,
     /// The entry in whose scope the value is read.
     pub entry: usize,
-}
-
-/// Whether a value of a type is what a pointer leads to.
-pub fn is_pointer(ty: &Type) -> bool {
-    !matches!(
-        ty,
-        Type::Void
-            | Type::Bool
-            | Type::Int8
-            | Type::Int16
-            | Type::Int32
-            | Type::Int64
-            | Type::UInt8
-            | Type::UInt16
-            | Type::UInt32
-            | Type::UInt64
-            | Type::Float32
-            | Type::Float64
-            | Type::Enum { .. }
-    )
 }
 
 /// Returns that something else is wrong, which is reported.
@@ -82,7 +64,10 @@ fn value_wrong(alloc: Global, span: Span, text: &str) -> ValueFault {
 
 impl<'k, 'a> Known<'k, 'a> {
     /// Returns the place of the value's paths.
-    pub fn place(&self, wanted: &'static str) -> Place<'static> {
+    pub fn place(&self, wanted: &'static str) -> Place<'static>
+        ensures scope { result.scope ≡ self.now.entry }
+        ensures parameters { result.parameters_of ≡ 0 }
+    {
         Place {
             scope: self.entry,
             parameters: &[],

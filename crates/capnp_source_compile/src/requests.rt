@@ -12,6 +12,7 @@ use capnp_source_names::references::named_imports;
 use capnp_source_names::sources::Loaded;
 use capnp_source_names::table::Table;
 use capnp_source_nodes::nodes::{Import, Node, Request, RequestedFile};
+use capnp_source_rules::nodes::are_good_nodes;
 use std::alloc::{AllocError, Global};
 use std::collections::HashSet;
 use std::str;
@@ -136,6 +137,9 @@ pub fn request_of(table: &Table, files: &[Loaded], drafts: Drafts) -> Result<Req
     }
     let kinds = kinds_of(table.alloc, &nodes)?;
     if !are_files_there(files, &kinds) {
+        return Err(Stop::Known);
+    }
+    if !are_good_nodes(table.alloc, &nodes)? {
         return Err(Stop::Known);
     }
     Ok(Request {

@@ -1,11 +1,12 @@
 //! The values of constants and defaults.
 
-use crate::known::{Known, is_pointer};
+use crate::known::Known;
 use capnp_source_drafts::drafts::{ConstantJob, DefaultJob, Drafts};
 use capnp_source_names::problems::{Problems, Stop};
 use capnp_source_nodes::nodes::{FieldBody, NodeBody};
 use capnp_source_nodes::types::Type;
 use capnp_source_nodes::values::Value;
+use capnp_source_rules::sizes::is_pointer;
 use capnp_source_syntax::tree::{Expression, Root};
 use capnp_source_types::copies::copy_type;
 use capnp_source_types::paths::span_of;

@@ -2,7 +2,8 @@
 use Rattle.std.proofs.Common.{◌≡◌, ℕ, zero, suc, Option, Some, None, List, [], ◌∷◌, ◌++◌, get_or, set, refl, sym, ap, ◌∙◌, append_assoc, arith, subst, ◌≤◌}
 use Rattle.capnp_source_layout.specs.declared.draft.Draft.{Draft}
 use Rattle.capnp_source_layout.specs.declared.levels.Sections.{Sections}
-use Rattle.capnp_source_layout.specs.Drafts.{Keeps, BeginsWith, MovesNone}
+use Rattle.capnp_source_layout.specs.declared.structs.Layout.{Layout}
+use Rattle.capnp_source_layout.specs.Drafts.{Keeps, BeginsWith, MovesNone, IsLayoutOf, KeepsSlots}
 
 pub kept : (xs : List (Option ℕ)) → Keeps xs xs
 kept xs union offset e = e
@@ -41,4 +42,13 @@ step_moves_none old mid new offset o d w p pushed same sections = record {
   discriminants = subst (Keeps old.discriminants.items) (sym same) d;
   words = subst (λ (s : Sections). old.sections.words ≤ s.words) (sym sections) w;
   pointers = subst (λ (s : Sections). old.sections.pointers ≤ s.pointers) (sym sections) p;
+}
+
+-- the layouts of drafts of which the second moves none of the first
+pub keeps_slots : (a b : Draft) (older newer : Layout) → MovesNone a b → IsLayoutOf a older → IsLayoutOf b newer → KeepsSlots older newer
+keeps_slots a b older newer moved x y = record {
+  offsets = (moved.offsets.0, y.offsets ∙ moved.offsets.1 ∙ ap (λ xs. xs ++ moved.offsets.0) (sym x.offsets));
+  discriminants = subst (λ xs. Keeps xs newer.discriminants.items) (sym x.discriminants) (subst (Keeps a.discriminants.items) (sym y.discriminants) moved.discriminants);
+  words = omega (arith, moved.words, x.words, y.words);
+  pointers = omega (arith, moved.pointers, x.pointers, y.pointers);
 }

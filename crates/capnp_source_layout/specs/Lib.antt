@@ -1,3 +1,5 @@
+pub mod Certificates
 pub mod Drafts
 pub mod Holes
 pub mod Sections
+pub mod Slots

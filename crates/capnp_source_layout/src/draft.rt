@@ -76,7 +76,9 @@ pub fn no_draft(alloc: Global, scopes: &[Scope]) -> Result<Draft, LayoutFault>
 }
 
 /// Returns an offset of at most 32 bits.
-pub fn narrowed(offset: u64) -> Result<u32, LayoutFault> {
+pub fn narrowed(offset: u64) -> Result<u32, LayoutFault>
+    ensures { IfOk result (λ narrow. narrow ≡ offset) }
+{
     match u32::try_from(offset) {
         Ok(narrow) => Ok(narrow),
         Err(_) => Err(LayoutFault::TooLarge),
@@ -171,7 +173,8 @@ fn place_step(
     ensures discriminants { IfOk result (λ _. vec_len draft.new.discriminants
         ≡ vec_len draft.old.discriminants) }
     ensures words { IfOk result (λ _. draft.old.sections.words ≤ draft.new.sections.words) }
-    ensures pointers { IfOk result (λ _. draft.old.sections.pointers ≤ draft.new.sections.pointers) }
+    ensures pointers { IfOk result
+        (λ _. draft.old.sections.pointers ≤ draft.new.sections.pointers) }
 {
     match step {
         Step::Field { scope, size } => Ok(add_field(alloc, draft, scopes, scope, size)?),
@@ -193,7 +196,8 @@ fn add_discriminant(
     ensures discriminants { IfOk result (λ _. vec_len draft.new.discriminants
         ≡ vec_len draft.old.discriminants) }
     ensures words { IfOk result (λ _. draft.old.sections.words ≤ draft.new.sections.words) }
-    ensures pointers { IfOk result (λ _. draft.old.sections.pointers ≤ draft.new.sections.pointers) }
+    ensures pointers { IfOk result
+        (λ _. draft.old.sections.pointers ≤ draft.new.sections.pointers) }
 {
     let parent = parent_of(scopes, union)?;
     let step = draft.offsets.len();
@@ -260,7 +264,8 @@ fn add_field(
     ensures discriminants { IfOk result (λ _. vec_len draft.new.discriminants
         ≡ vec_len draft.old.discriminants) }
     ensures words { IfOk result (λ _. draft.old.sections.words ≤ draft.new.sections.words) }
-    ensures pointers { IfOk result (λ _. draft.old.sections.pointers ≤ draft.new.sections.pointers) }
+    ensures pointers { IfOk result
+        (λ _. draft.old.sections.pointers ≤ draft.new.sections.pointers) }
 {
     let places = places_around(alloc, scopes, scope)?;
     let mut levels = take_levels(alloc, &mut draft.shared, &mut draft.used, &places)?;

@@ -10,7 +10,7 @@ use std::alloc::{AllocError, Global};
 pub const MOST_WORDS: usize = (1 << 29) - 1;
 
 /// Adds words to bytes, each with its lowest byte first.
-fn put_words(bytes: &mut Vec<u8>, words: &[u64]) -> Result<(), AllocError>
+pub(crate) fn put_words(bytes: &mut Vec<u8>, words: &[u64]) -> Result<(), AllocError>
     ensures { IfOk result (λ _. bytes.new.items ≡ with_words bytes.old.items words.now) }
 {
     let mut left = words;

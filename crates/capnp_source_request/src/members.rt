@@ -1,5 +1,8 @@
 //! Fields, enumerants and methods as structs of schema.capnp.
 
+ghost use Rattle.std.specs.Prelude.{◌≡◌, ◌==◌, IfOk, length, vec_len};
+ghost use Rattle.capnp_source_request.specs.Objects.{is_null};
+
 use crate::faults::RequestFault;
 use crate::objects::{parts, structs, text, word_of_four};
 use crate::types::{brand_object, type_object};
@@ -14,7 +17,9 @@ use std::alloc::Global;
 const NO_DISCRIMINANT: u16 = 0xffff;
 
 /// Annotations as a list of `Annotation`.
-pub fn annotation_list(alloc: Global, annotations: &[Annotation]) -> Result<Object, RequestFault> {
+pub fn annotation_list(alloc: Global, annotations: &[Annotation]) -> Result<Object, RequestFault>
+    ensures { IfOk result (λ o. is_null o ≡ (length annotations.now == 0)) }
+{
     let mut list = Vec::new(alloc);
     for annotation in annotations {
         let value = value_object(alloc, &annotation.value)?;
@@ -25,7 +30,9 @@ pub fn annotation_list(alloc: Global, annotations: &[Annotation]) -> Result<Obje
 }
 
 /// The names of type parameters as a list of `Node.Parameter`.
-pub fn parameter_list(alloc: Global, names: &[String]) -> Result<Object, RequestFault> {
+pub fn parameter_list(alloc: Global, names: &[String]) -> Result<Object, RequestFault>
+    ensures { IfOk result (λ o. is_null o ≡ (length names.now == 0)) }
+{
     let mut list = Vec::new(alloc);
     for name in names {
         let name = text(alloc, name.as_bytes())?;
@@ -73,7 +80,9 @@ fn field_parts(alloc: Global, field: &Field) -> Result<Parts, RequestFault> {
 }
 
 /// The fields of a struct as a list of `Field`.
-pub fn field_list(alloc: Global, fields: &[Field]) -> Result<Object, RequestFault> {
+pub fn field_list(alloc: Global, fields: &[Field]) -> Result<Object, RequestFault>
+    ensures { IfOk result (λ o. is_null o ≡ (length fields.now == 0)) }
+{
     let mut list = Vec::new(alloc);
     for field in fields {
         list.push(field_parts(alloc, field)?)?;
@@ -82,7 +91,9 @@ pub fn field_list(alloc: Global, fields: &[Field]) -> Result<Object, RequestFaul
 }
 
 /// The members of an enum as a list of `Enumerant`.
-pub fn enumerant_list(alloc: Global, enumerants: &[Enumerant]) -> Result<Object, RequestFault> {
+pub fn enumerant_list(alloc: Global, enumerants: &[Enumerant]) -> Result<Object, RequestFault>
+    ensures { IfOk result (λ o. is_null o ≡ (length enumerants.now == 0)) }
+{
     let mut list = Vec::new(alloc);
     for enumerant in enumerants {
         let name = text(alloc, enumerant.name.as_bytes())?;
@@ -113,7 +124,9 @@ fn method_parts(alloc: Global, method: &Method) -> Result<Parts, RequestFault> {
 }
 
 /// The interfaces that an interface extends as a list of `Superclass`.
-fn superclass_list(alloc: Global, superclasses: &[Superclass]) -> Result<Object, RequestFault> {
+fn superclass_list(alloc: Global, superclasses: &[Superclass]) -> Result<Object, RequestFault>
+    ensures { IfOk result (λ o. is_null o ≡ (length superclasses.now == 0)) }
+{
     let mut list = Vec::new(alloc);
     for superclass in superclasses {
         let brand = brand_object(alloc, &superclass.brand)?;
@@ -126,7 +139,11 @@ fn superclass_list(alloc: Global, superclasses: &[Superclass]) -> Result<Object,
 pub fn interface_lists(
     alloc: Global,
     interface: &Interface,
-) -> Result<(Object, Object), RequestFault> {
+) -> Result<(Object, Object), RequestFault>
+    ensures methods { IfOk result (λ r. is_null r.0 ≡ (vec_len interface.now.methods == 0)) }
+    ensures superclasses { IfOk result
+        (λ r. is_null r.1 ≡ (vec_len interface.now.superclasses == 0)) }
+{
     let mut methods = Vec::new(alloc);
     for method in &interface.methods {
         methods.push(method_parts(alloc, method)?)?;

@@ -1,5 +1,8 @@
 //! Nodes as structs of schema.capnp.
 
+ghost use Rattle.std.specs.Prelude.{◌≡◌, ◌==◌, IfOk, length};
+ghost use Rattle.capnp_source_request.specs.Objects.{is_null};
+
 use crate::faults::RequestFault;
 use crate::members::{
     annotation_list, enumerant_list, field_list, interface_lists, parameter_list,
@@ -139,7 +142,9 @@ fn node_parts(alloc: Global, node: &Node) -> Result<Parts, RequestFault> {
 }
 
 /// Nodes as a list of `Node`.
-pub fn node_list(alloc: Global, nodes: &[Node]) -> Result<Object, RequestFault> {
+pub fn node_list(alloc: Global, nodes: &[Node]) -> Result<Object, RequestFault>
+    ensures { IfOk result (λ o. is_null o ≡ (length nodes.now == 0)) }
+{
     let mut list = Vec::new(alloc);
     for node in nodes {
         list.push(node_parts(alloc, node)?)?;

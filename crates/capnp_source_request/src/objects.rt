@@ -1,25 +1,38 @@
 //! Objects of the parts of a message.
 
+ghost use Rattle.std.specs.Prelude.{◌≡◌, ◌+◌, ◌*◌, ◌^◌, ◌==◌, ◌++◌, ◌∷◌, [], IfOk, length, vec_len};
+ghost use Rattle.capnp_source_request.specs.Frames.{with_words};
+ghost use Rattle.capnp_source_request.specs.Objects.{is_null, IsBytes};
+
 use crate::faults::RequestFault;
+use crate::frames::put_words;
 use capnp_source_nodes::values::{Object, Parts, Width};
 use std::alloc::{AllocError, Global};
 
 /// The parts of a struct with these words of data and these pointers.
-pub fn parts(alloc: Global, words: &[u64], pointers: Vec<Object>) -> Result<Parts, AllocError> {
+pub fn parts(alloc: Global, words: &[u64], pointers: Vec<Object>) -> Result<Parts, AllocError>
+    ensures data { IfOk result (λ p. p.data.items ≡ with_words [] words.now) }
+    ensures pointers { IfOk result (λ p. p.pointers ≡ pointers) }
+{
     let mut data = Vec::new(alloc);
-    for word in words {
-        data.extend_from_slice(&word.to_le_bytes())?;
-    }
+    put_words(&mut data, words)?;
     Ok(Parts { data, pointers })
 }
 
 /// A word of four numbers of 16 bits, the lowest first.
-pub fn word_of_four(first: u16, second: u16, third: u16, fourth: u16) -> u64 {
-    u64::from(first) | u64::from(second) << 16 | u64::from(third) << 32 | u64::from(fourth) << 48
+pub fn word_of_four(first: u16, second: u16, third: u16, fourth: u16) -> u64
+    ensures { result ≡ first + second * 2 ^ 16 + third * 2 ^ 32 + fourth * 2 ^ 48 }
+{
+    u64::from(first)
+        + u64::from(second) * 0x1_0000
+        + u64::from(third) * 0x1_0000_0000
+        + u64::from(fourth) * 0x1_0000_0000_0000
 }
 
 /// A list of structs, or a null pointer if there are none.
-pub fn structs(data_words: u16, pointers: u16, elements: Vec<Parts>) -> Object {
+pub fn structs(data_words: u16, pointers: u16, elements: Vec<Parts>) -> Object
+    ensures { is_null result ≡ (vec_len elements == 0) }
+{
     if elements.is_empty() {
         return Object::Null;
     }
@@ -31,7 +44,9 @@ pub fn structs(data_words: u16, pointers: u16, elements: Vec<Parts>) -> Object {
 }
 
 /// The number of bytes, if it fits.
-fn byte_count(bytes: &[u8]) -> Result<u32, RequestFault> {
+fn byte_count(bytes: &[u8]) -> Result<u32, RequestFault>
+    ensures { IfOk result (λ count. count ≡ length bytes.now) }
+{
     match u32::try_from(bytes.len()) {
         Ok(count) => Ok(count),
         Err(_) => Err(RequestFault::TooLarge),
@@ -39,7 +54,9 @@ fn byte_count(bytes: &[u8]) -> Result<u32, RequestFault> {
 }
 
 /// Data of these bytes.
-pub fn data(alloc: Global, bytes: &[u8]) -> Result<Object, RequestFault> {
+pub fn data(alloc: Global, bytes: &[u8]) -> Result<Object, RequestFault>
+    ensures { IfOk result (IsBytes bytes.now) }
+{
     Ok(Object::Elements {
         size: Width::Byte,
         count: byte_count(bytes)?,
@@ -48,7 +65,9 @@ pub fn data(alloc: Global, bytes: &[u8]) -> Result<Object, RequestFault> {
 }
 
 /// A text of these bytes: a zero byte follows them.
-pub fn text(alloc: Global, text: &[u8]) -> Result<Object, RequestFault> {
+pub fn text(alloc: Global, text: &[u8]) -> Result<Object, RequestFault>
+    ensures { IfOk result (IsBytes (text.now ++ 0 ∷ [])) }
+{
     let mut bytes = Vec::from_slice(alloc, text)?;
     bytes.push(0)?;
     Ok(Object::Elements {
@@ -60,7 +79,9 @@ pub fn text(alloc: Global, text: &[u8]) -> Result<Object, RequestFault> {
 
 /// A copy of an object.
 #[cycle(copies)]
-pub fn copy(alloc: Global, object: &Object) -> Result<Object, AllocError> {
+pub fn copy(alloc: Global, object: &Object) -> Result<Object, AllocError>
+    ensures { IfOk result (λ o. is_null o ≡ is_null object.now) }
+{
     Ok(match object {
         Object::Null => Object::Null,
         Object::Struct(parts) => Object::Struct(copy_parts(alloc, parts)?),

@@ -1,5 +1,8 @@
 //! Types and brands as structs of schema.capnp.
 
+ghost use Rattle.std.specs.Prelude.{◌≡◌, ◌==◌, false, IfOk, length};
+ghost use Rattle.capnp_source_request.specs.Objects.{is_null};
+
 use crate::objects::{parts, structs, word_of_four};
 use capnp_source_nodes::types::{Binding, BrandScope, Type};
 use capnp_source_nodes::values::{Object, Parts};
@@ -9,7 +12,9 @@ use std::alloc::{AllocError, Global};
 const ANY_POINTER: u16 = 18;
 
 /// A type without an object: its number, and the words that follow.
-fn plain(alloc: Global, number: u16, second: u64, third: u64) -> Result<Parts, AllocError> {
+fn plain(alloc: Global, number: u16, second: u64, third: u64) -> Result<Parts, AllocError>
+    ensures { IfOk result (λ p. length p.data.items ≡ 24) }
+{
     let first = u64::from(number);
     parts(
         alloc,
@@ -20,14 +25,18 @@ fn plain(alloc: Global, number: u16, second: u64, third: u64) -> Result<Parts, A
 
 /// A type that names a node.
 #[cycle(types)]
-fn of_node(alloc: Global, number: u16, id: u64, brand: &[BrandScope]) -> Result<Parts, AllocError> {
+fn of_node(alloc: Global, number: u16, id: u64, brand: &[BrandScope]) -> Result<Parts, AllocError>
+    ensures { IfOk result (λ p. length p.data.items ≡ 24) }
+{
     let brand = brand_object(alloc, brand)?;
     parts(alloc, &[u64::from(number), id, 0], vec![in alloc; brand]?)
 }
 
 /// A type as a struct `Type`.
 #[cycle(types)]
-pub fn type_parts(alloc: Global, ty: &Type) -> Result<Parts, AllocError> {
+pub fn type_parts(alloc: Global, ty: &Type) -> Result<Parts, AllocError>
+    ensures { IfOk result (λ p. length p.data.items ≡ 24) }
+{
     let number = match ty {
         Type::Void => 0,
         Type::Bool => 1,
@@ -50,7 +59,9 @@ pub fn type_parts(alloc: Global, ty: &Type) -> Result<Parts, AllocError> {
 
 /// A type that has more than a number.
 #[cycle(types)]
-fn wide_type_parts(alloc: Global, ty: &Type) -> Result<Parts, AllocError> {
+fn wide_type_parts(alloc: Global, ty: &Type) -> Result<Parts, AllocError>
+    ensures { IfOk result (λ p. length p.data.items ≡ 24) }
+{
     match ty {
         Type::List(element) => {
             let mut object = Object::Null;
@@ -77,7 +88,9 @@ fn wide_type_parts(alloc: Global, ty: &Type) -> Result<Parts, AllocError> {
 
 /// A brand as a pointer to a struct `Brand`, null if nothing is bound.
 #[cycle(types)]
-pub fn brand_object(alloc: Global, brand: &[BrandScope]) -> Result<Object, AllocError> {
+pub fn brand_object(alloc: Global, brand: &[BrandScope]) -> Result<Object, AllocError>
+    ensures { IfOk result (λ o. is_null o ≡ (length brand.now == 0)) }
+{
     if brand.is_empty() {
         return Ok(Object::Null);
     }
@@ -118,6 +131,8 @@ fn binding_parts(alloc: Global, argument: &Option<Type>) -> Result<Parts, AllocE
 }
 
 /// A type as a pointer to a struct `Type`.
-pub fn type_object(alloc: Global, ty: &Type) -> Result<Object, AllocError> {
+pub fn type_object(alloc: Global, ty: &Type) -> Result<Object, AllocError>
+    ensures { IfOk result (λ o. is_null o ≡ false) }
+{
     Ok(Object::Struct(type_parts(alloc, ty)?))
 }

@@ -1,5 +1,8 @@
 //! Values as structs of schema.capnp.
 
+ghost use Rattle.std.specs.Prelude.{◌≡◌, false, IfOk};
+ghost use Rattle.capnp_source_request.specs.Objects.{is_null};
+
 use crate::faults::RequestFault;
 use crate::objects::{copy, data, parts, text, word_of_four};
 use capnp_source_nodes::values::{Object, Value};
@@ -58,7 +61,9 @@ fn value_pointer(alloc: Global, value: &Value) -> Result<Object, RequestFault> {
 }
 
 /// A value as a pointer to a struct `Value`.
-pub fn value_object(alloc: Global, value: &Value) -> Result<Object, RequestFault> {
+pub fn value_object(alloc: Global, value: &Value) -> Result<Object, RequestFault>
+    ensures { IfOk result (λ o. is_null o ≡ false) }
+{
     let pointer = value_pointer(alloc, value)?;
     let (first, second) = value_words(value);
     let parts = parts(alloc, &[first, second], vec![in alloc; pointer]?)?;
@@ -70,7 +75,9 @@ pub fn default_object(
     alloc: Global,
     default: &Value,
     has_default: bool,
-) -> Result<Object, RequestFault> {
+) -> Result<Object, RequestFault>
+    ensures { IfOk result (λ o. is_null o ≡ false) }
+{
     if has_default {
         return value_object(alloc, default);
     }

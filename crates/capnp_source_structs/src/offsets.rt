@@ -2,25 +2,12 @@
 
 use crate::members::{Members, What};
 use crate::shapes::Shape;
-use capnp_source_layout::sections::DataSize;
 use capnp_source_layout::structs::{FieldSize, Layout, LayoutFault, Step, lay_out};
 use capnp_source_names::problems::{Stop, wrong};
 use capnp_source_nodes::types::Type;
+use capnp_source_rules::sizes::size_of_field;
 use capnp_source_syntax::tree::Span;
 use std::alloc::{AllocError, Global};
-
-/// Returns the size of a field of a type.
-pub fn size_of_field(ty: &Type) -> FieldSize {
-    match ty {
-        Type::Void => FieldSize::Void,
-        Type::Bool => FieldSize::Data(DataSize::Bit),
-        Type::Int8 | Type::UInt8 => FieldSize::Data(DataSize::Byte),
-        Type::Int16 | Type::UInt16 | Type::Enum { .. } => FieldSize::Data(DataSize::TwoBytes),
-        Type::Int32 | Type::UInt32 | Type::Float32 => FieldSize::Data(DataSize::FourBytes),
-        Type::Int64 | Type::UInt64 | Type::Float64 => FieldSize::Data(DataSize::EightBytes),
-        _ => FieldSize::Pointer,
-    }
-}
 
 /// Returns the steps of a layout, for members in the order of their ordinals. `types` has the type of
 /// each member, and any type for one that is not a field.
@@ -90,7 +77,7 @@ fn layout_problem(
             Span { start: 0, end: 0 },
             "a struct is too large (take fields out)",
         ),
-        LayoutFault::NoScope { .. } => (
+        LayoutFault::NoScope { .. } | LayoutFault::NotApart => (
             Span { start: 0, end: 0 },
             "a union is not supported (declare it otherwise)",
         ),

@@ -1,4 +1,4 @@
-//! Whether values stand as their canonical words.
+//! Tests whether values are laid out as their canonical words.
 ghost use Rattle.std.specs.Prelude.{◌≡◌, ◌+◌, None, IfSome, not, false};
 ghost use Rattle.std.specs.Option.{is_some};
 ghost use Rattle.capnp_model.specs.Segments.{place, words_at};
@@ -19,23 +19,24 @@ use capnp_wire_objects::arena::ReaderArena;
 use capnp_wire_objects::follow::follow_within;
 use capnp_wire_objects::place::{Place, ROOT, has_words, segment_bytes};
 
-/// Whether the pointer at a place and its value stand as the value's canonical words. At the place
-/// is the pointer. From the head on, a place behind it in its segment, are the words of what it
-/// leads to, trimmed. On a yes the head is left behind those words, else where it was.
+/// Tests whether the pointer at a place and its value are laid out as the value's canonical words.
+/// The pointer is at the place. The trimmed words below it are from the head on, a place after the
+/// pointer in its segment. On a yes, the head is moved past those words. Otherwise it stays.
 ///
 /// Pointers are followed, and objects paid for, as by `size_at`, up to the first difference. A
-/// capability is one, and so is a head that lies in another segment or not behind the pointer (the
-/// pointer itself is followed even then). It is refused only where a walk over the whole value
-/// would be:
-/// - at the first fault, by its kind;
-/// - with `ReadLimitExceeded` at the first object that costs more words than are left.
+/// capability is a difference. So is a head that is in another segment or not after the pointer,
+/// although the pointer itself is followed even then. Returns an error only if a walk over the
+/// whole value does:
+/// - the first fault, by its kind;
+/// - `ReadLimitExceeded` at the first object that costs more words than are left.
 ///
-/// A no says that the value stands with no levels more either, so a value that is only too deep is
-/// refused. It is exact in a segment of at most 2^29 - 1 words, the most that a message has. A yes
-/// is so everywhere, and says that the value is within the levels and the budget.
+/// Raising the limit of levels never turns a no into a yes, so a value that is only too deep is
+/// refused with an error. A no is exact in a segment of at most 2^29 - 1 words, which is the most
+/// that a message has. A yes is exact in any segment, and says that the value is within the levels
+/// and the budget.
 ///
-/// It takes no memory, and a step for each pointer that it follows and each word of an object, so
-/// none for an element without words. Each level takes a few hundred bytes of stack.
+/// Takes no memory. Takes a step for each pointer that is followed and each word of an object, so
+/// no step for an element without words. Each level takes a few hundred bytes of stack.
 pub fn is_canonical<A: ReaderArena>(
     arena: &A,
     limiter: &mut ReadLimiter,
@@ -56,9 +57,9 @@ pub fn is_canonical<A: ReaderArena>(
     Ok(move_on(head, end))
 }
 
-/// Whether n pointers in a row, as those of a struct, and their values stand as canonical words.
-/// From the head on are the words of what each leads to, one after the other. Where the head lies
-/// elsewhere none is followed.
+/// Tests whether n pointers in a row, such as those of a struct, and their values are laid out as
+/// canonical words. The words below each pointer are from the head on, one after the other. If the
+/// head is elsewhere, no pointer is followed.
 pub fn are_canonical<A: ReaderArena>(
     arena: &A,
     limiter: &mut ReadLimiter,
@@ -80,12 +81,12 @@ pub fn are_canonical<A: ReaderArena>(
     Ok(move_on(head, end))
 }
 
-/// Whether a struct's own words and what its pointers lead to stand as canonical words. Neither its
-/// last data word nor its last pointer is a word of zeros. From the head on are the words of what
-/// its pointers lead to, one after the other. Its own words were paid for already.
+/// Tests whether a struct's own words and the objects below it are laid out as canonical words.
+/// Neither its last data word nor its last pointer is a word of zeros. The words below its pointers
+/// are from the head on, one after the other. Its own words were paid for already.
 ///
-/// It is refused, and exact, as `is_canonical` is. Where the struct can do with less, or the head
-/// lies elsewhere, no pointer is followed.
+/// Errors come, and a no is exact, as for `is_canonical`. If the struct can do with less, or the
+/// head is elsewhere, no pointer is followed.
 pub fn is_canonical_struct<A: ReaderArena>(
     arena: &A,
     limiter: &mut ReadLimiter,
@@ -110,7 +111,7 @@ pub fn is_canonical_struct<A: ReaderArena>(
     are_canonical(arena, limiter, first, size.pointers as u32, levels, head)
 }
 
-/// Whether the words of a message's value end where its first segment does.
+/// Tests whether the words of a message's value end at the end of its first segment.
 #[inline(always)]
 fn is_last<A: ReaderArena>(arena: &A, end: Option<usize>) -> bool
     ensures some { IfSome end (λ position.
@@ -127,11 +128,11 @@ fn is_last<A: ReaderArena>(arena: &A, end: Option<usize>) -> bool
     !has_words(arena, behind, 1)
 }
 
-/// Whether a message is one segment of the canonical words of its value. Where there is a second
-/// segment it is not, no pointer is followed, and nothing is paid.
+/// Tests whether a message is one segment of the canonical words of its value. If there is a second
+/// segment, the answer is no, no pointer is followed, and nothing is paid.
 ///
-/// It is refused as `is_canonical` is. A no says that it is none with more levels either; it is
-/// exact where the segment has at most 2^29 - 1 words.
+/// Errors come as for `is_canonical`. Raising the limit of levels never turns a no into a yes. A no
+/// is exact if the segment has at most 2^29 - 1 words.
 pub fn is_canonical_message<A: ReaderArena>(
     arena: &A,
     limiter: &mut ReadLimiter,

@@ -14,25 +14,25 @@ use capnp_wire_objects::arena::ReaderArena;
 use capnp_wire_objects::place::{Place, segment_bytes};
 
 /// Writes the canonical words of the value of the pointer at a place: the word of the pointer to
-/// it, and behind that the words of its objects. Each object stands before those that it points to.
-/// It returns how many words there are; the slice behind them stays as it was.
+/// the value, and then the words of its objects. Each object comes before the objects that it
+/// points to. Returns the number of words. The slice after them stays as it was.
 ///
 /// Pointers are followed in the order of reading, nulls too, and objects are paid for as by
-/// `size_at`. It is refused at the first of these that is met:
+/// `size_at`. Returns the first of these errors that is met:
 /// - a fault within n levels, by its kind;
-/// - a capability, with `CapabilityInCanonical`;
-/// - an object that costs more words than are left, with `ReadLimitExceeded`.
+/// - `CapabilityInCanonical` at a capability;
+/// - `ReadLimitExceeded` at an object that costs more words than are left.
 ///
-/// It is refused with `BufferNotLargeEnough` only where the value's canonical words are more than
-/// the slice has, or than the 2^29 - 1 of a message. A slice that has room for the canonical words
-/// always suffices. Where there is no such value, since a fault follows, it may be refused so
-/// before the fault is met. Then the words that were granted, and one for the pointer, are more
-/// than there is room for. So a slice of a word more than the limiter has left suffices too, where
-/// that is no more than 2^29 - 1. After a refusal the first words of the slice, as many as were
-/// granted and one, may have been written.
+/// Returns `BufferNotLargeEnough` only if the value's canonical words are more than the slice has,
+/// or more than the 2^29 - 1 of a message. A slice that has room for the canonical words always
+/// suffices. If a fault follows, there is no such value, and this error may come before the fault
+/// is met. Then the words that were granted, and one for the pointer, are more than there is room
+/// for. So a slice of a word more than the limiter has left suffices too, if that is at most 2^29 -
+/// 1. After an error, the first words of the slice, one more than were granted, may have been
+/// written.
 ///
-/// It is one walk, and takes a step for each pointer that it follows and each word of an object.
-/// Each level takes a few hundred bytes of stack.
+/// The copy is one walk. It takes a step for each pointer that is followed and each word of an
+/// object. Each level takes a few hundred bytes of stack.
 pub fn write_canonical<A: ReaderArena>(
     arena: &A,
     limiter: &mut ReadLimiter,

@@ -1,4 +1,4 @@
-//! What a canonical message keeps of structs.
+//! The words of structs that a canonical message keeps.
 ghost use Rattle.std.specs.Prelude.{◌≡◌, ℕ, ◌+◌, ◌*◌, ◌^◌, ◌≤◌, ◌<◌};
 ghost use Rattle.capnp_model.specs.Sections.{needed_words};
 ghost use Rattle.capnp_model.specs.Segments.{after};
@@ -16,7 +16,7 @@ use crate::words::pointer_to_struct;
 use capnp_wire_objects::arena::ReaderArena;
 use capnp_wire_objects::place::Place;
 
-/// How the words of a struct are cut: those of its data and its pointers, and of each how many are
+/// The cut of a struct: the words of its data and its pointers, and the number of each that is
 /// kept.
 #[derive(Clone, Copy)]
 pub(crate) struct Cut {
@@ -26,7 +26,7 @@ pub(crate) struct Cut {
     pub(crate) kept_pointers: u16,
 }
 
-/// The least sizes that n structs in a row can do with.
+/// Returns the least sizes that n structs in a row can do with.
 #[inline(always)]
 pub(crate) fn cut_of<A: ReaderArena>(
     arena: &A,
@@ -62,7 +62,8 @@ pub(crate) fn cut_of<A: ReaderArena>(
     }
 }
 
-/// The pointer to a struct that begins n words behind it. An empty one lies at the pointer itself.
+/// Returns the pointer to a struct that begins n words after the pointer. An empty struct is at the
+/// pointer itself.
 #[inline(always)]
 pub(crate) fn pointer_to_cut(gap: usize, cut: Cut) -> u64
     requires { gap < 2 ^ 29 }

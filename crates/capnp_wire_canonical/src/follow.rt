@@ -27,7 +27,7 @@ use capnp_wire_objects::object::{Object, whole};
 use capnp_wire_objects::place::{Place, word_in};
 use capnp_wire_objects::structs::{NearStruct, NearStructs};
 
-/// Refuses a capability, and an object that takes a level where none is left.
+/// Refuses a capability, and an object that takes a level if no level is left.
 #[inline(always)]
 fn ask_data(named: NamedObject, levels: u32) -> Result<()>
     ensures { MatchResult
@@ -48,10 +48,10 @@ fn ask_data(named: NamedObject, levels: u32) -> Result<()>
     }
 }
 
-/// What the pointer at a place names on a walk of at most n levels. It is counted as followed, and
-/// its pads and the object's own words are granted.
+/// Returns the object that the pointer at a place names, on a walk of at most n levels. The pointer
+/// is counted as followed, and its pads and the object's own words are granted.
 ///
-/// It is refused as `follow_within` is, and a capability with `CapabilityInCanonical`.
+/// Returns the errors of `follow_within`, and `CapabilityInCanonical` for a capability.
 #[inline(always)]
 pub(crate) fn follow_data<A: ReaderArena>(
     arena: &A,
@@ -70,7 +70,8 @@ pub(crate) fn follow_data<A: ReaderArena>(
     Ok(object)
 }
 
-/// What following a list costs by itself, in words: a list of voids its count.
+/// Returns the words that following a list costs by itself. For a list of voids they are as many as
+/// its elements.
 #[inline(always)]
 pub(crate) fn list_cost(list: NearList) -> u64
     requires { IsMeasured list }
@@ -83,12 +84,12 @@ pub(crate) fn list_cost(list: NearList) -> u64
     }
 }
 
-/// The list that `near_list_in` tells at a place in the segment of these bytes, on a walk of at
-/// most n levels. It is counted as followed, and the list's words are granted. `None` says nothing
-/// of what is there, and nothing was counted.
+/// Returns the list that `near_list_in` finds at a place in the segment of these bytes, on a walk
+/// of at most n levels. The pointer is counted as followed, and the list's words are granted.
+/// `None` says nothing about the place, and nothing was counted.
 ///
-/// It is refused with `ReadLimitExceeded` where the words pass what is left of the limit. Then it
-/// is counted all the same, and no word is granted.
+/// Returns `ReadLimitExceeded` if the words exceed what is left of the limit. Then the pointer is
+/// counted all the same, and no word is granted.
 #[inline(always)]
 pub(crate) fn follow_near_list<A: ReaderArena>(
     arena: &A,
@@ -119,12 +120,12 @@ pub(crate) fn follow_near_list<A: ReaderArena>(
     Ok(Some(list))
 }
 
-/// The struct that `near_struct_in` tells at a place in the segment of these bytes, on a walk of at
-/// most n levels. It is counted as followed, and the struct's words are granted. `None` says
-/// nothing of what is there, and nothing was counted.
+/// Returns the struct that `near_struct_in` finds at a place in the segment of these bytes, on a
+/// walk of at most n levels. The pointer is counted as followed, and the struct's words are
+/// granted. `None` says nothing about the place, and nothing was counted.
 ///
-/// It is refused with `ReadLimitExceeded` where the words pass what is left of the limit. Then it
-/// is counted all the same, and no word is granted.
+/// Returns `ReadLimitExceeded` if the words exceed what is left of the limit. Then the pointer is
+/// counted all the same, and no word is granted.
 #[inline(always)]
 pub(crate) fn follow_near_struct<A: ReaderArena>(
     arena: &A,
@@ -155,8 +156,8 @@ pub(crate) fn follow_near_struct<A: ReaderArena>(
     Ok(Some(near))
 }
 
-/// Counts the pointer at a place in the segment of these bytes as followed, where it is null. Else
-/// nothing changes.
+/// Counts the pointer at a place in the segment of these bytes as followed, if it is null.
+/// Otherwise nothing changes.
 #[inline(always)]
 pub(crate) fn follow_null<A: ReaderArena>(
     arena: &A,
@@ -179,8 +180,8 @@ pub(crate) fn follow_null<A: ReaderArena>(
     false
 }
 
-/// What following a list of structs costs by itself, in words: with its tag, and where an element
-/// has no word its count too.
+/// Returns the words that following a list of structs costs by itself: its own words with its tag,
+/// and as many as its elements if an element has no word.
 #[inline(always)]
 pub(crate) fn structs_cost(near: NearStructs) -> u64
     ensures cost { result ≡ own_cost (structs_object near) }
@@ -191,10 +192,11 @@ pub(crate) fn structs_cost(near: NearStructs) -> u64
     near.words as u64 + 1 + empty
 }
 
-/// The list of structs that `near_structs_in` tells at a place in the segment of these bytes. The
-/// pointer is counted as followed, and the list's words are granted.
+/// Returns the list of structs that `near_structs_in` finds at a place in the segment of these
+/// bytes. The pointer is counted as followed, and the list's words are granted.
 ///
-/// `None` says nothing of what is there, or the words pass what is left. Then nothing was counted.
+/// Returns `None` if the function finds nothing, which says nothing about the place, or if the
+/// words exceed what is left. Then nothing was counted.
 #[inline(always)]
 pub(crate) fn follow_structs<A: ReaderArena>(
     arena: &A,
@@ -214,7 +216,8 @@ pub(crate) fn follow_structs<A: ReaderArena>(
     Some(near)
 }
 
-/// The list of pointers that `near_pointers_in` tells, as `follow_structs` tells a list of structs.
+/// Returns the list of pointers that `near_pointers_in` finds, as `follow_structs` returns a list
+/// of structs.
 #[inline(always)]
 pub(crate) fn follow_pointers<A: ReaderArena>(
     arena: &A,

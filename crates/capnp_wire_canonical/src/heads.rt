@@ -1,4 +1,4 @@
-//! Heads: the places where the next words have to stand.
+//! Heads: the places at which the next words have to be.
 ghost use Rattle.std.specs.Prelude.{◌≡◌, ◌^◌, ◌<◌, Some, None};
 ghost use Rattle.std.specs.Bool.{OnTrue, OnFalse};
 ghost use Rattle.capnp_units.specs.Segments.{words_in};
@@ -8,8 +8,8 @@ ghost use Rattle.capnp_wire_canonical.specs.Checks.{IsBehind};
 use capnp_wire_objects::arena::ReaderArena;
 use capnp_wire_objects::place::{Place, has_words};
 
-/// Where a struct of n words stands whose pointer is at a place: from the head on, or at its
-/// pointer where it has none.
+/// Returns the start of a struct of n words whose pointer is at a place: the head, or the pointer
+/// itself if the struct has no words.
 #[inline(always)]
 pub(crate) fn struct_start(place: Place, words: usize, head: usize) -> usize
     ensures empty { words ≡ 0 → result ≡ place.position }
@@ -18,7 +18,7 @@ pub(crate) fn struct_start(place: Place, words: usize, head: usize) -> usize
     if words == 0 { place.position } else { head }
 }
 
-/// Whether a place lies behind another in its segment, at least n words on.
+/// Tests whether the head comes after a place in its segment, by at least n words.
 #[inline(always)]
 pub(crate) fn is_behind<A: ReaderArena>(arena: &A, place: Place, words: usize, head: Place) -> bool
     ensures behind { let s = words_in (A.segments arena.now) in
@@ -33,7 +33,7 @@ pub(crate) fn is_behind<A: ReaderArena>(arena: &A, place: Place, words: usize, h
         && has_words(arena, head, 0)
 }
 
-/// Moves the head to the end, where there is one.
+/// Moves the head to the end, if there is one.
 #[inline(always)]
 pub(crate) fn move_on(head: &mut Place, end: Option<usize>) -> bool
     ensures some { OnTrue result

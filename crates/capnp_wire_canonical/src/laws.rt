@@ -16,14 +16,15 @@ ghost use Rattle.capnp_wire_canonical.specs.Standing.{Hold, Stands};
 
 use capnp_units::sizes::Word;
 
-/// A copy of a value without a capability follows and pays what any walk over the value does.
+/// A copy of a value without a capability follows the same pointers, and pays the same words, as
+/// any walk over the value.
 pub fn copies_as_walks()
     ensures { (levels : ℕ) (s : Segments) (p : Place) (t : Tree) → tree_at levels s p ≡ Some t
         → has_capability t ≡ false → copy_visits levels s p ≡ visits levels s p }
 {}
 
-/// A value stands at a pointer, with its head at the next word, exactly where its canonical words
-/// do, and to their end.
+/// A value is laid out at a pointer, with its head at the next word, exactly if its canonical words
+/// are there, up to their end.
 pub fn standing_is_canonical()
     ensures words { (s : Segments) (p : Place) (t : Tree) (end : ℕ)
         → Stands s p (p.position + 1) t end → Hold s p (canonical_words t)
@@ -40,7 +41,7 @@ pub fn canonical_messages_are_copies()
         → s ≡ filled end new.words ∷ [] }
 {}
 
-/// A canonical copy follows no more pointers than it pays words, and one, also where it is stopped.
+/// A canonical copy follows at most one pointer more than it pays words, even if it is stopped.
 pub fn copies_follow_few()
     ensures begun { (n : ℕ) (s : Segments) (p : Place) (path rest : List Visit) (paid : ℕ)
         → copy_visits n s p ≡ path ++ rest → visits_cost path ≡ Some paid

@@ -1,4 +1,4 @@
-//! Whether lists of plain elements stand as their canonical words.
+//! Tests whether lists of plain elements are laid out as their canonical words.
 ghost use Rattle.std.specs.Prelude.{◌≡◌, ℕ, None, IfSome};
 ghost use Rattle.std.specs.Bool.{OnTrue, OnFalse};
 ghost use Rattle.capnp_model.specs.Spelling.{AreWords};
@@ -23,7 +23,7 @@ use capnp_wire_objects::place::{Place, word_in};
 /// A message has fewer words than this, and an offset or a count of words reaches no further.
 pub(crate) const REACH: usize = 0x2000_0000;
 
-/// Whether the bits behind a list's last element are 0.
+/// Tests whether the bits after a list's last element are 0.
 #[inline(always)]
 fn ends_clear<A: ReaderArena>(arena: &A, bytes: &[u8], list: NearList) -> bool
     requires bytes { bytes.now ≡ segment_bytes (A.segments arena.now) list.start.segment }
@@ -49,9 +49,9 @@ fn ends_clear<A: ReaderArena>(arena: &A, bytes: &[u8], list: NearList) -> bool
     word % (1 << spare) == word
 }
 
-/// Where the words of a list of plain elements end, if it stands from the head on. Then the pointer
-/// at a place leads to it there, and the bits behind its last element are 0. Its segment is the one
-/// of these bytes.
+/// Returns the end of the words of a list of plain elements, if the list is from the head on. Then
+/// the pointer at a place leads to the list, and the bits after its last element are 0. Its segment
+/// is the one of these bytes.
 #[inline(always)]
 pub(crate) fn list_end<A: ReaderArena>(
     arena: &A,
@@ -78,11 +78,12 @@ pub(crate) fn list_end<A: ReaderArena>(
     Some(head + list.words)
 }
 
-/// Where the words of the value of the pointer at a place end, where it is null, or a list of bytes
-/// that stands from the head on: the most common values. The segment is the one of these bytes.
+/// Returns the end of the words of the value of the pointer at a place, if the value is null, or a
+/// list of bytes that is from the head on. These are the most common values. The segment is the one
+/// of these bytes.
 ///
-/// `None` has no meaning: whatever is there, such a value too, `value_end` tells it. Then nothing
-/// was counted.
+/// `None` has no meaning: the value may be any, even such a value, and `value_end` finds its end.
+/// Then nothing was counted.
 #[inline(always)]
 pub(crate) fn common_end<A: ReaderArena>(
     arena: &A,

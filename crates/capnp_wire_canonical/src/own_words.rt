@@ -1,4 +1,4 @@
-//! An object's own words: how many of them are kept, and their copy.
+//! An object's own words: the number that is kept, and their copy.
 ghost use Rattle.std.specs.Prelude.{◌≡◌, ◌+◌, ◌*◌, ◌≤◌, ◌<◌, ◌^◌, ◌++◌, ℕ, max, length, take, drop, slice_index, unwrap_or};
 ghost use Rattle.std.specs.Bool.{OnTrue, OnFalse};
 ghost use Rattle.capnp_model.specs.Segments.{after, word_at};
@@ -18,7 +18,7 @@ use capnp_units::sizes::{StructSize, Word};
 use capnp_wire_objects::arena::ReaderArena;
 use capnp_wire_objects::place::{Place, segment_bytes, word_at, word_in};
 
-/// The word at a place, or 0 where there is none.
+/// Returns the word at a place, or 0 if there is no word.
 #[inline(always)]
 pub(crate) fn word_or_zero<A: ReaderArena>(arena: &A, place: Place) -> u64
     ensures word { result ≡ unwrap_or
@@ -28,7 +28,7 @@ pub(crate) fn word_or_zero<A: ReaderArena>(arena: &A, place: Place) -> u64
     word_at(arena, place).unwrap_or(0)
 }
 
-/// The word at a place in the segment of these bytes, or 0 where there is none.
+/// Returns the word at a place in the segment of these bytes, or 0 if there is no word.
 #[inline(always)]
 pub(crate) fn word_or_zero_in<A: ReaderArena>(arena: &A, bytes: &[u8], place: Place) -> u64
     requires bytes { bytes.now ≡ segment_bytes (A.segments arena.now) place.segment }
@@ -39,8 +39,8 @@ pub(crate) fn word_or_zero_in<A: ReaderArena>(arena: &A, bytes: &[u8], place: Pl
     word_in(bytes, place.position).unwrap_or(0)
 }
 
-/// How many of n words there are without zeros at the end, and at least as many as were needed
-/// before. Only the words behind those are looked at.
+/// Returns the number of words without the zeros at the end of n words, and at least the number
+/// that was needed before. Only the words after those are looked at.
 #[inline(always)]
 fn more_needed<A: ReaderArena>(arena: &A, bytes: &[u8], start: Place, count: u16, most: u16) -> u16
     requires bytes { bytes.now ≡ segment_bytes (A.segments arena.now) start.segment }
@@ -66,7 +66,7 @@ fn more_needed<A: ReaderArena>(arena: &A, bytes: &[u8], start: Place, count: u16
     most
 }
 
-/// Whether the last of n words is no zero, where there is one.
+/// Tests whether the last of n words is not zero, if there is a word.
 #[inline(always)]
 fn needs_all<A: ReaderArena>(arena: &A, start: Place, count: u16) -> bool
     requires { AreThere (words_in (A.segments arena.now)) (place_view start) count }
@@ -90,8 +90,8 @@ fn needs_all<A: ReaderArena>(arena: &A, start: Place, count: u16) -> bool
     true
 }
 
-/// Whether a struct can't do with fewer words or pointers: neither its last data word nor its last
-/// pointer is 0.
+/// Tests whether a struct can't do with fewer words or pointers: neither its last data word nor its
+/// last pointer is 0.
 #[inline(always)]
 pub(crate) fn is_least<A: ReaderArena>(arena: &A, start: Place, size: StructSize) -> bool
     requires { AreThere (words_in (A.segments arena.now)) (place_view start)
@@ -114,8 +114,8 @@ pub(crate) fn is_least<A: ReaderArena>(arena: &A, start: Place, size: StructSize
     true
 }
 
-/// The most words that any of n parts needs, each of m words and k words from the next. Where a
-/// part needs all of them no other is looked at.
+/// Returns the most words that any of n parts needs. Each part has m words, and the next is k words
+/// on. If a part needs all of its words, no other part is looked at.
 #[inline(always)]
 pub(crate) fn most_needed<A: ReaderArena>(
     arena: &A,
@@ -177,7 +177,7 @@ pub(crate) fn are_words<A: ReaderArena>(arena: &A, segment: u32)
     are_words_of(arena, segment_bytes(arena, segment), segment);
 }
 
-/// n words from a place on, where they are there.
+/// Returns n words from a place on, if they are there.
 #[inline(always)]
 fn row_of<'a, A: ReaderArena>(arena: &A, bytes: &'a [u8], start: Place, count: usize) -> &'a [Word]
     requires bytes { bytes.now ≡ segment_bytes (A.segments arena.now) start.segment }
@@ -190,8 +190,8 @@ fn row_of<'a, A: ReaderArena>(arena: &A, bytes: &'a [u8], start: Place, count: u
     &words[start.position..start.position + count]
 }
 
-/// Puts words over those from a place on, out of line: so the few that `lay` puts itself stay free
-/// of what a call keeps.
+/// Puts words over those from a place on, out of line. So the few words that `lay` puts itself don't
+/// pay for a call.
 #[inline(never)]
 fn lay_many(into: &mut [Word], at: usize, row: &[Word])
     requires { at + length row.now ≤ length into.old }
@@ -200,7 +200,7 @@ fn lay_many(into: &mut [Word], at: usize, row: &[Word])
     into[at..at + row.len()].copy_from_slice(row);
 }
 
-/// As many words, or fewer, are copied faster one by one than all at once.
+/// The most words that are copied faster one by one than all at once.
 const FEW_WORDS: usize = 6;
 
 /// Puts words over those from a place on.

@@ -1,7 +1,7 @@
-//! Where values end that stand as their canonical words.
+//! Ends of values that are laid out as their canonical words.
 //!
-//! As in `copy`, `structs_end` takes its list part by part, since a record would go through memory
-//! for each list.
+//! As in `copy`, `structs_end` takes its list part by part, because a record would go through
+//! memory for each list.
 ghost use Rattle.std.specs.Prelude.{◌≡◌, ℕ, ◌+◌, ◌*◌, ◌^◌, ◌≤◌, ◌<◌};
 ghost use Rattle.capnp_units.specs.Segments.{words_in};
 ghost use Rattle.capnp_wire_objects.specs.declared.object.Object.TheVariants as seen;
@@ -30,12 +30,13 @@ use capnp_wire_objects::object::Object;
 use capnp_wire_objects::place::{Place, segment_bytes};
 use capnp_wire_objects::structs::NearStruct;
 
-/// How many kinds of pointers the lowest two bits of a word have.
+/// The number of kinds of pointers that the lowest two bits of a word have.
 const KINDS: u64 = 4;
-/// The kind of those that lead to a landing pad, as no canonical pointer does.
+/// The kind of pointers that lead to a landing pad. A canonical pointer doesn't.
 const FAR: u64 = 2;
 
-/// Where the words of the value of the pointer at a place end, if they stand from the head on.
+/// Returns the end of the words of the value of the pointer at a place, if they are from the head
+/// on.
 #[cycle(check)]
 #[inline(always)]
 pub(crate) fn value_end<A: ReaderArena>(
@@ -60,7 +61,7 @@ pub(crate) fn value_end<A: ReaderArena>(
     any_end(arena, limiter, place, levels, head)
 }
 
-/// As `value_end`, out of line: of pointers to what `common_end` doesn't tell.
+/// Works as `value_end`, out of line, for pointers to values that `common_end` doesn't find.
 #[cycle(check)]
 #[inline(never)]
 fn other_end<A: ReaderArena>(
@@ -78,8 +79,8 @@ fn other_end<A: ReaderArena>(
     value_end(arena, limiter, place, levels, head)
 }
 
-/// As `value_end`, of a pointer in a row, which mostly is null or leads to bytes. The segment is the
-/// one of these bytes.
+/// Works as `value_end` for a pointer in a row, which mostly is null or leads to bytes. The segment
+/// is the one of these bytes.
 #[cycle(check)]
 #[inline(always)]
 fn item_end<A: ReaderArena>(
@@ -102,7 +103,7 @@ fn item_end<A: ReaderArena>(
     other_end(arena, limiter, place, levels, head)
 }
 
-/// Where the words end of whatever the pointer leads to, a near list or struct too.
+/// Returns the end of the words of any value of the pointer, even a near list or struct.
 #[cycle(check)]
 fn any_end<A: ReaderArena>(
     arena: &A,
@@ -126,7 +127,8 @@ fn any_end<A: ReaderArena>(
     object_end(arena, limiter, object, place, levels - 1, head)
 }
 
-/// Where the words end of the object that the pointer at a place leads to, which is paid for.
+/// Returns the end of the words of the object that the pointer at a place leads to. The object is
+/// paid for.
 #[cycle(check)]
 fn object_end<A: ReaderArena>(
     arena: &A,
@@ -190,7 +192,7 @@ fn object_end<A: ReaderArena>(
     }
 }
 
-/// As `struct_here`, out of line.
+/// Works as `struct_here`, out of line.
 #[cycle(check)]
 #[inline(never)]
 fn struct_end<A: ReaderArena>(
@@ -211,7 +213,7 @@ fn struct_end<A: ReaderArena>(
     struct_here(arena, limiter, place, near, levels, head)
 }
 
-/// Where the words of a struct end, if they stand from the head on.
+/// Returns the end of the words of a struct, if they are from the head on.
 #[cycle(check)]
 #[inline(always)]
 pub(crate) fn struct_here<A: ReaderArena>(
@@ -245,7 +247,7 @@ pub(crate) fn struct_here<A: ReaderArena>(
     row_end(arena, limiter, first, pointers, levels, head + words)
 }
 
-/// Where the words of a list of pointers end, if they stand from the head on.
+/// Returns the end of the words of a list of pointers, if they are from the head on.
 #[cycle(check)]
 fn pointers_end<A: ReaderArena>(
     arena: &A,
@@ -274,7 +276,7 @@ fn pointers_end<A: ReaderArena>(
     row_end(arena, limiter, start, count, levels, behind)
 }
 
-/// Where the words of a list of structs end, if they stand from the head on.
+/// Returns the end of the words of a list of structs, if they are from the head on.
 #[cycle(check)]
 fn structs_end<A: ReaderArena>(
     arena: &A,
@@ -323,7 +325,7 @@ fn structs_end<A: ReaderArena>(
     elements_end(arena, limiter, start, count, size, levels, behind)
 }
 
-/// Where the words end of what the pointers in a row lead to, if they stand from the head on.
+/// Returns the end of the words below the pointers in a row, if they are from the head on.
 #[cycle(check)]
 #[inline(always)]
 pub(crate) fn row_end<A: ReaderArena>(
@@ -354,8 +356,8 @@ pub(crate) fn row_end<A: ReaderArena>(
     Ok(Some(end))
 }
 
-/// Where the words end of what the pointers in the elements of a list of structs lead to, if they
-/// stand from the head on. Elements without pointers take no step.
+/// Returns the end of the words below the pointers in the elements of a list of structs, if they
+/// are from the head on. Elements without pointers take no step.
 #[cycle(check)]
 fn elements_end<A: ReaderArena>(
     arena: &A,

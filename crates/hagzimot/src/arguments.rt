@@ -16,22 +16,22 @@ pub fn form<'a>(alloc: Global, id: &'a str, help: &'a str) -> Arg<'a> {
         .help(help)
 }
 
-/// The files that are read, `-` for standard input, which is read where none is named.
+/// The files of messages that are read. `-` or no file means standard input.
 pub fn files<'a>(alloc: Global) -> Arg<'a> {
     Arg::new(alloc, "files")
         .value_name("FILE")
         .action(ArgAction::Append)
         .num_args(0..)
-        .help("Files of messages, one after the other; - or none for standard input")
+        .help("Read messages from these files in turn; - or no file means standard input")
 }
 
-/// The schema sources that are compiled, `-` for standard input, which is read where none is named.
+/// The schema sources that are compiled. `-` or no file means standard input.
 pub fn sources<'a>(alloc: Global) -> Arg<'a> {
     Arg::new(alloc, "files")
         .value_name("FILE")
         .action(ArgAction::Append)
         .num_args(0..)
-        .help("Schema sources; - or none for standard input")
+        .help("Compile these schema sources; - or no file means standard input")
 }
 
 /// The file that is written.
@@ -41,41 +41,42 @@ pub fn output<'a>(alloc: Global) -> Arg<'a> {
         .long("output")
         .value_name("FILE")
         .help(
-            "Writes to FILE in place of standard output. It keeps what it holds until all is written; a device or pipe is written to directly",
+            "Write to FILE, not to standard output. FILE keeps its content until everything is written; a device or a pipe is written to directly",
         )
 }
 
-/// Whether what is written is synced.
+/// The option that leaves files unsynced.
 pub fn no_sync<'a>(alloc: Global) -> Arg<'a> {
     Arg::new(alloc, "no-sync")
         .long("no-sync")
         .action(ArgAction::SetTrue)
-        .help("Ends before the system has put files that were written on the disk")
+        .help("Don't wait until the system has put written files on the disk")
 }
 
-/// The limit of words.
+/// The option that limits the words of a message.
 pub fn limit_of_words<'a>(alloc: Global) -> Arg<'a> {
     Arg::new(alloc, "words")
         .long("words")
         .value_name("N")
         .value_parser(value_parser!(u32).range(0..536_870_911))
         .help(
-            "The most words of 8 bytes that a message may have, and that following its pointers may cost; 8388608 if absent",
+            "Limit a message to N words of 8 bytes, and the cost of following its pointers to as many [default: 8388608]",
         )
 }
 
-/// The limit of levels.
+/// The option that limits the levels of pointers.
 pub fn nesting<'a>(alloc: Global) -> Arg<'a> {
     Arg::new(alloc, "nesting")
         .long("nesting")
         .value_name("N")
         .value_parser(value_parser!(u32).range(0..1025))
-        .help("The most levels of pointers that a message may have; 64 if absent")
+        .help("Limit a message to N levels of pointers [default: 64]")
 }
 
+/// The choices of what is logged.
 static LOGS: [&str; 4] = ["lines", "refused", "json", "none"];
 
-/// What is logged.
+/// The option that chooses what is logged.
 pub fn log<'a>(alloc: Global) -> Arg<'a> {
     Arg::new(alloc, "log")
         .long("log")
@@ -83,13 +84,14 @@ pub fn log<'a>(alloc: Global) -> Arg<'a> {
         .value_parser(LOGS.as_slice())
         .default_value("refused")
         .help(
-            "Which messages get a line on standard error: each (lines), those that are refused or have a refused call (refused), each as JSON (json), or none",
+            "Choose the messages that get a line on standard error: each (lines), those that are refused or have a refused call (refused), each as JSON (json), or none",
         )
 }
 
+/// The choices of what happens to a refused message.
 static ON_REFUSED: [&str; 3] = ["skip", "stop", "pass"];
 
-/// What is done at a message that is refused.
+/// The option that chooses what happens to a refused message.
 pub fn on_refused<'a>(alloc: Global) -> Arg<'a> {
     Arg::new(alloc, "on-refused")
         .long("on-refused")
@@ -97,11 +99,11 @@ pub fn on_refused<'a>(alloc: Global) -> Arg<'a> {
         .value_parser(ON_REFUSED.as_slice())
         .default_value("skip")
         .help(
-            "What happens to a message that is refused: skip it, skip it and stop there, or pass it on unedited; the status is 3",
+            "Skip a refused message, skip it and stop there, or pass it on unedited; the status is 3",
         )
 }
 
-/// Whether messages are counted.
+/// The option that reports counts.
 pub fn stats<'a>(alloc: Global) -> Arg<'a> {
     Arg::new(alloc, "stats")
         .long("stats")
@@ -111,7 +113,7 @@ pub fn stats<'a>(alloc: Global) -> Arg<'a> {
         )
 }
 
-/// Whether a refused call refuses its message.
+/// The option that lets a refused call refuse its message.
 pub fn strict<'a>(alloc: Global) -> Arg<'a> {
     Arg::new(alloc, "strict")
         .long("strict")
@@ -121,7 +123,7 @@ pub fn strict<'a>(alloc: Global) -> Arg<'a> {
         )
 }
 
-/// Whether refused calls leave the status 0.
+/// The option that leaves the status 0 if calls are refused.
 pub fn allow_refused_calls<'a>(alloc: Global) -> Arg<'a> {
     Arg::new(alloc, "allow-refused-calls")
         .long("allow-refused-calls")
@@ -134,7 +136,7 @@ pub fn refused<'a>(alloc: Global) -> Arg<'a> {
     Arg::new(alloc, "refused")
         .long("refused")
         .value_name("FILE")
-        .help("Writes the messages that are refused to FILE, as they came")
+        .help("Write the messages that are refused to FILE, as they came")
 }
 
 /// The schema file.
@@ -146,9 +148,9 @@ pub fn schema<'a>(alloc: Global) -> Arg<'a> {
         .help(SCHEMA_HELP)
 }
 
-/// What a schema file is.
+/// The help of an argument that is a schema.
 pub static SCHEMA_HELP: &str =
-    "The schema: its source (shop.capnp), what capnp compile -o- writes, or a JSON file of nodes; - for standard input";
+    "Read the schema from its source (shop.capnp), from what capnp compile -o- writes, or from a JSON schema file; - means standard input";
 
 /// The folders in which imports of schema sources are looked up.
 pub fn import_path<'a>(alloc: Global) -> Arg<'a> {
@@ -158,18 +160,16 @@ pub fn import_path<'a>(alloc: Global) -> Arg<'a> {
         .value_name("DIR")
         .action(ArgAction::Append)
         .help(
-            "A folder in which a schema source finds the imports that begin with a slash; /usr/local/include and /usr/include come after those that are named",
+            "Look up imports that begin with a slash in DIR; /usr/local/include and /usr/include come after the folders that are named",
         )
 }
 
-/// Floats as the whole numbers of their bits.
+/// An option without effect, which scripts may give.
 pub fn floats_as_bits<'a>(alloc: Global) -> Arg<'a> {
     Arg::new(alloc, "floats-as-bits")
         .long("floats-as-bits")
         .action(ArgAction::SetTrue)
-        .help(
-            "Has no effect: floats in what the compiler wrote are always read, shown and set as decimal numbers",
-        )
+        .help("Change nothing: floats are always read, shown and set as decimal numbers")
 }
 
 /// The struct at the root of messages.
@@ -178,7 +178,7 @@ pub fn root<'a>(alloc: Global) -> Arg<'a> {
         .long("root")
         .value_name("NAME|ID")
         .help(
-            "The struct at the root of messages: shop.capnp:Order, Order, Box.Item, or an id as 10 or 0xa; not needed if the schema has one struct at its top",
+            "Name the struct at the root of messages: shop.capnp:Order, Order, Box.Item, or an id as 10 or 0xa; not needed if the schema has one struct at its top",
         )
 }
 
@@ -188,7 +188,7 @@ pub fn compared_root<'a>(alloc: Global) -> Arg<'a> {
         .long("root")
         .value_name("NAME|ID")
         .help(
-            "The struct that is compared, with all that it leads to; each struct that both schemas have if it is left out",
+            "Compare this struct and everything that it leads to; without this option, each struct that both schemas have",
         )
 }
 
@@ -205,7 +205,7 @@ pub fn renames<'a>(alloc: Global) -> Arg<'a> {
     Arg::new(alloc, "renames")
         .long("renames")
         .value_name("FILE")
-        .help("A JSON file of the fields that the newer schema has by other names")
+        .help("Read from a JSON file which fields have other names in the newer schema")
 }
 
 /// A number of messages.
@@ -220,14 +220,14 @@ pub fn number<'a>(alloc: Global, id: &'a str, help: &'a str) -> Arg<'a> {
 /// The spellings of values in text.
 static STYLES: [&str; 2] = ["hagzimot", "capnp"];
 
-/// How values are spelled in text.
+/// The option that chooses how values are spelled in text.
 pub fn style<'a>(alloc: Global) -> Result<Arg<'a>, AllocError> {
     Arg::new(alloc, "style")
         .long("style")
         .value_name("STYLE")
         .value_parser(STYLES.as_slice())
         .default_value("hagzimot")
-        .help("How values are spelled: capnp prints text that `capnp encode` reads back")
+        .help("Choose how values are written: capnp prints text that `capnp encode` reads back")
         .conflicts_with("json")
 }
 
@@ -241,7 +241,7 @@ pub fn call<'a>(alloc: Global, id: &'a str, value_name: &'a str, help: &'a str) 
         .help(help)
 }
 
-/// The condition that messages have to keep.
+/// The option of the condition that messages have to meet.
 pub fn condition<'a>(alloc: Global, help: &'a str) -> Arg<'a> {
     Arg::new(alloc, "where")
         .long("where")

@@ -1,4 +1,4 @@
-//! The words that the command takes.
+//! The arguments and options of the command.
 
 use crate::arguments::{
     allow_refused_calls, call, files, floats_as_bits, form, import_path, limit_of_words, log,
@@ -18,10 +18,10 @@ fn convert<'a, 'w>(alloc: Global, taken: Taken<'w>) -> Result<Options<'a, 'w>, A
         alloc,
         taken,
         "convert",
-        "Writes the same messages in another form, each with the same segments",
+        "Write the same messages in another form, framed or packed",
     )
-    .arg(form(alloc, "in", "The form of the input"))?
-    .arg(form(alloc, "out", "The form of the output"))?
+    .arg(form(alloc, "in", "Read messages in this form"))?
+    .arg(form(alloc, "out", "Write messages in this form"))?
     .arg(limit_of_words(alloc))?
     .arg(output(alloc))?
     .arg(no_sync(alloc))?
@@ -29,15 +29,10 @@ fn convert<'a, 'w>(alloc: Global, taken: Taken<'w>) -> Result<Options<'a, 'w>, A
 }
 
 fn count<'a, 'w>(alloc: Global, taken: Taken<'w>) -> Result<Options<'a, 'w>, AllocError> {
-    Options::new(
-        alloc,
-        taken,
-        "count",
-        "Prints how many messages there are, which needs no schema",
-    )
-    .arg(form(alloc, "in", "The form of the input"))?
-    .arg(limit_of_words(alloc))?
-    .arg(files(alloc))
+    Options::new(alloc, taken, "count", "Print the number of messages")
+        .arg(form(alloc, "in", "Read messages in this form"))?
+        .arg(limit_of_words(alloc))?
+        .arg(files(alloc))
 }
 
 fn slice<'a, 'w>(alloc: Global, taken: Taken<'w>) -> Result<Options<'a, 'w>, AllocError> {
@@ -45,16 +40,16 @@ fn slice<'a, 'w>(alloc: Global, taken: Taken<'w>) -> Result<Options<'a, 'w>, All
         alloc,
         taken,
         "slice",
-        "Writes the messages of each input from one number to another, each with the same segments",
+        "Write a range of the messages of each input, each with the same segments",
     )
     .arg(number(
         alloc,
         "from",
-        "The first message that is written, counted from 1",
+        "Begin with message N of each input; the first is 1",
     ))?
-    .arg(number(alloc, "to", "The last message that is written"))?
-    .arg(form(alloc, "in", "The form of the input"))?
-    .arg(form(alloc, "out", "The form of the output"))?
+    .arg(number(alloc, "to", "End with message N of each input"))?
+    .arg(form(alloc, "in", "Read messages in this form"))?
+    .arg(form(alloc, "out", "Write messages in this form"))?
     .arg(limit_of_words(alloc))?
     .arg(output(alloc))?
     .arg(no_sync(alloc))?
@@ -66,19 +61,19 @@ fn split<'a, 'w>(alloc: Global, taken: Taken<'w>) -> Result<Options<'a, 'w>, All
         alloc,
         taken,
         "split",
-        "Writes the messages of the inputs to files of N messages each, with the same segments",
+        "Write the messages to files of N messages each, with the same segments",
     )
-    .arg(number(alloc, "every", "How many messages a file has").required(true))?
+    .arg(number(alloc, "every", "Write N messages to each file").required(true))?
     .arg(
         Arg::new(alloc, "output")
             .short('o')
             .long("output")
             .value_name("PATTERN")
             .required(true)
-            .help("The names of the files, as part-%04d.bin; no file may be there"),
+            .help("Name the files by their numbers, as part-%04d.bin; no file may be there yet"),
     )?
-    .arg(form(alloc, "in", "The form of the input"))?
-    .arg(form(alloc, "out", "The form of the output"))?
+    .arg(form(alloc, "in", "Read messages in this form"))?
+    .arg(form(alloc, "out", "Write messages in this form"))?
     .arg(limit_of_words(alloc))?
     .arg(no_sync(alloc))?
     .arg(files(alloc))
@@ -89,10 +84,10 @@ fn canonical<'a, 'w>(alloc: Global, taken: Taken<'w>) -> Result<Options<'a, 'w>,
         alloc,
         taken,
         "canonical",
-        "Writes each message in canonical form, which needs no schema; one without a value is skipped",
+        "Write each message in canonical form",
     )
-    .arg(form(alloc, "in", "The form of the input"))?
-    .arg(form(alloc, "out", "The form of the output"))?
+    .arg(form(alloc, "in", "Read messages in this form"))?
+    .arg(form(alloc, "out", "Write messages in this form"))?
     .arg(limit_of_words(alloc))?
     .arg(nesting(alloc))?
     .arg(on_refused(alloc))?
@@ -108,37 +103,37 @@ fn show<'a, 'w>(alloc: Global, taken: Taken<'w>) -> Result<Options<'a, 'w>, Allo
         alloc,
         taken,
         "show",
-        "Prints each message as text, one a line",
+        "Print each message as text, one a line",
     )
     .arg(schema(alloc))?
     .arg(import_path(alloc))?
     .arg(floats_as_bits(alloc))?
     .arg(root(alloc))?
-    .arg(form(alloc, "in", "The form of the input"))?
+    .arg(form(alloc, "in", "Read messages in this form"))?
     .arg(number(
         alloc,
         "from",
-        "The first message that is shown, counted from 1",
+        "Begin with message N of each input; the first is 1",
     ))?
-    .arg(number(alloc, "to", "The last message that is read"))?;
+    .arg(number(alloc, "to", "End with message N of each input"))?;
     with_picks(alloc, options)?
         .arg(
             Arg::new(alloc, "count")
                 .long("count")
                 .action(ArgAction::SetTrue)
-                .help("Prints how many these messages are alone"),
+                .help("Print only the number of messages"),
         )?
         .arg(
             Arg::new(alloc, "json")
                 .long("json")
                 .action(ArgAction::SetTrue)
-                .help("Prints each message as a JSON object, one a line"),
+                .help("Print each message as a JSON object, one a line"),
         )?
         .arg(
             Arg::new(alloc, "pretty")
                 .long("pretty")
                 .action(ArgAction::SetTrue)
-                .help("Prints each field on a line of its own, indented")
+                .help("Print each field on a line of its own, indented")
                 .conflicts_with("json")?,
         )?
         .arg(style(alloc)?)?
@@ -147,7 +142,7 @@ fn show<'a, 'w>(alloc: Global, taken: Taken<'w>) -> Result<Options<'a, 'w>, Allo
         .arg(files(alloc))
 }
 
-/// The words that make calls.
+/// Adds the options that make calls.
 fn with_calls<'a, 'w>(
     alloc: Global,
     options: Options<'a, 'w>,
@@ -157,7 +152,7 @@ fn with_calls<'a, 'w>(
             Arg::new(alloc, "calls")
                 .long("calls")
                 .value_name("FILE")
-                .help("A JSON file of calls"),
+                .help("Make the calls of a JSON file, before those of the options"),
         )?
         .arg(call(
             alloc,
@@ -200,7 +195,7 @@ fn with_calls<'a, 'w>(
         )
 }
 
-/// The words of a newer schema.
+/// Adds the options of a newer schema.
 fn with_newer<'a, 'w>(
     alloc: Global,
     options: Options<'a, 'w>,
@@ -211,31 +206,26 @@ fn with_newer<'a, 'w>(
             Arg::new(alloc, "newer")
                 .long("newer")
                 .value_name("SCHEMA")
-                .help("The newer schema under which messages are written and read"),
+                .help("Refuse calls that could surprise a reader with this newer schema"),
         )?
         .arg(renames(alloc).requires_arg("newer")?)
 }
 
 fn relay<'a, 'w>(alloc: Global, taken: Taken<'w>) -> Result<Options<'a, 'w>, AllocError> {
-    let options = Options::new(
-        alloc,
-        taken,
-        "relay",
-        "Edits each message and writes it; calls run in the order in which they stand, those of a file first",
-    )
-    .arg(schema(alloc))?
-    .arg(import_path(alloc))?
-    .arg(floats_as_bits(alloc))?
-    .arg(root(alloc))?;
+    let options = Options::new(alloc, taken, "relay", "Edit each message and write it")
+        .arg(schema(alloc))?
+        .arg(import_path(alloc))?
+        .arg(floats_as_bits(alloc))?
+        .arg(root(alloc))?;
     let options = with_calls(alloc, options)?
         .arg(edited(alloc))?
-        .arg(form(alloc, "in", "The form of the input"))?
-        .arg(form(alloc, "out", "The form of the output"))?
+        .arg(form(alloc, "in", "Read messages in this form"))?
+        .arg(form(alloc, "out", "Write messages in this form"))?
         .arg(
             Arg::new(alloc, "plain")
                 .long("plain")
                 .action(ArgAction::SetTrue)
-                .help("Writes messages as they were built, not in canonical form"),
+                .help("Write messages as the calls built them, not in canonical form"),
         )?;
     with_newer(alloc, options)?
         .arg(limit_of_words(alloc))?
@@ -256,13 +246,13 @@ fn version<'a, 'w>(alloc: Global, taken: Taken<'w>) -> Result<Options<'a, 'w>, A
         alloc,
         taken,
         "version",
-        "Prints the version, or what was proved of this build",
+        "Print the version, or what was proved of this build",
     )
     .arg(
         Arg::new(alloc, "proof")
             .long("proof")
             .action(ArgAction::SetTrue)
-            .help("Prints the statement of the proof: its logic, axioms and handles, as JSON"),
+            .help("Print the statement of the proof: its logic, axioms and handles, as JSON"),
     )
 }
 
@@ -271,15 +261,15 @@ fn bare_command<'a>(alloc: Global) -> Result<Command<'a>, AllocError> {
     let command = Command::new(alloc, "hagzimot")
         .bin_name("hagzimot")?
         .version(VERSION)
-        .about("Reads, checks and edits streams of Cap'n Proto messages")
+        .about("Read, check and edit streams of Cap'n Proto messages")
         .after_help(
-            "Status: 0 success; 1 the answer is no (compatible, check); 2 usage error; 3 messages skipped, unedited or not shown, or calls refused; 4 a fault of a file, a schema, memory, the input or the output",
+            "Status: 0 success; 1 the answer is no (compatible, check, diff); 2 usage error; 3 messages skipped, unedited or not shown, or calls refused; 4 a fault of a file, a schema, memory, the input or the output",
         )
         .subcommand_required(true);
     Ok(command)
 }
 
-/// The words of the subcommand of a name.
+/// Returns the subcommand of a name, or `None` if there isn't one.
 fn subcommand<'a>(
     alloc: Global,
     taken: Taken<'_>,
@@ -335,8 +325,9 @@ static SUBCOMMANDS: [&str; 20] = [
     "version",
 ];
 
-/// The command with the subcommand that the first word names, or else with each.
-// The words of the others would be made at each start, and never be read.
+/// Returns the command with the subcommand that the first argument names. If it names no
+/// subcommand, the command has all of them.
+// The options of the others would be made at each start, and never be read.
 pub fn command_line<'a>(
     alloc: Global,
     taken: Taken<'_>,

@@ -35,21 +35,26 @@ pub fn options<'a, 'w>(alloc: Global, taken: Taken<'w>) -> Result<Options<'a, 'w
         alloc,
         taken,
         "diff",
-        "Compares two streams message by message, by the records that they have under a schema",
+        "Print the differences between two streams, message by message",
     )
     .arg(schema(alloc).required(false))?
     .arg(import_path(alloc))?
     .arg(root(alloc))?
-    .arg(form(alloc, "in", "The form of both inputs"))?
+    .arg(form(alloc, "in", "Read both inputs in this form"))?
     .arg(limit_of_words(alloc))?
     .arg(nesting(alloc))?
     .arg(file(
         alloc,
         "left",
         "LEFT",
-        "A file of messages, or - for standard input",
+        "Read the messages of this file, or of standard input (-)",
     ))?
-    .arg(file(alloc, "right", "RIGHT", "The file that is compared with it"))
+    .arg(file(
+        alloc,
+        "right",
+        "RIGHT",
+        "Compare them with the messages of this file",
+    ))
 }
 
 /// An input, and the place that is read.

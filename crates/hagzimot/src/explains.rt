@@ -36,14 +36,14 @@ pub fn options<'a, 'w>(alloc: Global, taken: Taken<'w>) -> Result<Options<'a, 'w
         alloc,
         taken,
         "explain",
-        "Prints what each word of a message is, and the first fault, which needs no schema",
+        "Print what each word of a message is, and the first fault",
     )
     .arg(number(
         alloc,
         "message",
-        "The only message of each input that is explained, counted from 1",
+        "Explain only message N of each input; the first is 1",
     ))?
-    .arg(form(alloc, "in", "The form of the input"))?
+    .arg(form(alloc, "in", "Read messages in this form"))?
     .arg(limit_of_words(alloc))?
     .arg(nesting(alloc))?
     .arg(files(alloc))

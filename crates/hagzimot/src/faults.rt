@@ -1,4 +1,4 @@
-//! What is said of a fault.
+//! Failures of a run, and the texts that report them.
 
 use capnp_relay_loop::ends::Fault;
 use capnp_units::kinds::ErrorKind;
@@ -13,26 +13,26 @@ pub const WRONG_WORDS: u8 = 2;
 /// The status at a fault.
 pub const FAULT: u8 = 4;
 
-/// The status if whoever reads the output has closed the pipe: that of a program which the signal
-/// of a closed pipe ended.
+/// The status if the reader of the output has closed the pipe. It is the status of a program that
+/// the signal of a closed pipe ended.
 pub const CLOSED_PIPE: u8 = 141;
 
-/// Why a run ends before all is done.
+/// The reason for which a run ends before everything is done.
 #[derive(Debug, Drop)]
 pub enum Failure {
-    /// A growth was refused.
+    /// An allocation was refused.
     Memory,
     /// The output can't be written.
     Output,
     /// The file of messages that are skipped can't be written.
     Refused,
-    /// Whoever reads the output has closed the pipe. Nothing is said.
+    /// The reader of the output has closed the pipe. Nothing is reported.
     ClosedPipe,
     /// The arguments are wrong, in words.
     Words(String),
     /// The mistakes of a schema's source: lines that begin with a place.
     Source(String),
-    /// Anything else, in words.
+    /// Any other failure, in words.
     Text(String),
 }
 
@@ -54,7 +54,7 @@ impl From<fmt::Error> for Failure {
     }
 }
 
-/// What the kind of a framing fault says.
+/// Returns the text of a kind of framing fault.
 fn framing(kind: ErrorKind) -> &'static str {
     match kind {
         ErrorKind::InvalidNumberOfSegments =>
@@ -69,7 +69,7 @@ fn framing(kind: ErrorKind) -> &'static str {
     }
 }
 
-/// What a fault of a stream says.
+/// Returns the text of a fault of a stream.
 fn reason(fault: Fault) -> &'static str {
     match fault {
         Fault::Source => "the input can't be read",
@@ -82,7 +82,7 @@ fn reason(fault: Fault) -> &'static str {
 }
 
 impl Failure {
-    /// What is wrong with words, after the words themselves.
+    /// Returns the failure of an argument: its text, and what is wrong with it.
     pub fn words<T: Display>(alloc: Global, words: &str, why: &T) -> Failure {
         match format!(in alloc; "{words}: {why}") {
             Ok(text) => Failure::Words(text),
@@ -90,7 +90,7 @@ impl Failure {
         }
     }
 
-    /// The failure of a range of messages that has none.
+    /// Returns the failure of a range that has no message.
     pub fn contradiction(alloc: Global, first: u64, last: u64) -> Failure {
         match format!(in alloc;
             "--from {first} --to {last}: no message is chosen (--to counts from 1 too)"
@@ -100,12 +100,12 @@ impl Failure {
         }
     }
 
-    /// The failure of a file.
+    /// Returns the failure of a file, for the system's reason.
     pub fn file(alloc: Global, name: &str, why: io::Error) -> Failure {
         Failure::about(alloc, name, &why)
     }
 
-    /// What is said of a file or a word.
+    /// Returns the failure of a file or an argument: its name, and what is wrong.
     pub fn about<T: Display>(alloc: Global, name: &str, why: &T) -> Failure {
         match format!(in alloc; "{name}: {why}") {
             Ok(text) => Failure::Text(text),
@@ -113,8 +113,8 @@ impl Failure {
         }
     }
 
-    /// The failure of an output that can't be written, for the system's reason. A closed pipe ends
-    /// the run without a word.
+    /// Returns the failure of an output that can't be written, for the system's reason. A closed
+    /// pipe ends the run, and nothing is reported.
     pub fn unwritten(alloc: Global, name: &str, why: io::Error) -> Failure {
         if why.kind() == io::ErrorKind::BrokenPipe {
             return Failure::ClosedPipe;
@@ -125,7 +125,8 @@ impl Failure {
         }
     }
 
-    /// The failure of a file that has its new bytes, but may lose them if the machine stops.
+    /// Returns the failure of a file that has its new bytes, but may lose them if the machine
+    /// stops.
     pub fn unsynced(alloc: Global, name: &str, why: io::Error) -> Failure {
         match format!(in alloc;
             "{name}: written, but its folder can't be synced: {why} (it may be lost if the machine stops now)"
@@ -135,7 +136,7 @@ impl Failure {
         }
     }
 
-    /// The failure of an output whose name is wrong.
+    /// Returns the failure of an output whose name is wrong.
     pub fn output_words<T: Display>(alloc: Global, option: &str, name: &str, why: &T) -> Failure {
         match format!(in alloc; "{option} {name}: {why}") {
             Ok(text) => Failure::Words(text),
@@ -143,7 +144,7 @@ impl Failure {
         }
     }
 
-    /// The failure of two arguments that name one file, which would be lost.
+    /// Returns the failure of two arguments that name one file, which would be lost.
     pub fn one_file(
         alloc: Global,
         option: &str,
@@ -159,7 +160,7 @@ impl Failure {
         }
     }
 
-    /// The status with which a run ends that failed.
+    /// Returns the status with which the failed run ends.
     pub fn status(&self) -> u8 {
         match self {
             Failure::ClosedPipe => CLOSED_PIPE,
@@ -168,12 +169,13 @@ impl Failure {
         }
     }
 
-    /// Whether nothing is said.
+    /// Tests whether nothing is reported.
     pub fn is_silent(&self) -> bool {
         matches!(self, Failure::ClosedPipe)
     }
 
-    /// The text before the failure. Lines that begin with a place have none, because editors look for the place.
+    /// Returns the text before the failure. It is empty before lines that begin with a place,
+    /// because editors look for the place.
     pub fn front(&self) -> &'static str {
         match self {
             Failure::Source(_) => "",
@@ -181,13 +183,13 @@ impl Failure {
         }
     }
 
-    /// The failure of a schema file.
+    /// Returns the failure of a schema file.
     pub fn schema(alloc: Global, name: &str, why: &SchemaTrouble) -> Failure {
         Failure::about(alloc, name, why)
     }
 
-    /// The failure of a JSON file that isn't one of this sort, with what is wrong where a closer
-    /// look finds it.
+    /// Returns the failure of a JSON file that isn't of its sort. It says what is wrong if a closer
+    /// look finds the fault.
     pub fn form(
         alloc: Global,
         name: &str,
@@ -196,9 +198,9 @@ impl Failure {
     ) -> Failure {
         let text = match fault {
             Some(why) if why.is_memory() => return Failure::Memory,
-            Some(why) => format!(in alloc; "{name}: no {sort} file: {why}"),
+            Some(why) => format!(in alloc; "{name}: not a {sort} file: {why}"),
             None => format!(in alloc;
-                "{name}: JSON, but no {sort} file: compare it with docs/FILES.md"
+                "{name}: JSON, but not a {sort} file (the manual describes it: Calls and renames)"
             ),
         };
         match text {
@@ -207,7 +209,7 @@ impl Failure {
         }
     }
 
-    /// The failure of an input that can't be read, for the system's reason.
+    /// Returns the failure of an input that can't be read, for the system's reason.
     pub fn unread(alloc: Global, name: &str, number: u64, start: u64, why: io::Error) -> Failure {
         if start == 0 {
             return Failure::file(alloc, name, why);
@@ -218,7 +220,7 @@ impl Failure {
         }
     }
 
-    /// The failure of the message of a number of an input, which begins behind so many bytes.
+    /// Returns the failure of a message of an input: its number, and the byte at which it begins.
     pub fn stream(alloc: Global, name: &str, number: u64, start: u64, fault: Fault) -> Failure {
         let why = reason(fault);
         match format!(in alloc; "{name}: message {number}, at byte {start}: {why}") {

@@ -14,14 +14,14 @@ use std::io::{BufWriter, Read, Stderr, Stdin, Stdout, Write};
 use std::rc::Rc;
 use std::{fs, io};
 
-/// What gives the bytes of an input.
+/// The device that an input is read from.
 #[derive(Drop)]
 enum Device {
     Standard(Stdin),
     Named(File),
 }
 
-/// Where messages come from: a device, whose bytes and faults are noted on a tape.
+/// An input of messages: a device, and the tracker that notes its bytes and faults.
 #[derive(Drop)]
 pub struct Input {
     device: Device,
@@ -44,18 +44,18 @@ impl Read for Input {
     }
 }
 
-/// What takes the bytes of an output.
+/// The device or the draft that an output is written to.
 #[derive(Drop)]
 pub enum Receiver {
     Standard(Stdout),
-    /// What is written to as it is.
+    /// A file that is written to directly.
     Direct(File),
     /// A draft, until it has its name or is removed.
     Draft(Host, Option<Draft<Host>>),
 }
 
 impl Receiver {
-    /// Writes bytes, and returns how many.
+    /// Writes bytes, and returns the number that was written.
     fn write(&mut self, buf: &[u8]) -> io::Result<usize>
         ensures { WritesAtMost result buf.now }
     {
@@ -73,14 +73,14 @@ impl Receiver {
 /// An output of a run, which keeps the fault of its device.
 #[derive(Drop)]
 pub struct OutFile {
-    /// The name by which the words call it.
+    /// The name that the arguments have for the output.
     name: String,
     receiver: RefCell<Receiver>,
     fault: Cell<Option<io::Error>>,
 }
 
 impl OutFile {
-    /// The output of a name with what takes its bytes.
+    /// Returns the output of a name that writes to a receiver.
     pub fn new(alloc: Global, name: &str, receiver: Receiver) -> Result<Rc<OutFile>, Failure> {
         let out = OutFile {
             name: String::from_str(alloc, name)?,
@@ -90,17 +90,17 @@ impl OutFile {
         Ok(Rc::new(alloc, out)?)
     }
 
-    /// Standard output.
+    /// Returns standard output.
     pub fn standard(rt: &HostRuntime) -> Result<Rc<OutFile>, Failure> {
         OutFile::new(rt.alloc(), "-", Receiver::Standard(rt.stdout()))
     }
 
-    /// A sink that writes to it.
+    /// Returns a sink that writes to the output.
     pub fn sink(self: &Rc<OutFile>, alloc: Global) -> Result<OutSink, Failure> {
         open_sink(alloc, Output::Kept(Rc::clone(self)?))
     }
 
-    /// Writes bytes, and returns how many. A fault is kept.
+    /// Writes bytes, and returns the number that was written. A fault is kept.
     fn write(&self, buf: &[u8]) -> io::Result<usize>
         ensures { WritesAtMost result buf.now }
     {
@@ -117,7 +117,7 @@ impl OutFile {
         }
     }
 
-    /// Why it can't be written.
+    /// Returns the reason for which the output can't be written.
     pub fn failure(&self, alloc: Global) -> Failure {
         match self.fault.take() {
             Some(e) => Failure::unwritten(alloc, self.name.as_str(), e),
@@ -144,7 +144,7 @@ impl OutFile {
         }
     }
 
-    /// Removes a draft, if there is one; if it can't be removed it stays.
+    /// Removes the draft, if there is one. A draft that can't be removed stays.
     pub fn discard(&self) {
         let Ok(mut receiver) = self.receiver.try_borrow_mut() else {
             return;
@@ -157,7 +157,7 @@ impl OutFile {
     }
 }
 
-/// Where messages, texts or lines of the log go.
+/// An output of messages, texts or lines of the log.
 #[derive(Drop)]
 pub enum Output {
     Error(Stderr),
@@ -184,7 +184,7 @@ impl Write for Output {
 /// A sink of the command.
 pub type OutSink = Sink<BufWriter<Output>>;
 
-/// The sink of an output.
+/// Returns the sink of an output.
 pub fn open_sink(alloc: Global, output: Output) -> Result<OutSink, Failure> {
     match Sink::buffered(alloc, output) {
         Ok(sink) => Ok(sink),
@@ -192,7 +192,7 @@ pub fn open_sink(alloc: Global, output: Output) -> Result<OutSink, Failure> {
     }
 }
 
-/// The source of the input of this name, and the tape on which its bytes are noted.
+/// Opens the input of a name. The tracker notes its bytes.
 pub fn open_source(
     rt: &HostRuntime,
     name: &str,
@@ -208,7 +208,7 @@ pub fn open_source(
     }
 }
 
-/// The bytes of a file.
+/// Returns the bytes of a file.
 pub fn read_file(rt: &HostRuntime, name: &str) -> Result<Vec<u8>, Failure> {
     match fs::read(rt, name) {
         Ok(bytes) => Ok(bytes),
@@ -216,7 +216,7 @@ pub fn read_file(rt: &HostRuntime, name: &str) -> Result<Vec<u8>, Failure> {
     }
 }
 
-/// The device of the input of this name, `-` for standard input.
+/// Opens the device of an input by its name. `-` means standard input.
 fn open_device(rt: &HostRuntime, name: &str) -> Result<Device, Failure> {
     if name == "-" {
         return Ok(Device::Standard(rt.stdin()));

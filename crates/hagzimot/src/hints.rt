@@ -1,4 +1,4 @@
-//! What helps when an input is in another form than the options say.
+//! Hints for an input that is in another form than the options say.
 
 use crate::files::Input;
 use capnp_relay_loop::ends::Fault;
@@ -7,20 +7,20 @@ use capnp_stream_io::adapters::Source;
 use capnp_stream_io::traits::BufRead;
 use capnp_units::kinds::ErrorKind;
 
-/// What an input looks like by its first bytes.
+/// The form that the first bytes of an input suggest.
 #[derive(Clone, Copy, Debug, PartialEq, Eq)]
 pub enum Beginning {
-    /// As a file that gzip compressed.
+    /// A file that gzip compressed.
     Gzip,
-    /// As framed messages: a count of segments below 256. A packed message has no such bytes unless
-    /// it is empty.
+    /// Framed messages: a count of segments below 256. A packed message has such bytes only if it
+    /// is empty.
     Framed,
-    /// As anything else.
+    /// Any other input.
     Other,
 }
 
-/// Returns what an input looks like. An input that can't be read looks like anything else, and the
-/// next read says so.
+/// Returns the form that an input seems to have. It is `Other` if the input can't be read, and the
+/// next read returns the error.
 pub fn beginning_of(source: &mut Source<Input>) -> Beginning {
     match source.fill_buf() {
         Ok([0x1f, 0x8b, 0x08, ..]) => Beginning::Gzip,
@@ -29,8 +29,8 @@ pub fn beginning_of(source: &mut Source<Input>) -> Beginning {
     }
 }
 
-/// Returns what is wrong with an input at a message that can't be read, and what to do, if the
-/// input seems to be in another form.
+/// Returns what is wrong with an input at a message that can't be read, and what to do. Returns
+/// `None` if the input doesn't seem to be in another form.
 pub fn hint(form: Form, beginning: Beginning, number: u64, fault: Fault) -> Option<&'static str> {
     let Fault::Framing(kind) = fault else {
         return None;

@@ -1,4 +1,4 @@
-//! What a log is asked to do.
+//! Settings of a log, and the notes that it reads.
 
 use crate::files::{OutSink, Output};
 use capnp_relay_loop::answer::Reason;
@@ -8,11 +8,11 @@ use std::alloc::{AllocError, Global};
 use std::cell::Cell;
 use std::rc::Rc;
 
-/// Which lines are kept.
+/// The lines that a log keeps.
 #[derive(Clone, Copy, Debug, PartialEq, Eq)]
 pub enum Lines {
     All,
-    /// Those of messages that are skipped or passed on unedited, or of which a call is refused.
+    /// Those of messages that are skipped or passed on unedited, or that have a refused call.
     Refused,
     None,
     /// All, as JSON.
@@ -20,7 +20,7 @@ pub enum Lines {
 }
 
 impl Lines {
-    /// The lines that a word names.
+    /// Returns the lines that a word names.
     pub fn named(word: &str) -> Lines {
         match word {
             "lines" => Lines::All,
@@ -30,7 +30,8 @@ impl Lines {
         }
     }
 
-    /// Whether the line of a message is kept, of which something is refused or not.
+    /// Tests whether the line of a message is kept. `is_refused` says that something of the message
+    /// is refused.
     pub fn keep(self, is_refused: bool) -> bool {
         match self {
             Lines::All | Lines::Json => true,
@@ -40,12 +41,12 @@ impl Lines {
     }
 }
 
-/// Whether a call was refused.
+/// Tests whether a call was refused.
 pub fn is_refused(call: &CallOutcome) -> bool {
     matches!(call, CallOutcome::Refused(_))
 }
 
-/// Whether a message was skipped or passed on unedited, or one of its calls was refused.
+/// Tests whether a message was skipped or passed on unedited, or one of its calls was refused.
 pub fn has_refusal(outcome: &Outcome) -> bool {
     match outcome {
         Outcome::Done(_) => false,
@@ -54,41 +55,41 @@ pub fn has_refusal(outcome: &Outcome) -> bool {
     }
 }
 
-/// What is done at a message that is refused: that has no answer.
+/// The treatment of a refused message, which is a message that has no answer.
 #[derive(Clone, Copy, Debug, PartialEq, Eq)]
 pub enum OnRefused {
-    /// It is skipped.
+    /// The message is skipped.
     Skip,
-    /// It is skipped, and ends the run.
+    /// The message is skipped, and ends the run.
     Stop,
-    /// It is passed on unedited.
+    /// The message is passed on unedited.
     Pass,
 }
 
-/// What is noted of messages, for the log and the status. A clone shares the notes.
+/// Notes on messages, for the log and the status. A clone shares the notes.
 #[derive(Drop)]
 pub struct Watch {
-    /// What became of the message that was answered last.
+    /// The outcome of the message that was answered last.
     pub noted: Rc<Cell<Option<Outcome>>>,
-    /// Why that message is passed on unedited, if it is.
+    /// The reason for which that message is passed on unedited, if it is.
     pub unedited: Rc<Cell<Option<Reason>>>,
-    /// How many calls were refused, if nothing else is noted.
+    /// The number of refused calls, if nothing else is noted.
     pub refused_calls: Rc<Cell<u64>>,
-    /// Whether it is explained why a message has no answer.
+    /// The reason for which a message has no answer is explained.
     pub explains: bool,
-    /// Why the message that was answered last has no answer, with the path to the first fault.
+    /// The reason for which the last message has no answer, with the path to its first fault.
     pub why: Rc<Cell<Option<String>>>,
-    /// Whether that is noted.
+    /// There is such a reason.
     // Measured: looking at the text itself costs a small message more.
     pub has_why: Rc<Cell<bool>>,
-    /// Whether messages without an answer are passed on.
+    /// Messages without an answer are passed on.
     pub passes: bool,
-    /// Whether a message with a refused call has no answer.
+    /// A message with a refused call has no answer.
     pub is_strict: bool,
 }
 
 impl Watch {
-    /// Nothing is noted yet.
+    /// Returns empty notes.
     pub fn new(alloc: Global) -> Result<Watch, AllocError> {
         Ok(Watch {
             noted: Rc::new(alloc, Cell::new(None))?,
@@ -102,7 +103,7 @@ impl Watch {
         })
     }
 
-    /// The same notes.
+    /// Returns another owner of the same notes.
     pub fn share(&self) -> Result<Watch, AllocError> {
         Ok(Watch {
             noted: Rc::clone(&self.noted)?,
@@ -116,8 +117,8 @@ impl Watch {
         })
     }
 
-    /// Takes why the message that was answered last has no answer; `None` if it has one, or no
-    /// reason was found.
+    /// Takes the reason for which the last message has no answer. Returns `None` if the message has
+    /// an answer, or no reason was found.
     #[inline(always)]
     pub fn take_why(&self) -> Option<String> {
         if !self.has_why.get() {
@@ -127,7 +128,7 @@ impl Watch {
         self.why.take()
     }
 
-    /// Takes what is noted of the message that was answered last; `None` if nothing is.
+    /// Takes the outcome of the last message. Returns `None` if there is no note.
     pub fn take(&self) -> Option<Outcome> {
         let is_unedited = self.unedited.take().is_some();
         match self.noted.take() {
@@ -137,27 +138,27 @@ impl Watch {
     }
 }
 
-/// What a log is asked to do.
+/// The settings of a log.
 #[derive(Drop)]
 pub struct LogWords<'a> {
     pub lines: Lines,
     pub on_refused: OnRefused,
-    /// The name of the file of messages that are refused.
+    /// The name of the file of refused messages.
     pub refused: Option<&'a str>,
-    /// Where these are written.
+    /// The output of refused messages.
     pub refused_out: Option<Output>,
-    /// Whether messages and bytes are counted and reported.
+    /// Messages and bytes are counted and reported.
     pub stats: bool,
-    /// Whether calls that are refused leave the status as it is.
+    /// Refused calls leave the status as it is.
     pub allows_refused_calls: bool,
-    /// What is noted of messages, if anything is.
+    /// The notes on messages, if there are any.
     pub watch: Option<Watch>,
-    /// Where replies tell floats, if some do.
+    /// The places of floats in replies, if there are some.
     pub floats: Option<FloatReplies>,
 }
 
 impl LogWords<'_> {
-    /// Whether a message with a refused call has no answer.
+    /// Tests whether a message with a refused call has no answer.
     fn is_strict(&self) -> bool {
         match &self.watch {
             Some(watch) => watch.is_strict,
@@ -165,7 +166,7 @@ impl LogWords<'_> {
         }
     }
 
-    /// Whether each line is written as it is, and nothing else is done.
+    /// Tests whether each line is written as it is, and nothing else is done.
     pub fn are_plain(&self) -> bool {
         self.lines == Lines::All
             && self.on_refused == OnRefused::Skip
@@ -176,17 +177,17 @@ impl LogWords<'_> {
     }
 }
 
-/// What is done about messages that are refused, beside their lines.
+/// The treatment of refused messages, apart from their lines.
 #[derive(Drop)]
 pub struct Refusals {
-    /// Where they are written as they came.
+    /// The sink that gets them unchanged.
     pub sink: Option<OutSink>,
-    /// Whether the first one ends the run.
+    /// The first one ends the run.
     pub stop: bool,
 }
 
 impl Refusals {
-    /// Nothing is done about them.
+    /// Returns the treatment that does nothing.
     pub fn unseen() -> Refusals {
         Refusals {
             sink: None,
@@ -194,7 +195,7 @@ impl Refusals {
         }
     }
 
-    /// Whether something is done about them.
+    /// Tests whether something is done about them.
     pub fn are_seen(&self) -> bool {
         self.stop || self.sink.is_some()
     }

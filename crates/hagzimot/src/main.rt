@@ -1,10 +1,9 @@
-//! The command `hagzimot`: messages of files and pipes converted, made canonical, shown, checked
-//! and edited.
+//! The command `hagzimot`, which shows, edits, converts and checks messages in files and pipes.
 //!
 //! `hagzimot --help` says more. The status is
-//! - 0 if all was done,
+//! - 0 if everything was done,
 //! - 1 if the answer is no: schemas are not compatible, or a schema breaks a rule,
-//! - 2 if the words are wrong,
+//! - 2 if the command line is wrong,
 //! - 3 if messages were skipped, passed on unedited or not shown, or calls were refused,
 //! - 4 at a fault of a file, a schema, memory, the input or the output.
 #![tactic(auto)]
@@ -59,7 +58,7 @@ use std::alloc::Global;
 use std::process::ExitCode;
 use std::{env, io};
 
-/// Runs the subcommand that the words name, and returns the status.
+/// Runs the subcommand that the arguments name, and returns the status.
 fn run_subcommand(rt: &HostRuntime, matches: &ArgMatches<'_>) -> Result<u8, Failure> {
     match matches.subcommand() {
         Some(("convert", words)) => passes::convert(rt, words),
@@ -86,19 +85,19 @@ fn run_subcommand(rt: &HostRuntime, matches: &ArgMatches<'_>) -> Result<u8, Fail
     }
 }
 
-/// What the words say, or why they are wrong, or help that they ask for.
+/// Parses the arguments. An error is a mistake in them, or the help that they ask for.
 fn matches_of(alloc: Global, words: &[String]) -> Result<ArgMatches<'_>, Error> {
     let called = words.get(1).map(|word| word.as_str());
     let named = command_line(alloc, Taken::Named(words), called)?;
     match named.try_get_matches_from(words) {
         Ok(matches) => Ok(matches),
-        // What is said of the words tells of each option.
+        // The text of an error lists all options.
         Err(_) => command_line(alloc, Taken::All, called)?.try_get_matches_from(words),
     }
 }
 
-/// The status of the words behind the program's name; an error where there is no way to say what is
-/// wrong.
+/// Runs the command with the arguments of the process, and returns the status. Returns an error if
+/// standard error can't be written.
 fn run(rt: &HostRuntime) -> io::Result<u8> {
     let given = match env::args(rt) {
         Err(e) if e.kind() == io::ErrorKind::InvalidData => {
@@ -132,7 +131,7 @@ fn main(rt: HostRuntime) -> ExitCode {
         Ok(status) => ExitCode::from(status),
         Err(e) if e.kind() == io::ErrorKind::BrokenPipe => ExitCode::from(CLOSED_PIPE),
         Err(e) => {
-            // Where standard error is closed there is nowhere to say so.
+            // If standard error is closed, the error can't be reported.
             let _said = eprintln!(rt; "hagzimot: {e}");
             ExitCode::from(FAULT)
         }

@@ -27,12 +27,12 @@ pub fn options<'a, 'w>(alloc: Global, taken: Taken<'w>) -> Result<Options<'a, 'w
         alloc,
         taken,
         "make",
-        "Writes a message for each JSON object, as `show --json` prints them, in canonical form",
+        "Make a message of each JSON object, in canonical form",
     )
     .arg(schema(alloc).help(SCHEMA_HELP))?
     .arg(import_path(alloc))?
     .arg(root(alloc))?
-    .arg(form(alloc, "out", "The form of the output"))?
+    .arg(form(alloc, "out", "Write messages in this form"))?
     .arg(limit_of_words(alloc))?
     .arg(nesting(alloc))?
     .arg(output(alloc))?

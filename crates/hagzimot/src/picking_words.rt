@@ -16,28 +16,28 @@ pub fn with_picks<'a, 'w>(
     options
         .arg(condition(
             alloc,
-            "Shows only the messages that keep a condition, as 'status = sent and not has customer.email'",
+            "Show only the messages that meet a condition, as 'status = sent and not has customer.email'",
         ))?
         .arg(
             Arg::new(alloc, "fields")
                 .long("fields")
                 .value_name("PATHS")
                 .help(
-                    "Prints a table of these fields, one row a message, as number,customer.name,lines[0].count",
+                    "Print a table of these fields, one row a message, as number,customer.name,lines[0].count",
                 ),
         )?
         .arg(
             Arg::new(alloc, "tsv")
                 .long("tsv")
                 .action(ArgAction::SetTrue)
-                .help("Puts tabs between the cells of --fields, as is done by default")
+                .help("Separate the cells of --fields by tabs, which is the default")
                 .requires_arg("fields")?,
         )?
         .arg(
             Arg::new(alloc, "csv")
                 .long("csv")
                 .action(ArgAction::SetTrue)
-                .help("Puts commas between the cells of --fields")
+                .help("Separate the cells of --fields by commas")
                 .requires_arg("fields")?
                 .conflicts_with("tsv")?,
         )
@@ -47,7 +47,7 @@ pub fn with_picks<'a, 'w>(
 pub fn edited<'a>(alloc: Global) -> Arg<'a> {
     condition(
         alloc,
-        "Edits only the messages that keep a condition, as 'status = sent and not has customer.email'; the others are written unedited",
+        "Edit only the messages that meet a condition, as 'status = sent and not has customer.email'; write the others unedited",
     )
 }
 
@@ -57,7 +57,7 @@ pub fn filter<'a, 'w>(alloc: Global, taken: Taken<'w>) -> Result<Options<'a, 'w>
         alloc,
         taken,
         "filter",
-        "Writes the messages that keep a condition, each with the same segments",
+        "Write the messages that meet a condition, each with the same segments",
     )
     .arg(schema(alloc))?
     .arg(import_path(alloc))?
@@ -65,11 +65,11 @@ pub fn filter<'a, 'w>(alloc: Global, taken: Taken<'w>) -> Result<Options<'a, 'w>
     .arg(root(alloc))?
     .arg(condition(
         alloc,
-        "The condition, as 'status = sent and not has customer.email'",
+        "Write only the messages that meet this condition, as 'status = sent and not has customer.email'",
     )
     .required(true))?
-    .arg(form(alloc, "in", "The form of the input"))?
-    .arg(form(alloc, "out", "The form of the output"))?
+    .arg(form(alloc, "in", "Read messages in this form"))?
+    .arg(form(alloc, "out", "Write messages in this form"))?
     .arg(limit_of_words(alloc))?
     .arg(nesting(alloc))?
     .arg(
@@ -89,9 +89,9 @@ pub fn hash<'a, 'w>(alloc: Global, taken: Taken<'w>) -> Result<Options<'a, 'w>, 
         alloc,
         taken,
         "hash",
-        "Prints the SHA-256 of each message's canonical bytes and the message's number, which needs no schema",
+        "Print the SHA-256 of each message's canonical bytes, and the number of the message",
     )
-    .arg(form(alloc, "in", "The form of the input"))?
+    .arg(form(alloc, "in", "Read messages in this form"))?
     .arg(limit_of_words(alloc))?
     .arg(nesting(alloc))?
     .arg(files(alloc))

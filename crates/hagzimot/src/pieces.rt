@@ -1,4 +1,4 @@
-//! Subcommands that count messages or cut them out of streams, without a schema.
+//! Subcommands that count messages or copy a range of them, without a schema.
 
 use crate::faults::Failure;
 use crate::files::{Input, OutFile, OutSink, open_source};
@@ -20,7 +20,7 @@ use hagzimot_pieces::runs::{CopyFault, copy_messages};
 use std::alloc::Global;
 use std::rc::Rc;
 
-/// Which messages of an input are copied, by their numbers from 1, and how long they may be.
+/// A range of the messages of an input, by their numbers from 1, and a limit of their words.
 #[derive(Clone, Copy)]
 struct Cut {
     first: u64,
@@ -29,7 +29,7 @@ struct Cut {
     words: usize,
 }
 
-/// Why an input is not read to the end of a cut, and at which message, counted from 1.
+/// The fault that ends the reading of an input, and the number of its message, from 1.
 #[derive(Clone, Copy)]
 struct CutFault {
     fault: Fault,
@@ -37,7 +37,7 @@ struct CutFault {
 }
 
 impl Cut {
-    /// Copies one message, or passes over it, and returns how many there were.
+    /// Copies a message, or skips it if it comes before the range. Returns 1, or 0 at the end.
     fn take<I: MessageForm, O: MessageForm, W: Write>(
         self,
         alloc: Global,
@@ -60,8 +60,8 @@ impl Cut {
         copy_messages::<I, O, Source<Input>, W>(alloc, buffer, source, out, self.words, 1)
     }
 
-    /// Copies the messages of the cut from a source to a sink, and returns how many messages were
-    /// read. Where each begins is noted on the tape.
+    /// Copies the messages of the range from a source to a sink, and returns the number of messages
+    /// that were read. The tracker notes the byte at which each message begins.
     fn copy<I: MessageForm, O: MessageForm, W: Write>(
         self,
         alloc: Global,
@@ -92,7 +92,7 @@ fn failure(alloc: Global, name: &str, tape: &Tape, out: &OutFile, end: CutFault)
     }
 }
 
-/// Returns how many messages an input has.
+/// Returns the number of messages of an input.
 fn count_one(
     rt: &HostRuntime,
     name: &str,
@@ -124,7 +124,7 @@ fn count_one(
     }
 }
 
-/// Copies the messages of a cut from an input to the output.
+/// Copies the messages of a range from an input to the output.
 fn slice_one(
     rt: &HostRuntime,
     matches: &ArgMatches<'_>,
@@ -157,7 +157,7 @@ fn slice_one(
     }
 }
 
-/// Copies the messages of a cut from each input to the output.
+/// Copies the messages of a range from each input to the output.
 fn slice_all(
     rt: &HostRuntime,
     matches: &ArgMatches<'_>,
@@ -172,7 +172,7 @@ fn slice_all(
     Ok(())
 }
 
-/// `hagzimot count`: how many messages the inputs have together.
+/// Runs `hagzimot count`, which prints the number of messages of all inputs.
 pub fn count(rt: &HostRuntime, matches: &ArgMatches<'_>) -> Result<u8, Failure> {
     let alloc = rt.alloc();
     let cut = Cut {
@@ -191,7 +191,7 @@ pub fn count(rt: &HostRuntime, matches: &ArgMatches<'_>) -> Result<u8, Failure> 
     Ok(0)
 }
 
-/// `hagzimot slice`: the messages of each input from one number to another, as they came.
+/// Runs `hagzimot slice`, which copies a range of the messages of each input.
 pub fn slice(rt: &HostRuntime, matches: &ArgMatches<'_>) -> Result<u8, Failure> {
     let alloc = rt.alloc();
     let cut = Cut {

@@ -22,17 +22,17 @@ use hagzimot_show::explain::{MessageOrigin, message_line};
 use std::alloc::Global;
 use std::rc::Rc;
 
-/// A log on standard error of each line as it is, by which nothing else is done.
+/// A log on standard error that writes each line as it is, and does nothing else.
 // Measured: what `Log` looks at for each line costs a small message a tenth more.
 #[derive(Drop)]
 pub struct PlainLog {
     alloc: Global,
     inner: OutSink,
-    /// The tape of the input that is read.
+    /// The tracker of the input that is read.
     tape: Rc<Tape>,
-    /// The name of that input.
+    /// The name of the input.
     name: String,
-    /// How many messages of it had a line.
+    /// The number of messages of the input that have a line.
     number: u64,
     watch: Watch,
     allows_refused_calls: bool,
@@ -50,7 +50,7 @@ impl PlainLog {
         Error::from(ErrorKind::Device)
     }
 
-    /// Writes a line, and after it why its message has no answer, if that is noted.
+    /// Writes a line, and then the reason for which its message has no answer, if it is noted.
     #[inline(always)]
     fn put(&mut self, line: &[u8]) -> Result<(), Error>
         ensures { self.new.failures ≡ self.old.failures }
@@ -63,7 +63,7 @@ impl PlainLog {
         }
     }
 
-    /// Writes why the message that was answered last has no answer.
+    /// Writes the reason for which the last message has no answer.
     #[inline(never)]
     fn put_why(&mut self, why: &str) -> Result<(), Error>
         ensures { self.new.failures ≡ self.old.failures }
@@ -155,7 +155,7 @@ impl RunLog for PlainLog {
     }
 
     fn finish(&mut self) -> bool {
-        // A log that fails now has nowhere to say so.
+        // If the log fails now, the error can't be reported.
         let _flushed = self.inner.flush();
         true
     }

@@ -1,16 +1,16 @@
-//! `hagzimot version`: the version, and what was proved of the program.
+//! The subcommand `hagzimot version`: the version, and what was proved of the program.
 
 use crate::faults::Failure;
 use crate::reports::print_line;
 use clap::ArgMatches;
 use std::{env, fs, io};
 
-/// The version of this release. It stands here alone: what else names it is made from this line or
+/// The version of this release. Every other place that has the version is made from this line or
 /// compared with it.
 pub static VERSION: &str = "0.2.0";
 
-/// Where the statement lies, seen from the folder of the program: beside it, or where it is
-/// installed.
+/// The places of the statement, seen from the folder of the program: beside it, and the folder into
+/// which it is installed.
 static PLACES: [&str; 2] = [
     "hagzimot.proof.json",
     "../share/hagzimot/hagzimot.proof.json",

@@ -32,7 +32,7 @@ pub fn options<'a, 'w>(alloc: Global, taken: Taken<'w>) -> Result<Options<'a, 'w
         alloc,
         taken,
         "redact",
-        "Writes each message without the named fields and without everything that the schema does not know",
+        "Write each message without the named fields and without everything that the schema doesn't know",
     )
     .arg(schema(alloc))?
     .arg(import_path(alloc))?
@@ -41,10 +41,10 @@ pub fn options<'a, 'w>(alloc: Global, taken: Taken<'w>) -> Result<Options<'a, 'w
         alloc,
         "clear",
         "PATH",
-        "Clear a field in every message; [*] after a list stands for each element",
+        "Clear a field in every message; [*] after a list means each element",
     ))?
-    .arg(form(alloc, "in", "The form of the input"))?
-    .arg(form(alloc, "out", "The form of the output"))?
+    .arg(form(alloc, "in", "Read messages in this form"))?
+    .arg(form(alloc, "out", "Write messages in this form"))?
     .arg(limit_of_words(alloc))?
     .arg(nesting(alloc))?
     .arg(refused(alloc))?

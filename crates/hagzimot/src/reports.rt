@@ -1,4 +1,4 @@
-//! Subcommands that read one schema alone.
+//! Subcommands that read only a schema.
 
 use crate::faults::Failure;
 use crate::kinds::check_messages;
@@ -24,10 +24,11 @@ fn print_text(rt: &HostRuntime, text: &str) -> Result<u8, Failure> {
     }
 }
 
-/// The status where a schema breaks a rule.
+/// The status if a schema breaks a rule.
 const BREAKS_RULE: u8 = 1;
 
-/// `hagzimot check`: whether a schema keeps the rules, or whether messages are in kind under it.
+/// Runs `hagzimot check`, which reports whether a schema keeps the rules, or whether messages are
+/// in kind under it.
 pub fn check(rt: &HostRuntime, matches: &ArgMatches<'_>) -> Result<u8, Failure> {
     let alloc = rt.alloc();
     let id = if matches.contains_id("schema-file") {
@@ -55,7 +56,7 @@ pub fn check(rt: &HostRuntime, matches: &ArgMatches<'_>) -> Result<u8, Failure> 
     Ok(0)
 }
 
-/// `hagzimot schema`: a schema as the text of a schema file.
+/// Runs `hagzimot schema`, which prints a schema as a JSON schema file.
 pub fn schema(rt: &HostRuntime, matches: &ArgMatches<'_>) -> Result<u8, Failure> {
     let alloc = rt.alloc();
     let name = words::text(matches, "schema");

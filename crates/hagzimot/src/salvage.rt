@@ -31,7 +31,7 @@ pub fn options<'a, 'w>(alloc: Global, taken: Taken<'w>) -> Result<Options<'a, 'w
         alloc,
         taken,
         "salvage",
-        "Writes the whole messages of damaged framed streams unchanged, and reports which bytes are left out; each input is held in memory",
+        "Write the whole messages of damaged framed streams unchanged, and report which bytes are left out",
     )
     .arg(limit_of_words(alloc))?
     .arg(nesting(alloc))?
@@ -42,7 +42,7 @@ pub fn options<'a, 'w>(alloc: Global, taken: Taken<'w>) -> Result<Options<'a, 'w
             .value_parser(LOGS.as_slice())
             .default_value("lines")
             .help(
-                "What standard error gets for each input: a line for each gap and one for the counts (lines), these as JSON (json), or nothing (none)",
+                "Choose what standard error gets for each input: a line for each gap and one for the counts (lines), these as JSON (json), or nothing (none)",
             ),
     )?
     .arg(output(alloc))?

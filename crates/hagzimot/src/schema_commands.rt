@@ -14,7 +14,7 @@ pub fn check<'a, 'w>(alloc: Global, taken: Taken<'w>) -> Result<Options<'a, 'w>,
         alloc,
         taken,
         "check",
-        "Says whether a schema keeps the twelve rules of schemas, or which node breaks which; or with --messages whether the lists of messages have the element sizes that the schema names",
+        "Check that a schema keeps the twelve rules, or that the lists of messages have the element sizes that the schema names",
     )
     .arg(
         file(alloc, "schema", "SCHEMA", SCHEMA_HELP)
@@ -26,7 +26,7 @@ pub fn check<'a, 'w>(alloc: Global, taken: Taken<'w>) -> Result<Options<'a, 'w>,
         Arg::new(alloc, "schema-file")
             .long("schema")
             .value_name("SCHEMA")
-            .help("The same schema, as other commands take it"),
+            .help("Name the schema as other commands do, by an option"),
     )?
     .arg(import_path(alloc))?
     .arg(floats_as_bits(alloc))?
@@ -38,11 +38,11 @@ pub fn check<'a, 'w>(alloc: Global, taken: Taken<'w>) -> Result<Options<'a, 'w>,
             .action(ArgAction::Append)
             .num_args(1..)
             .help(
-                "Files of messages, or - for standard input: says of each whose lists aren't in kind which is the first",
+                "Check the messages of these files, or of standard input (-): report the first list of each message that isn't in kind",
             ),
     )?
     .arg(root(alloc).requires_arg("files")?)?
-    .arg(form(alloc, "in", "The form of the messages"))?
+    .arg(form(alloc, "in", "Read messages in this form"))?
     .arg(limit_of_words(alloc))?
     .arg(nesting(alloc))
 }
@@ -53,7 +53,7 @@ pub fn schema_file<'a, 'w>(alloc: Global, taken: Taken<'w>) -> Result<Options<'a
         alloc,
         taken,
         "schema",
-        "Prints a schema as a JSON file of nodes, which is taken wherever a schema is",
+        "Print a schema as a JSON schema file",
     )
     .arg(file(alloc, "schema", "SCHEMA", SCHEMA_HELP))?
     .arg(import_path(alloc))?
@@ -62,7 +62,7 @@ pub fn schema_file<'a, 'w>(alloc: Global, taken: Taken<'w>) -> Result<Options<'a
         Arg::new(alloc, "ids-as-texts")
             .long("ids-as-texts")
             .action(ArgAction::SetTrue)
-            .help("Prints ids as texts, for readers of JSON that round long numbers"),
+            .help("Print ids as texts, for readers of JSON that round long numbers"),
     )
 }
 
@@ -72,10 +72,20 @@ pub fn compatible<'a, 'w>(alloc: Global, taken: Taken<'w>) -> Result<Options<'a,
         alloc,
         taken,
         "compatible",
-        "Says whether what is written under one schema reads the same under a newer one, or which rule is broken where; status 1 where it doesn't",
+        "Check whether messages of one schema read the same under a newer one",
     )
-    .arg(file(alloc, "older", "OLD", "The older schema"))?
-    .arg(file(alloc, "newer", "NEW", "The newer schema"))?
+    .arg(file(
+        alloc,
+        "older",
+        "OLD",
+        "Read the older schema from this file",
+    ))?
+    .arg(file(
+        alloc,
+        "newer",
+        "NEW",
+        "Read the newer schema from this file",
+    ))?
     .arg(import_path(alloc))?
     .arg(floats_as_bits(alloc))?
     .arg(compared_root(alloc))?
@@ -83,13 +93,13 @@ pub fn compatible<'a, 'w>(alloc: Global, taken: Taken<'w>) -> Result<Options<'a,
         Arg::new(alloc, "all")
             .long("all")
             .action(ArgAction::SetTrue)
-            .help("Tells each pair of nodes that breaks a rule, not the first alone"),
+            .help("Report each pair of structs that breaks a rule, not only the first"),
     )?
     .arg(
         Arg::new(alloc, "both")
             .long("both")
             .action(ArgAction::SetTrue)
-            .help("Says the same of the older schema where messages of the newer are read"),
+            .help("Compare in both directions"),
     )?
     .arg(renames(alloc).conflicts_with("both")?)
 }
@@ -100,7 +110,7 @@ pub fn compile<'a, 'w>(alloc: Global, taken: Taken<'w>) -> Result<Options<'a, 'w
         alloc,
         taken,
         "compile",
-        "Compiles schema sources: writes what capnp compile -o- writes, which is taken wherever a schema is",
+        "Compile schema sources to what `capnp compile -o-` writes",
     )
     .arg(import_path(alloc))?
     .arg(output(alloc))?
@@ -114,6 +124,6 @@ pub fn id<'a, 'w>(alloc: Global, taken: Taken<'w>) -> Result<Options<'a, 'w>, Al
         alloc,
         taken,
         "id",
-        "Prints a new id of random bits, as the first line of a schema source has it",
+        "Print a new id of random bits, as the first line of a schema source has it",
     ))
 }

@@ -1,4 +1,4 @@
-//! `hagzimot show`.
+//! The subcommand `hagzimot show`.
 
 use crate::faults::Failure;
 use crate::files::{Input, OutFile, OutSink, open_source};
@@ -24,7 +24,7 @@ use hagzimot_show::show::{Chosen, Origin, ShownCounts, StreamFault, show_all};
 use std::alloc::Global;
 use std::rc::Rc;
 
-/// An input by its name, with the tape on which its bytes are noted.
+/// The name of an input, and the tracker that notes its bytes.
 #[derive(Drop)]
 struct NamedInput<'a> {
     name: &'a str,
@@ -41,7 +41,7 @@ impl Origin for NamedInput<'_> {
     }
 }
 
-/// What is shown, and how.
+/// The choice of messages that are shown, and how they are printed.
 #[derive(Clone, Copy)]
 struct Showing<'a> {
     manner: Manner<'a>,
@@ -70,7 +70,7 @@ impl Showing<'_> {
         )
     }
 
-    /// Returns the failure of an input, or of what is shown of it, at a message.
+    /// Returns the failure of an input, or of the output, at a message.
     fn failure(
         self,
         alloc: Global,
@@ -111,7 +111,7 @@ impl Showing<'_> {
             Form::Packed => self.run_in::<Packed>(alloc, &mut source, out, log, &input),
         };
         let flushed = out.flush();
-        // A log that fails now has nowhere to say so.
+        // If the log fails now, the error can't be reported.
         let _flushed_log = log.flush();
         match (end, flushed) {
             (Err(end), _) => Err(self.failure(alloc, &input, kept, beginning, end)),
@@ -135,7 +135,7 @@ fn put_number(
     Ok(())
 }
 
-/// The layout that the words ask for.
+/// Returns the layout that the options ask for.
 fn layout(matches: &ArgMatches<'_>) -> Layout {
     if matches.get_flag("json") {
         return Layout::Json;
@@ -155,7 +155,7 @@ fn spelling(matches: &ArgMatches<'_>) -> Spelling {
     }
 }
 
-/// Returns which messages the options choose.
+/// Returns the choice of messages that the options make.
 fn chosen(matches: &ArgMatches<'_>) -> Chosen {
     Chosen {
         first: matches.get_one::<u64>("from").unwrap_or(1),
@@ -164,7 +164,7 @@ fn chosen(matches: &ArgMatches<'_>) -> Chosen {
     }
 }
 
-/// Returns what is shown under a schema.
+/// Returns how the options show messages under a schema.
 fn showing_of<'a>(matches: &ArgMatches<'_>, schema: &'a RootedSchema) -> Showing<'a> {
     Showing {
         manner: Manner {
@@ -182,7 +182,7 @@ fn showing_of<'a>(matches: &ArgMatches<'_>, schema: &'a RootedSchema) -> Showing
     }
 }
 
-/// Refuses a form of cells without cells.
+/// Refuses `--csv` and `--tsv` without `--fields`.
 fn check_cells(alloc: Global, matches: &ArgMatches<'_>) -> Result<(), Failure> {
     if matches.get_str("fields").is_some() {
         return Ok(());
@@ -196,7 +196,7 @@ fn check_cells(alloc: Global, matches: &ArgMatches<'_>) -> Result<(), Failure> {
     Ok(())
 }
 
-/// `hagzimot show`.
+/// Runs `hagzimot show`, and returns the status.
 pub fn show(rt: &HostRuntime, matches: &ArgMatches<'_>) -> Result<u8, Failure> {
     let alloc = rt.alloc();
     let Chosen {

@@ -1,4 +1,4 @@
-//! How many messages and bytes a run has seen.
+//! Counts of the messages and bytes of a run.
 
 use hagzimot_outcomes::outcomes::{CallOutcome, Cause, Outcome};
 use hagzimot_outcomes::refused_calls::RefusedCalls;
@@ -6,7 +6,7 @@ use std::alloc::{AllocError, Global};
 use std::io::IsTerminal;
 use std::time::Instant;
 
-/// How many seconds there are between two lines of counts.
+/// The number of seconds between two lines of counts.
 const BETWEEN: u64 = 1;
 
 /// The counts of a run, which are reported once a second if standard error is a terminal.
@@ -14,18 +14,18 @@ const BETWEEN: u64 = 1;
 pub struct Stats {
     rt: HostRuntime,
     written: u64,
-    /// How many of those that were written are unedited.
+    /// The number of written messages that are unedited.
     unedited: u64,
     refused: u64,
     calls: RefusedCalls,
-    /// How many bytes the inputs before this one gave.
+    /// The number of bytes of the earlier inputs.
     bytes: u64,
-    /// When counts were last told; `None` where they are told at the end alone.
+    /// The time of the last report; `None` if counts are reported only at the end.
     told: Option<Instant>,
 }
 
 impl Stats {
-    /// Nothing is counted yet. Where there is no clock counts are told at the end alone.
+    /// Returns counts of nothing. If there is no clock, counts are reported only at the end.
     pub fn new(rt: &HostRuntime) -> Stats {
         let told = if rt.stderr().is_terminal() {
             Instant::now(rt).ok()
@@ -43,7 +43,7 @@ impl Stats {
         }
     }
 
-    /// Counts a message and its calls that are refused. One that is unedited is written too.
+    /// Counts a message and its refused calls. An unedited message also counts as written.
     pub fn count(&mut self, outcome: &Outcome) {
         match outcome {
             Outcome::Done(_) => {}
@@ -67,7 +67,7 @@ impl Stats {
         self.written = self.written.saturating_add(1);
     }
 
-    /// Counts the call for which a message is not edited, if it is for one.
+    /// Counts the call that prevented the edits of a message, if there is such a call.
     fn count_cause(&mut self, cause: Cause) {
         if let Cause::Call(call) = cause {
             self.calls.count(call.kind);
@@ -79,7 +79,7 @@ impl Stats {
         self.bytes = self.bytes.saturating_add(bytes);
     }
 
-    /// Whether counts are to be told again, and notes that they are.
+    /// Tests whether it is time for another report. If so, notes the time of this one.
     pub fn is_time(&mut self) -> bool {
         let Some(told) = self.told else {
             return false;
@@ -94,8 +94,8 @@ impl Stats {
         true
     }
 
-    /// The line of the counts, where the input gave so many bytes, as text or as JSON. An error
-    /// where a growth was refused.
+    /// Returns the line of the counts as text or as JSON. `given` is the number of bytes of the
+    /// current input. Returns an error if an allocation was refused.
     pub fn line(&self, alloc: Global, given: u64, as_json: bool) -> Result<String, AllocError> {
         let written = self.written;
         let unedited = self.unedited;

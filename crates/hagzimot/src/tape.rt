@@ -1,29 +1,29 @@
-//! What is noted of the bytes of an input.
+//! Notes on the bytes of an input.
 
 use std::alloc::Global;
 use std::cell::{Cell, RefCell};
 use std::io;
 
-/// Notes how many bytes an input gave, where the message begins that is read, and, where they are
-/// kept, its bytes.
+/// Notes the number of bytes of an input that were read, and the byte at which the current message
+/// begins. If bytes are kept, it also has those of the message.
 #[derive(Drop)]
 pub struct Tape {
-    /// How many bytes the input gave.
+    /// The number of bytes that were read.
     given: Cell<u64>,
-    /// How many of them stand in front of the message.
+    /// The number of bytes before the message.
     start: Cell<u64>,
-    /// Whether bytes are kept.
+    /// Bytes are kept.
     keeps: bool,
-    /// The last bytes that were given; those in front of the message may be missing.
+    /// The last bytes that were read. Those before the message may be missing.
     kept: RefCell<Vec<u8>>,
-    /// Whether a growth was refused, so that bytes are missing.
+    /// An allocation was refused, so that bytes are missing.
     is_torn: Cell<bool>,
-    /// Why the input can't be read, if it can't.
+    /// The reason for which the input can't be read, if it can't.
     fault: Cell<Option<io::Error>>,
 }
 
 impl Tape {
-    /// The tape of an input that gave nothing yet.
+    /// Returns the notes on an unread input.
     pub fn new(alloc: Global, keeps: bool) -> Tape {
         Tape {
             given: Cell::new(0),
@@ -35,19 +35,19 @@ impl Tape {
         }
     }
 
-    /// Notes why the input can't be read, and returns an error of the same kind.
+    /// Notes the reason for which the input can't be read, and returns an error of the same kind.
     pub fn note_fault(&self, fault: io::Error) -> io::Error {
         let kind = fault.kind();
         self.fault.set(Some(fault));
         io::Error::from(kind)
     }
 
-    /// Takes away why the input can't be read, if that was noted.
+    /// Takes the reason for which the input can't be read, if it was noted.
     pub fn take_fault(&self) -> Option<io::Error> {
         self.fault.take()
     }
 
-    /// Notes bytes that were given.
+    /// Notes bytes that were read.
     pub fn note(&self, bytes: &[u8]) {
         if self.keeps {
             self.keep(bytes);
@@ -56,7 +56,7 @@ impl Tape {
             .set(self.given.get().saturating_add(bytes.len() as u64));
     }
 
-    /// Keeps bytes, and lets those in front of the message go.
+    /// Keeps bytes, and drops those before the message.
     fn keep(&self, bytes: &[u8]) {
         let Ok(mut kept) = self.kept.try_borrow_mut() else {
             self.is_torn.set(true);
@@ -72,24 +72,22 @@ impl Tape {
         }
     }
 
-    /// How many bytes stand in front of the message.
+    /// Returns the number of bytes before the message.
     pub fn start(&self) -> u64 {
         self.start.get()
     }
 
-    /// Whether bytes are missing, since a growth was refused.
+    /// Tests whether bytes are missing because an allocation was refused.
     pub fn is_torn(&self) -> bool {
         self.is_torn.get()
     }
 
-    /// Notes that so many of the bytes that were given are still to be read, and that the next
-    /// message begins there.
+    /// Notes that the next message begins before the last `ahead` bytes, which were read ahead.
     pub fn turn(&self, ahead: usize) {
         self.start.set(self.given.get().wrapping_sub(ahead as u64));
     }
 
-    /// The bytes from the message's beginning to the last ones, which are so many and are still to
-    /// be read.
+    /// Returns the bytes of the message, without the last `ahead` bytes, which were read ahead.
     pub fn message(&self, alloc: Global, ahead: usize) -> Option<Vec<u8>> {
         let kept = self.kept.try_borrow().ok()?;
         let held = self.given.get().saturating_sub(self.start.get());

@@ -1,4 +1,4 @@
-//! `hagzimot compatible`.
+//! The subcommand `hagzimot compatible`.
 
 use crate::faults::Failure;
 use crate::reports::print_line;
@@ -21,13 +21,13 @@ struct Side<'a> {
 }
 
 impl<'a> Side<'a> {
-    /// The struct of an id.
+    /// Returns the struct of an id.
     fn root(self, id: u64) -> Root<'a> {
         let set = &self.schema.set;
         Root { set, id }
     }
 
-    /// The fields that are capabilities of an interface.
+    /// Returns the fields that are capabilities of an interface.
     fn interfaces(self) -> Interfaces<'a> {
         Interfaces {
             version: self.version(),
@@ -35,12 +35,12 @@ impl<'a> Side<'a> {
         }
     }
 
-    /// Whether the schema tells which fields are capabilities of which interface.
+    /// Tests whether the schema names the interfaces of its fields.
     fn tells_interfaces(self) -> bool {
         !self.schema.files.is_empty()
     }
 
-    /// The schema as sentences tell of it.
+    /// Returns the schema with its age, as sentences name it.
     fn version(self) -> Version<'a> {
         Version {
             nodes: self.schema.set.nodes(),
@@ -49,22 +49,22 @@ impl<'a> Side<'a> {
     }
 }
 
-/// What is compared, and how it is told.
+/// A comparison of two schemas, and how it is reported.
 #[derive(Drop)]
 struct Comparison<'a> {
     from: Side<'a>,
     to: Side<'a>,
     renamings: &'a Renamings,
-    /// Each break is told, not the first alone.
+    /// Each break is reported, not only the first.
     all: bool,
-    /// What stands in front of each line.
+    /// The text before each line.
     front: &'a str,
-    /// What was told of breaks so far; several structs may lead to one.
+    /// The sentences that were printed; several structs may lead to one break.
     told: HashSet<String>,
 }
 
 impl Comparison<'_> {
-    /// Prints what is said of a break, unless it was printed before.
+    /// Prints the sentence of a break, unless it was printed before.
     fn print_break(&mut self, rt: &HostRuntime, why: String) -> Result<(), Failure> {
         let line = format!(in rt.alloc(); "{}not compatible: {why}", self.front)?;
         if self.told.insert(why)? {
@@ -73,13 +73,13 @@ impl Comparison<'_> {
         Ok(())
     }
 
-    /// Whether nothing else is told.
+    /// Tests whether nothing more is reported.
     fn is_over(&self) -> bool {
         !self.all && !self.told.is_empty()
     }
 
-    /// Says which fields are capabilities of another interface in the newer version; none if a
-    /// schema doesn't tell its interfaces.
+    /// Reports the fields that are capabilities of another interface in the newer version. Reports
+    /// nothing if one of the schemas doesn't name interfaces.
     fn tell_interfaces(&mut self, rt: &HostRuntime, roots: (u64, u64)) -> Result<(), Failure> {
         let alloc = rt.alloc();
         if !self.from.tells_interfaces() || !self.to.tells_interfaces() {
@@ -97,7 +97,7 @@ impl Comparison<'_> {
         Ok(())
     }
 
-    /// Says what breaks the compatibility of two structs and of those that they lead to.
+    /// Reports what breaks the compatibility of two structs and of those that they lead to.
     fn tell_pair(&mut self, rt: &HostRuntime, roots: (u64, u64)) -> Result<(), Failure> {
         let alloc = rt.alloc();
         let (from, to) = (self.from.root(roots.0), self.to.root(roots.1));
@@ -114,8 +114,7 @@ impl Comparison<'_> {
         self.tell_interfaces(rt, roots)
     }
 
-    /// Says whether what is written under one side reads the same under the other. Returns the
-    /// status.
+    /// Reports whether messages of one side read the same under the other. Returns the status.
     fn tell(mut self, rt: &HostRuntime, pairs: &[(u64, u64)]) -> Result<u8, Failure> {
         for roots in pairs {
             if self.is_over() {
@@ -135,7 +134,7 @@ impl Comparison<'_> {
     }
 }
 
-/// The schema of the file that an argument names.
+/// Reads the schema of the file that an argument names.
 fn schema_of(
     rt: &HostRuntime,
     matches: &ArgMatches<'_>,
@@ -149,7 +148,7 @@ fn schema_of(
     }
 }
 
-/// The id of the struct that the words name as the root of a schema.
+/// Returns the id of the struct that `--root` names in a schema.
 fn root_id(
     rt: &HostRuntime,
     matches: &ArgMatches<'_>,
@@ -165,8 +164,8 @@ fn root_id(
     }
 }
 
-/// The structs that are compared, by their ids: the root that the words name, or else each that
-/// both schemas have. Says which structs the newer schema lacks.
+/// Returns the ids of the structs that are compared: the root that `--root` names or, without
+/// `--root`, each struct that both schemas have. Reports the structs that the newer schema lacks.
 fn pairs(
     rt: &HostRuntime,
     matches: &ArgMatches<'_>,
@@ -185,7 +184,7 @@ fn pairs(
     }
     let found = pairs_of(alloc, older.set.nodes(), newer.set.nodes())?;
     for name in &found.left_out {
-        // Where standard error is closed there is nowhere to say so.
+        // If standard error is closed, this can't be reported.
         let _said = eprintln!(rt;
             "left out: {name} (the newer schema has no struct of its id or name)"
         );
@@ -197,8 +196,8 @@ fn pairs(
     Ok(found.pairs)
 }
 
-/// `hagzimot compatible`: whether a newer schema keeps an older one, and with `--both` whether the
-/// older keeps the newer too.
+/// Runs `hagzimot compatible`, which reports whether a newer schema keeps an older one, and with
+/// `--both` whether the older keeps the newer too.
 pub fn compatible(rt: &HostRuntime, matches: &ArgMatches<'_>) -> Result<u8, Failure> {
     let alloc = rt.alloc();
     if words::text(matches, "older") == "-" && words::text(matches, "newer") == "-" {

@@ -1,4 +1,4 @@
-//! Answers by calls of which some run only where a member is active in the message as it is read.
+//! Answers by calls, some of which run only if a member is active in the message as it is read.
 ghost use Rattle.std.specs.Prelude.{◌≡◌, ℕ, List, map, IfOk};
 ghost use Rattle.capnp_calls.specs.CallViews.{call_view};
 ghost use Rattle.capnp_relay_loop.specs.MessageAnswers.{answer_view};
@@ -17,7 +17,7 @@ use capnp_units::kinds::ErrorKind;
 use capnp_units::sizes::Word;
 use std::alloc::{AllocError, Global};
 
-/// Whether the call of a number, counted from 0, met an inactive member, or there is no reply to it.
+/// Tests whether a call met an inactive member, or has no reply. The call has a number from 0.
 fn is_inactive(answer: &MessageAnswer, number: usize) -> bool
     ensures { (words : List (List ℕ))
         → result ≡ is_inactive_at (answer_view words answer.now) number }
@@ -38,7 +38,7 @@ fn is_inactive(answer: &MessageAnswer, number: usize) -> bool
     }
 }
 
-/// Whether a call runs, where the probes were answered so.
+/// Tests whether a call runs, given the answer of the probes.
 fn runs(probed: &MessageAnswer, call: &PlannedCall) -> bool
     ensures { (words : List (List ℕ))
         → result ≡ runs_after (answer_view words probed.now) call.now }
@@ -49,7 +49,7 @@ fn runs(probed: &MessageAnswer, call: &PlannedCall) -> bool
     }
 }
 
-/// The calls that run, where the probes were answered so.
+/// Returns the calls that run, given the answer of the probes.
 fn running_calls(
     alloc: Global,
     probed: &MessageAnswer,
@@ -67,7 +67,7 @@ fn running_calls(
     Ok(calls)
 }
 
-/// The places of the first 64 probes that met an inactive member, as bits.
+/// Returns the places of the first 64 probes that met an inactive member, as bits.
 fn inactive_bits(probed: &MessageAnswer) -> u64 {
     let mut bits: u64 = 0;
     for number in 0..64u32 {

@@ -1,4 +1,4 @@
-//! Calls that clear a member of a union only where it is active.
+//! Calls that clear a member of a union only if it is active.
 #![tactic(auto)]
 
 pub mod active;

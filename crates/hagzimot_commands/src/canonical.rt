@@ -1,4 +1,4 @@
-//! Messages in canonical form.
+//! Conversion of messages to canonical form.
 ghost use Rattle.std.specs.Prelude.{◌≡◌, ◌≤◌, IfOk, OnOk, length};
 ghost use Rattle.capnp_units.specs.Segments.{words_in};
 ghost use Rattle.capnp_relay_loop.specs.Streams.{streams_of};
@@ -26,17 +26,17 @@ use hagzimot_outcomes::notes::Notes;
 use hagzimot_outcomes::watched::Watched;
 use std::alloc::Global;
 
-/// How far messages are followed whose canonical form goes out.
+/// Limits of the messages whose canonical form is written.
 #[derive(Clone, Copy, Debug, PartialEq, Eq, Drop)]
 pub struct Canonical {
-    /// The most words that a message may have, and that following it may cost.
+    /// The most words that a message may have, and that following its pointers may cost.
     pub words: u32,
-    /// The most levels of pointers, the root's the first; a null pointer is none. Following a
-    /// message takes up to 850 bytes of stack for each.
+    /// The most levels of pointers. The root's is the first, and a null pointer isn't a level.
+    /// Following a message takes up to 850 bytes of stack for each level.
     pub nesting: u32,
 }
 
-/// Makes the buffer at least so many words long. `OutOfMemory`: it can't grow.
+/// Makes the buffer at least `count` words long. `OutOfMemory`: the buffer can't grow.
 fn make_room(words: &mut Vec<Word>, count: usize) -> Result<(), Error>
     ensures { OnOk result (count ≤ length words.new.items) }
 {
@@ -46,9 +46,9 @@ fn make_room(words: &mut Vec<Word>, count: usize) -> Result<(), Error>
     Ok(())
 }
 
-/// Writes the canonical words of a message's value to the front of a buffer, and returns how many
-/// they are. None: it has no value within the limits, or one with a capability.
-/// `BufferNotLargeEnough`: the buffer has no room for them.
+/// Writes the canonical words of a message's value to the front of a buffer, and returns their
+/// number. Returns `None` if the message has no value within the limits, or one with a capability.
+/// `BufferNotLargeEnough`: the buffer has no room for the words.
 fn write_within<M: ReaderArena>(
     message: &M,
     limits: Canonical,
@@ -70,9 +70,10 @@ fn write_within<M: ReaderArena>(
     }
 }
 
-/// As `write_within`, but the buffer grows where it has no room: first to as many words as the
-/// message has. Where its pointers share words it grows to a word more than the limits allow.
-/// `OutOfMemory`: it can't grow. `BufferNotLargeEnough`: the canonical words are 2^29 or more.
+/// Works as `write_within`, but lets the buffer grow if it has no room: first to the number of
+/// words of the message. If pointers of the message share words, the buffer grows to one word more
+/// than the limits allow. `OutOfMemory`: the buffer can't grow. `BufferNotLargeEnough`: there are
+/// 2^29 canonical words or more.
 pub fn write_value<M: ReaderArena>(
     message: &M,
     limits: Canonical,
@@ -115,16 +116,16 @@ impl Answers for Canonical {
     }
 }
 
-/// Writes the canonical form of each message of the source in turn, in one form: its one segment is
-/// the canonical words of the value of the message's root. The log has a line for each message,
-/// `written` or `refused: value`. One is refused, and skipped, that has no value within the limits,
-/// or one with a capability. A root of any kind will do. Before each read there is a pause.
-/// (Encoding, "Canonicalization")
+/// Writes the canonical form of each message of the source in turn: a segment with the canonical
+/// words of the value of the message's root, which may be of any kind. The log has a line for each
+/// message, `written` or `refused: value`. A message is refused, and skipped, if it has no value
+/// within the limits, or one with a capability. Before each read the pause runs. (Encoding,
+/// "Canonicalization")
 ///
-/// `Framing`: what is left of the source begins with no message. `Source`, `Out`, `Log`: the device
-/// failed, or a sink has no room. `Memory`: a growth was refused, or the canonical words are 2^29
-/// or more. `Size`: it is message number 2^64. What was written before stands. What became of each
-/// message is noted before its line is logged.
+/// `Framing`: the rest of the source doesn't begin with a message. `Source`, `Out`, `Log`: the
+/// device failed, or a sink has no room. `Memory`: an allocation was refused, or there are 2^29
+/// canonical words or more. `Size`: the message has the number 2^64. What was written before the
+/// error remains. The outcome of each message is noted before its line is logged.
 pub fn canonicalize_all<
     I: MessageForm,
     O: MessageForm,

@@ -1,4 +1,4 @@
-//! Messages in another form.
+//! Conversion of messages to another form.
 ghost use Rattle.capnp_relay_loop.specs.Streams.{streams_of};
 ghost use Rattle.capnp_relay_loop.specs.Pauses.{RelaysPausing};
 ghost use Rattle.hagzimot_commands.specs.Answers.{convert_work};
@@ -16,7 +16,7 @@ use capnp_units::segments::ReaderSegments;
 use capnp_units::sizes::Word;
 use std::alloc::Global;
 
-/// Messages that go out as they came.
+/// Answers that are the messages themselves.
 #[derive(Clone, Copy, Debug, Drop)]
 struct Unchanged;
 
@@ -45,14 +45,14 @@ impl Answers for Unchanged {
     }
 }
 
-/// Writes each message of the source in turn in one form: the same segments, word for word, as what
-/// was read in the other has. The log has a line `message N written` for each. A message has at
-/// most so many words. Before each read there is a pause.
+/// Writes each message of the source in turn, in another form and with the same segments, word for
+/// word. The log has a line `message N written` for each message. A message has at most `limit`
+/// words. Before each read the pause runs.
 ///
-/// `Framing`: what is left of the source begins with no message. `Source`, `Out`, `Log`: the device
-/// failed, or a sink has no room. `Memory`: a growth was refused, or a segment has 2^29 words or
-/// more. `Size`: it is message number 2^64. What was written before stands. (Encoding,
-/// "Serialization Over a Stream")
+/// `Framing`: the rest of the source doesn't begin with a message. `Source`, `Out`, `Log`: the
+/// device failed, or a sink has no room. `Memory`: an allocation was refused, or a segment has 2^29
+/// words or more. `Size`: the message has the number 2^64. What was written before the error
+/// remains. (Encoding, "Serialization Over a Stream")
 pub fn convert_all<
     I: MessageForm,
     O: MessageForm,

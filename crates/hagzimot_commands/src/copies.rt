@@ -15,7 +15,7 @@ const MOST_SEGMENTS: usize = 511;
 /// A segment has fewer bytes than this, those of 2^29 words.
 const SEGMENT_BYTES: usize = 8 * 0x2000_0000;
 
-/// Adds a copy of the whole words of a segment behind the others. `OutOfMemory`: memory for it was
+/// Appends a copy of the whole words of a segment to others. `OutOfMemory`: memory for it was
 /// refused.
 fn push_copy(alloc: Global, copies: &mut Vec<Vec<u8>>, bytes: &[u8]) -> Result<(), Error>
     ensures { OnOk result (each_segment_bytes copies.new
@@ -26,8 +26,8 @@ fn push_copy(alloc: Global, copies: &mut Vec<Vec<u8>>, bytes: &[u8]) -> Result<(
     Ok(())
 }
 
-/// Copies of the whole words of the segments of a message, in their order. `Size`: there are more
-/// than 511 of them. `Memory`: memory for them was refused, or one has 2^29 words or more.
+/// Copies the whole words of the segments of a message, in their order. `Size`: there are more than
+/// 511 segments. `Memory`: memory for the copies was refused, or a segment has 2^29 words or more.
 pub fn copy_segments<S: ReaderSegments>(alloc: Global, segments: &S) -> Result<Vec<Vec<u8>>, Want>
     ensures copies { IfOk result
         (λ copies. CopiesWholeWords (S.segments segments.now) (each_segment_bytes copies)) }

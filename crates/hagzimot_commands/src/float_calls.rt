@@ -1,4 +1,4 @@
-//! Calls files that give floats as decimal numbers.
+//! Calls files that have floats as decimal numbers.
 ghost use Rattle.std.specs.Prelude.{◌≡◌, ◌≢◌, None, IfOk, IfErr, IsUtf8};
 ghost use Rattle.hagzimot_commands.specs.FloatReplies.{json_calls, IsFloatCallsTrouble};
 
@@ -16,16 +16,16 @@ use std::fmt;
 use std::fmt::{Display, Formatter, Write};
 use std::num::f64_to_bits_with_nan;
 
-/// Why a call can't set a float.
+/// The reason for which a call can't set a float.
 #[derive(Debug, Drop)]
 pub enum FloatTrouble {
-    /// Its path leads nowhere.
+    /// The path of the call leads nowhere.
     Step(Misstep),
-    /// No float stands where its path leads.
+    /// The target of the path isn't a float.
     There(&'static str),
-    /// What is to be set is no float of the type there.
+    /// The value isn't a float of the type of the target.
     Value,
-    /// A growth was refused.
+    /// An allocation was refused.
     Memory,
 }
 
@@ -52,14 +52,14 @@ impl Display for FloatTrouble {
     }
 }
 
-/// Why a calls file with floats isn't read.
+/// The reason for which a calls file with floats isn't read.
 #[derive(Debug, Drop)]
 pub enum FloatCallsTrouble {
-    /// It is no JSON of a calls file's form.
+    /// The file isn't JSON of the form of calls files.
     Form,
-    /// The call of a number, counted from 1, can't set its float.
+    /// A call can't set its float. `number` is the number of the call, from 1.
     Call { number: usize, why: FloatTrouble },
-    /// A growth was refused.
+    /// An allocation was refused.
     Memory,
 }
 
@@ -73,8 +73,8 @@ impl From<AllocError> for FloatCallsTrouble {
     }
 }
 
-/// The word for a float of a calls file: a number's shortest text, or a text as it is, with JSON's
-/// words for infinities and NaNs too. `None` where it is neither.
+/// Returns the word for a float of a calls file: the shortest text of a number, or a text as it is.
+/// A text may also be JSON's word for an infinity or a NaN. Returns `None` for any other value.
 fn float_word(alloc: Global, json: &Json) -> Result<Option<String>, AllocError> {
     if let Some(number) = json.as_f64() {
         let bits = f64_to_bits_with_nan(number);
@@ -91,7 +91,7 @@ fn float_word(alloc: Global, json: &Json) -> Result<Option<String>, AllocError> 
     Ok(Some(String::from_str(alloc, word)?))
 }
 
-/// The steps of a path of a calls file; `None` where it is none.
+/// Returns the steps of a path of a calls file, or `None` if it isn't a path.
 fn path_in(alloc: Global, json: &Json) -> Result<Option<Vec<Step>>, AllocError> {
     let Some(items) = json.as_array() else {
         return Ok(None);
@@ -117,7 +117,7 @@ pub struct FloatRoot<'a> {
 }
 
 impl FloatRoot<'_> {
-    /// The bits of the float that a word spells where a path leads.
+    /// Returns the bits of the float that a word spells for the target of a path.
     fn bits(self, alloc: Global, path: &[Step], word: &str) -> Result<u64, FloatTrouble> {
         let ty = match landing_from(alloc, self.nodes, self.root, path)? {
             Landing::Value(ty) => ty,
@@ -134,7 +134,7 @@ impl FloatRoot<'_> {
         bits.ok_or(FloatTrouble::Value)
     }
 
-    /// The number of the bits that a call sets, where it sets a float.
+    /// Returns the bits that a call sets as a number, or `None` if it doesn't set a float.
     fn number(self, alloc: Global, call: &Json) -> Result<Option<u64>, FloatTrouble> {
         let Some(value) = call.get("value") else {
             return Ok(None);
@@ -151,7 +151,7 @@ impl FloatRoot<'_> {
         Ok(Some(self.bits(alloc, &path, word.as_str())?))
     }
 
-    /// The text of a calls file in which each value `{"float": X}` is `{"number": N}`, with the
+    /// Returns a calls file with `{"number": N}` in place of each value `{"float": X}`. N has the
     /// bits of the float.
     pub fn as_bits(self, alloc: Global, bytes: &[u8]) -> Result<Vec<u8>, FloatCallsTrouble>
         ensures read { IfOk result (λ _. json_calls bytes.now ≢ None) }
@@ -182,7 +182,7 @@ impl FloatRoot<'_> {
     }
 }
 
-/// Makes the value of a call this number.
+/// Makes a number the value of a call.
 fn put_number(alloc: Global, call: &mut Json, number: u64) -> Result<(), AllocError> {
     let text = format!(in alloc; "{{\"number\":{number}}}")?;
     let Ok(value) = Json::from_slice(alloc, text.as_bytes()) else {

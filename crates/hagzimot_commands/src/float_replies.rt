@@ -1,4 +1,4 @@
-//! Replies of calls, in which floats are told as decimal numbers.
+//! Replies of calls, with floats as decimal numbers.
 ghost use Rattle.std.specs.Prelude.{◌≡◌, None, map, option_map, string_bytes, IfOk, OnOk};
 ghost use Rattle.capnp_calls.specs.CallViews.{step_view, call_view};
 ghost use Rattle.hagzimot_commands.specs.Paths.{struct_landing, walked};
@@ -13,14 +13,15 @@ use hagzimot_floats::float_text::{Float32, Float64, FloatForm};
 use hagzimot_schemas::nodes::fields_of;
 use std::alloc::{AllocError, Global};
 
-/// What a value is; a float, where it is the whole number of its bits, or lists of floats.
+/// The type of a value. `is_float` says that the value is a whole number with the bits of a float,
+/// or lists of such numbers.
 #[derive(Clone, Copy, Debug, PartialEq, Eq)]
 struct Place {
     at: Landing,
     is_float: bool,
 }
 
-/// A field.
+/// A field, by its name.
 #[derive(Debug, Drop)]
 struct NamedPlace {
     name: String,
@@ -34,15 +35,15 @@ struct Holder {
     fields: Vec<NamedPlace>,
 }
 
-/// Where the replies of calls tell floats.
+/// The places of floats in the replies of calls.
 #[derive(Debug, Drop)]
 pub struct FloatReplies {
     holders: Vec<Holder>,
-    /// What each call's reply tells, where that is a value.
+    /// The type of the value that each call replies, or `None` if it isn't a value.
     calls: Vec<Option<Place>>,
 }
 
-/// The fields of a node.
+/// Returns the fields of a node.
 fn holder_of(alloc: Global, node: &NodeRecord, floats: &[FloatField]) -> Result<Holder, AllocError>
     ensures { IfOk result (λ holder. holder_placed holder ≡ fields_placed node.now) }
 {
@@ -65,7 +66,7 @@ fn holder_of(alloc: Global, node: &NodeRecord, floats: &[FloatField]) -> Result<
     })
 }
 
-/// What stands where a path leads, if it leads anywhere.
+/// Returns the type of the target of a path, if the path leads anywhere.
 #[tactic(auto, using(crate::proofs::Walks::misses_none))]
 fn place_of(
     alloc: Global,
@@ -89,7 +90,8 @@ fn place_of(
 }
 
 impl FloatReplies {
-    /// The replies of calls from the struct of an id on, where these fields are floats.
+    /// Returns the places of floats in the replies of calls. The calls begin at the struct of an
+    /// id, and `floats` has the fields that are floats.
     pub fn new(
         alloc: Global,
         nodes: &[NodeRecord],
@@ -119,8 +121,8 @@ impl FloatReplies {
         })
     }
 
-    /// Returns the text that the call of a number, counted from 0, replies, with decimal numbers for
-    /// the bits of floats. An error if an allocation is refused.
+    /// Returns the reply of a call, by its number from 0, with decimal numbers for the bits of
+    /// floats. Returns an error if an allocation is refused.
     #[tactic(auto, using(crate::proofs::Fronts::fronts))]
     pub fn reply(&self, alloc: Global, call: usize, text: &str) -> Result<String, AllocError>
         ensures { place_of_reply self.now call ≡ None
@@ -145,13 +147,13 @@ impl FloatReplies {
         Ok(teller.text)
     }
 
-    /// The fields of what has fields there.
+    /// Returns the fields of a value that has fields.
     fn holder(&self, place: Option<Place>) -> Option<usize> {
         let id = id_there(place?.at)?;
         self.holders.iter().position(|holder| holder.id == id)
     }
 
-    /// What a field of a name is.
+    /// Returns the type of the field of a name.
     fn field(&self, holder: Option<usize>, name: &str) -> Option<Place> {
         let holder = self.holders.get(holder?)?;
         let field = holder
@@ -162,16 +164,16 @@ impl FloatReplies {
     }
 }
 
-/// What stands around a value.
+/// The struct, the group or the list that has a value.
 #[derive(Clone, Copy, Debug)]
 enum Around {
     /// A struct or a group, by the place of its fields.
     Struct(Option<usize>),
-    /// A list, by what its elements are.
+    /// A list, by the type of its elements.
     List(Option<Place>),
 }
 
-/// In which part of a reply a character stands.
+/// The part of a reply to which a character belongs.
 #[derive(Clone, Copy, Debug, PartialEq, Eq)]
 enum Mode {
     Plain,
@@ -179,11 +181,11 @@ enum Mode {
     Text,
     /// In such a text, after a backslash.
     Escape,
-    /// Between angle brackets, as no value is told.
+    /// Between angle brackets, as for a value that isn't printed.
     Angle,
 }
 
-/// What is told of the characters so far, and where the next one stands.
+/// The text for the characters so far, and the part to which the next one belongs.
 #[derive(Drop)]
 struct Teller<'a> {
     alloc: Global,
@@ -191,14 +193,14 @@ struct Teller<'a> {
     text: String,
     /// The letters and digits of the word that the next character may end.
     word: String,
-    /// What stands around, the innermost last.
+    /// The structs and lists that have the next value, the innermost last.
     around: Vec<Around>,
-    /// What the next value is; `None` before the name of a field too.
+    /// The type of the next value. Also `None` before the name of a field.
     place: Option<Place>,
     mode: Mode,
 }
 
-/// The text of the float of these bits, where they are those of a float.
+/// Returns the text of the float of these bits, or `None` if they aren't the bits of a float.
 fn float_word(alloc: Global, place: Place, word: &str) -> Result<Option<String>, AllocError> {
     let form = FloatForm::Text;
     let Landing::Value(ty) = place.at else {
@@ -300,7 +302,7 @@ impl Teller<'_> {
     }
 }
 
-/// What an element of a list there is.
+/// Returns the type of an element of a list.
 fn element_of(place: Option<Place>) -> Option<Place> {
     let place = place?;
     Some(Place {

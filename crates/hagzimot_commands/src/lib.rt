@@ -1,4 +1,4 @@
-//! What the command does: each of its subcommands over sources and sinks, without files.
+//! The work of the command's subcommands over sources and sinks, without files.
 #![tactic(auto)]
 
 pub mod canonical;

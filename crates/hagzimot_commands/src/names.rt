@@ -1,11 +1,12 @@
-//! Names that a printed value can't be told apart from.
+//! Names that can't be distinguished from marks of a printed value.
 ghost use Rattle.std.specs.Prelude.{◌≡◌, option_copied, option_map};
 ghost use Rattle.hagzimot_commands.specs.Names.{is_mark, is_marked, marked_field, marked_enumerant, marked_name, first_marked, member_view};
 
 use capnp_records::node::{EnumerantRecord, FieldRecord, NodeRecord};
 use hagzimot_schemas::nodes::{enumerants_of, fields_of};
 
-/// Whether a byte of a name can be taken for a mark of a printed value or for the end of a line.
+/// Tests whether a byte of a name can be taken for a mark of a printed value or for the end of a
+/// line.
 fn is_mark(byte: u8) -> bool
     ensures { result ≡ is_mark byte }
 {
@@ -17,7 +18,7 @@ fn is_mark(byte: u8) -> bool
         )
 }
 
-/// Whether a name has such a byte.
+/// Tests whether a name has such a byte.
 fn is_marked(name: &str) -> bool
     ensures { result ≡ is_marked name.now }
 {
@@ -60,8 +61,9 @@ pub struct NamedMember<'a> {
     pub name: &'a str,
 }
 
-/// Returns the first field or enumerant whose name a printed value can't be told apart from: it has
-/// a blank, a control character or a mark of printed values. `None` exactly if no node has one.
+/// Returns the first field or enumerant whose name can't be distinguished from the rest of a
+/// printed value: it has a blank, a control character or a mark of printed values. Returns `None`
+/// exactly if no node has such a name.
 pub fn first_marked_name(nodes: &[NodeRecord]) -> Option<NamedMember<'_>>
     ensures { option_map member_view result ≡ first_marked nodes.now }
 {

@@ -1,4 +1,4 @@
-//! Messages that are passed on as they came where they would be skipped.
+//! Messages that are passed on unedited instead of being skipped.
 ghost use Rattle.std.specs.Prelude.{◌≡◌, length, replicate};
 ghost use Rattle.capnp_relay_loop.specs.Streams.{streams_of};
 ghost use Rattle.capnp_relay_loop.specs.Pauses.{RelaysPausing};
@@ -18,12 +18,12 @@ use capnp_units::sizes::Word;
 use std::alloc::Global;
 use std::cell::Cell;
 
-/// Answers, but for the messages that they would skip: those go out as they came, and why they
-/// would be skipped is noted.
+/// Answers that pass on a message unedited if the inner answers would skip it. The reason for the
+/// skip is noted.
 #[derive(Drop)]
 struct Passing<'a, A> {
     answers: &'a A,
-    /// Why the message that was answered last would be skipped, if it would.
+    /// The reason for which the inner answers would skip the last message, if they would.
     noted: &'a Cell<Option<Reason>>,
 }
 
@@ -57,12 +57,12 @@ impl<A: Answers> Answers for Passing<'_, A> {
     }
 }
 
-/// As `answer_all`, but a message that would be skipped is passed on: the same segments, word for
-/// word, go out in the output's form. Its line of the log is `message N written`. Before that line
-/// why it would be skipped is noted; whoever reads the note takes it away.
+/// Works as `answer_all`, but passes on a message that would be skipped: the same segments, word
+/// for word, in the form of the output. Its line of the log is `message N written`. Before that
+/// line the reason for the skip is noted. Reading the note clears it.
 ///
-/// It ends as `answer_all` does. `Memory` too: a growth for a message that is passed on was
-/// refused, or a segment of it has 2^29 words or more.
+/// Ends as `answer_all` does. Also `Memory`: an allocation for a message that is passed on was
+/// refused, or one of its segments has 2^29 words or more.
 pub fn pass_on_all<
     I: MessageForm,
     O: MessageForm,

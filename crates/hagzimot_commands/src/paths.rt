@@ -1,4 +1,4 @@
-//! Where paths lead under a schema, told before any message is read.
+//! The fields and elements that paths lead to under a schema, without a message.
 ghost use Rattle.std.specs.Prelude.{◌≡◌, ◌==◌, map, find, Some, None, IfOk, IfErr, IfSome, IfNone, option_copied, string_bytes};
 ghost use Rattle.std.specs.Str.{bytes_eq};
 ghost use Rattle.capnp_calls.specs.CallViews.{step_view};
@@ -13,33 +13,34 @@ use std::fmt;
 use std::fmt::{Display, Formatter, Write};
 use strsim::osa_distance;
 
-/// What a path leads to.
+/// The target of a path.
 #[derive(Clone, Copy, Debug, PartialEq, Eq)]
 pub enum Landing {
-    /// A value of a type: a slot's or an element's.
+    /// A value of a type, in a slot or an element.
     Value(TypeRecord),
     /// A group, by the id of its node.
     Group(u64),
 }
 
-/// Why a path leads nowhere.
+/// The reason for which a path leads nowhere.
 #[derive(Debug, Drop)]
 pub enum Misstep {
-    /// A struct or a group has no field of a name; the nearest of its fields, if one is near.
+    /// A struct or a group has no field of a name. `nearest` is the nearest of its fields, if one
+    /// is near.
     NoField {
         name: String,
         node: String,
         nearest: Option<String>,
     },
-    /// A name at what has no fields.
+    /// A name follows a value that has no fields.
     NoStruct {
         name: String,
     },
-    /// An index at what has no elements.
+    /// An index follows a value that has no elements.
     NoList {
         index: u32,
     },
-    /// A growth was refused.
+    /// An allocation was refused.
     Memory,
 }
 
@@ -82,8 +83,8 @@ impl Display for Misstep {
     }
 }
 
-/// The name among the fields' that is nearest to a name, where at most a third of its letters, and
-/// one, are otherwise.
+/// Returns the name of a field that is nearest to a name. At most a third of its letters, and one
+/// more, may differ.
 fn nearest_name(
     alloc: Global,
     fields: &[FieldRecord],
@@ -104,7 +105,7 @@ fn nearest_name(
     }
 }
 
-/// The id of the struct or group that stands there.
+/// Returns the id of a target that is a struct or a group.
 pub(crate) fn id_there(at: Landing) -> Option<u64>
     ensures { result ≡ id_at at }
 {
@@ -118,7 +119,7 @@ pub(crate) fn id_there(at: Landing) -> Option<u64>
     }
 }
 
-/// An element of the list that stands there.
+/// Returns an element of a target that is a list.
 pub(crate) fn element_there(at: Landing) -> Option<Landing>
     ensures { result ≡ element_landing at }
 {
@@ -131,7 +132,7 @@ pub(crate) fn element_there(at: Landing) -> Option<Landing>
     }
 }
 
-/// The node of what has fields there.
+/// Returns the node of a target that has fields.
 fn node_there(nodes: &[NodeRecord], at: Landing) -> Option<&NodeRecord>
     ensures { option_copied result ≡ node_of_landing nodes.now at }
 {
@@ -141,7 +142,7 @@ fn node_there(nodes: &[NodeRecord], at: Landing) -> Option<&NodeRecord>
     }
 }
 
-/// The first field of a name.
+/// Returns the first field of a name.
 fn find_field<'n>(fields: &'n [FieldRecord], name: &str) -> Option<&'n FieldRecord>
     ensures { option_copied result
         ≡ find (λ f. bytes_eq (string_bytes f.name) name.now) fields.now }
@@ -149,7 +150,7 @@ fn find_field<'n>(fields: &'n [FieldRecord], name: &str) -> Option<&'n FieldReco
     fields.iter().find(|field| field.name.as_str() == name)
 }
 
-/// What the first field of a name is.
+/// Returns the target that is the first field of a name.
 fn field_there(node: &NodeRecord, name: &str) -> Option<Landing>
     ensures { result ≡ field_named node.now name.now }
 {
@@ -159,7 +160,7 @@ fn field_there(node: &NodeRecord, name: &str) -> Option<Landing>
     }
 }
 
-/// What a field is.
+/// Returns the target that is a field.
 pub(crate) fn landing_at(body: &FieldBody) -> Landing
     ensures { result ≡ landing_of body.now }
 {
@@ -169,7 +170,7 @@ pub(crate) fn landing_at(body: &FieldBody) -> Landing
     }
 }
 
-/// Why a node has no field of a name.
+/// Returns the reason for a name that no field of a node has.
 fn no_field(alloc: Global, node: &NodeRecord, name: &str) -> Result<Misstep, AllocError>
     ensures { IfOk result (TellsNoField node.now name.now) }
 {
@@ -180,7 +181,7 @@ fn no_field(alloc: Global, node: &NodeRecord, name: &str) -> Result<Misstep, All
     })
 }
 
-/// What a step leads to.
+/// Returns the target of a step from another target.
 fn step_from(
     alloc: Global,
     nodes: &[NodeRecord],
@@ -209,11 +210,11 @@ fn step_from(
     }
 }
 
-/// What a path leads to from the struct of an id. A refusal is that of its first step that leads
-/// nowhere:
-/// - `NoField`, `NoStruct`: a name of no field, or at what has no fields;
-/// - `NoList`: an index at what has no elements;
-/// - `Memory`: a growth was refused while this was to be told.
+/// Returns the target of a path from the struct of an id. An error is that of the first step that
+/// leads nowhere:
+/// - `NoField`, `NoStruct`: no field has the name, or the value has no fields;
+/// - `NoList`: an index, and the value has no elements;
+/// - `Memory`: an allocation for one of these errors was refused.
 pub fn landing_from(
     alloc: Global,
     nodes: &[NodeRecord],

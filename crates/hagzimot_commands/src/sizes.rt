@@ -1,4 +1,4 @@
-//! Calls whose results pass the limit of a message's words.
+//! Calls whose results exceed the limit of words.
 ghost use Rattle.std.specs.Prelude.{◌≡◌, ◌^◌, ◌<◌, ◌==◌, find, IfErr, OnOk};
 ghost use Rattle.capnp_calls.specs.CallViews.{call_view};
 ghost use Rattle.hagzimot_commands.specs.Sizes.{words_of_node, base_bits, bits_each, made_words, MakesAtMost, MakesMore};
@@ -10,8 +10,8 @@ use capnp_records::node::{BaseType, NodeBody, NodeRecord};
 use hagzimot_schemas::nodes::node_of_id;
 use std::alloc::Global;
 
-/// How many words an element of a list of structs of an id takes, or one where it has none, as many
-/// as following it costs.
+/// Returns the words that an element of a list of structs of an id takes. Returns 1 if the element
+/// has no words, because following it costs one word.
 fn struct_words(nodes: &[NodeRecord], id: u64) -> u64
     ensures words { result ≡ words_of_node (find (λ n. n.id == id) nodes.now) }
     ensures few { result < 2 ^ 17 }
@@ -28,7 +28,7 @@ fn struct_words(nodes: &[NodeRecord], id: u64) -> u64
     }
 }
 
-/// How many bits an element of a list of a base type takes.
+/// Returns the bits that an element of a list of a base type takes.
 fn base_bits(nodes: &[NodeRecord], base: BaseType) -> u64
     ensures bits { result ≡ base_bits nodes.now base }
     ensures few { result < 2 ^ 23 }
@@ -44,7 +44,7 @@ fn base_bits(nodes: &[NodeRecord], base: BaseType) -> u64
     }
 }
 
-/// How many bits there are for each element or byte that `initn` makes.
+/// Returns the bits of each element or byte that `initn` makes.
 fn bits_each(nodes: &[NodeRecord], at: Landing) -> u64
     ensures bits { result ≡ bits_each nodes.now at }
     ensures few { result < 2 ^ 23 }
@@ -59,15 +59,15 @@ fn bits_each(nodes: &[NodeRecord], at: Landing) -> u64
     }
 }
 
-/// How many words `initn` makes at least.
+/// Returns the least number of words that `initn` makes.
 fn made_words(nodes: &[NodeRecord], at: Landing, count: u32) -> u64
     ensures { result ≡ made_words nodes.now at count }
 {
     (count as u64 * bits_each(nodes, at) + 63) / 64
 }
 
-/// Whether what a call makes is within so many words. `Path`: its path leads nowhere. `Size`: `initn`
-/// makes more.
+/// Checks that a call makes at most `limit` words. `Path`: the path of the call leads nowhere.
+/// `Size`: `initn` makes more words.
 pub fn check_size(
     alloc: Global,
     nodes: &[NodeRecord],

@@ -16,28 +16,28 @@ use std::alloc::Global;
 use std::fmt;
 use std::fmt::{Display, Formatter, Write};
 
-/// Why no record could take a call.
+/// The reason for which no record could take a call.
 #[derive(Debug, Drop)]
 pub enum Misfit {
-    /// Its path leads nowhere.
+    /// The path of the call leads nowhere.
     Path(Misstep),
-    /// A value of another sort than what is there.
+    /// The value is of another sort than the target.
     Sort {
         given: &'static str,
         there: &'static str,
     },
-    /// A message whose value doesn't fit what is there.
+    /// The value is a message that doesn't fit the target.
     Value {
         there: &'static str,
     },
-    /// A number that the type doesn't have, which has those from the least to the greatest.
+    /// The number isn't one of the type, which has those from `least` to `greatest`.
     Range {
         number: i128,
         there: &'static str,
         least: i128,
         greatest: i128,
     },
-    /// `init` or `initn` of what can't be made so.
+    /// `init` or `initn` of a target that can't be made in this way.
     NotMade {
         verb: &'static str,
         wanted: &'static str,
@@ -49,7 +49,7 @@ pub enum Misfit {
     },
     /// `set` of an element of a list of untyped pointers.
     UntypedElement,
-    /// `initn` of so many elements, whose words pass the limit of a message.
+    /// `initn` of `count` elements, whose words exceed the limit of a message.
     Size {
         count: u32,
         words: u64,
@@ -57,7 +57,7 @@ pub enum Misfit {
     },
 }
 
-/// The name of a plain type, or of the sort of any other.
+/// Returns the name of a plain type, or of the sort of any other type.
 pub fn sort_of(ty: TypeRecord) -> &'static str
     ensures { result.now ≡ sort_told ty }
 {
@@ -132,7 +132,7 @@ impl Display for Misfit {
     }
 }
 
-/// The least and the greatest number of a whole number's type.
+/// Returns the least and the greatest number of a type of whole numbers.
 fn range_of(base: BaseType) -> Option<(i128, i128)>
     ensures { result ≡ numbers_of base }
 {
@@ -149,7 +149,8 @@ fn range_of(base: BaseType) -> Option<(i128, i128)>
     }
 }
 
-/// Whether a value is of a base type. Void takes any value, an untyped pointer any that isn't plain.
+/// Tests whether a value is of a base type. Void accepts any value, and an untyped pointer any
+/// value that isn't plain.
 fn is_of_base(value: &SlotValue, base: BaseType) -> bool
     ensures { result ≡ base_takes (slot_value_view value.now) base }
 {
@@ -166,7 +167,7 @@ fn is_of_base(value: &SlotValue, base: BaseType) -> bool
     }
 }
 
-/// What a value is.
+/// Returns the noun of a value.
 fn given_of(value: &SlotValue) -> &'static str {
     match value {
         SlotValue::Number(_) => "a number",
@@ -178,7 +179,7 @@ fn given_of(value: &SlotValue) -> &'static str {
     }
 }
 
-/// What stands where a path leads.
+/// Returns the noun of the target of a path.
 fn there_at(at: Landing) -> &'static str {
     match at {
         Landing::Value(ty) => sort_of(ty),
@@ -186,7 +187,7 @@ fn there_at(at: Landing) -> &'static str {
     }
 }
 
-/// Whether a value is of the sort of what is there: a list and a group take a message.
+/// Tests whether a value is of the sort of a target. A list and a group accept a message.
 fn has_sort(value: &SlotValue, at: Landing) -> bool
     ensures { result ≡ has_sort_of (slot_value_view value.now) at }
 {
@@ -196,7 +197,7 @@ fn has_sort(value: &SlotValue, at: Landing) -> bool
     }
 }
 
-/// The least and the greatest number of the type that is there, where it has some.
+/// Returns the least and the greatest number of the type of a target, if it has numbers.
 fn numbers_at(at: Landing) -> Option<(i128, i128)>
     ensures { result ≡ numbers_there at }
 {
@@ -206,7 +207,7 @@ fn numbers_at(at: Landing) -> Option<(i128, i128)>
     }
 }
 
-/// Whether a struct or a group is there.
+/// Tests whether a target is a struct or a group.
 fn is_struct(at: Landing) -> bool
     ensures { result ≡ is_struct_there at }
 {
@@ -216,7 +217,7 @@ fn is_struct(at: Landing) -> bool
     }
 }
 
-/// Whether an untyped pointer is there.
+/// Tests whether a target is an untyped pointer.
 fn is_untyped(at: Landing) -> bool
     ensures { result ≡ is_untyped_there at }
 {
@@ -226,7 +227,7 @@ fn is_untyped(at: Landing) -> bool
     }
 }
 
-/// Whether a list, a text or data is there.
+/// Tests whether a target is a list, a text or data.
 fn is_many(at: Landing) -> bool
     ensures { result ≡ is_many_there at }
 {
@@ -237,14 +238,14 @@ fn is_many(at: Landing) -> bool
     }
 }
 
-/// Whether a step is an index.
+/// Tests whether a step is an index.
 fn is_element(step: &Step) -> bool
     ensures { result ≡ is_index (step_view step.now) }
 {
     matches!(step, Step::Index(_))
 }
 
-/// Whether a path ends with an index.
+/// Tests whether a path ends with an index.
 fn ends_at_element(path: &[Step]) -> bool
     ensures { result ≡ ends_with_index (map step_view path.now) }
 {
@@ -254,7 +255,7 @@ fn ends_at_element(path: &[Step]) -> bool
     }
 }
 
-/// Whether a number is one of the type that is there.
+/// Checks that a number is one of the type of a target.
 fn check_number(number: i128, at: Landing) -> Result<(), Misfit>
     ensures ok { OnOk result (is_in_type number at ≡ true) }
     ensures err { IfErr result (IsOutOfRange number at) }
@@ -270,7 +271,7 @@ fn check_number(number: i128, at: Landing) -> Result<(), Misfit>
     }
 }
 
-/// Whether a value can be set where a path leads.
+/// Checks that a value can be set at the target of a path.
 fn check_set(value: &SlotValue, at: Landing, path: &[Step]) -> Result<(), Misfit>
     ensures ok { OnOk result (fits_there at (map step_view path.now)
         (set_to (slot_value_view value.now)) ≡ true) }
@@ -292,7 +293,7 @@ fn check_set(value: &SlotValue, at: Landing, path: &[Step]) -> Result<(), Misfit
     }
 }
 
-/// Whether a value can be made anew where a path leads.
+/// Checks that a struct or a group can be made at the target of a path.
 fn check_init(at: Landing, path: &[Step]) -> Result<(), Misfit>
     ensures ok { OnOk result (fits_there at (map step_view path.now) init ≡ true) }
     ensures err { IfErr result (IsMisfitThere at (map step_view path.now) init) }
@@ -310,7 +311,7 @@ fn check_init(at: Landing, path: &[Step]) -> Result<(), Misfit>
     })
 }
 
-/// Whether an action can be made where a path leads.
+/// Checks that an action can be made at the target of a path.
 fn check_there(action: &Action, at: Landing, path: &[Step]) -> Result<(), Misfit>
     ensures ok { OnOk result
         (fits_there at (map step_view path.now) (action_view action.now) ≡ true) }
@@ -332,8 +333,8 @@ fn check_there(action: &Action, at: Landing, path: &[Step]) -> Result<(), Misfit
     }
 }
 
-/// What is wrong with a call that no record takes: the first of these that holds. `Value` if none of
-/// the others does, as what it sets is a message then.
+/// Returns what is wrong with a call that no record takes. The reasons are tried in order, and
+/// `Value` is the last: the call then sets a message.
 fn misfit_of(alloc: Global, nodes: &[NodeRecord], root: u64, call: &Call) -> Misfit
     ensures { IsMisfit nodes.now root (call_view call.now).path (call_view call.now).verb result }
 {
@@ -350,18 +351,18 @@ fn misfit_of(alloc: Global, nodes: &[NodeRecord], root: u64, call: &Call) -> Mis
     }
 }
 
-/// Whether some record could take a call under the schema of a root: its path leads to a field or an
-/// element, and what it does there fits. A call is refused exactly if every record refuses it. The
-/// refusal says what is wrong:
-/// - `Path`: a step of its path leads nowhere;
-/// - `Sort`: a value of another sort than what is there;
+/// Checks that some record could take a call under the schema of a root: its path leads to a field
+/// or an element, and its action fits there. A call is refused exactly if every record refuses it.
+/// The error says what is wrong:
+/// - `Path`: a step of the path leads nowhere;
+/// - `Sort`: the value is of another sort than the target;
 /// - `UntypedElement`: `set` of an element of a list of untyped pointers;
-/// - `Range`: a number that the type there doesn't have;
+/// - `Range`: a number that the type of the target doesn't have;
 /// - `AtElement`: `init` or `clear` of an element;
-/// - `NotMade`: `init` where no struct, group or untyped pointer is, `initn` where no list, text or
-///   data is;
-/// - `Value`: a message whose value is no struct, no list of such elements, or a struct that the
-///   group can't be set to.
+/// - `NotMade`: `init` of a target that isn't a struct, a group or an untyped pointer, or `initn`
+///   of one that isn't a list, a text or data;
+/// - `Value`: a message whose value isn't a struct, isn't a list of such elements, or is a struct
+///   that the group can't be set to.
 pub fn check_call(alloc: Global, root: StructSchema<'_>, call: &Call) -> Result<(), Misfit>
     ensures taken { OnOk result
         (can_take (schema_around root.entry) (id_of root.entry) (call_view call.now) ≡ true) }

@@ -1,4 +1,4 @@
-//! Calls that are given as words, as `customer.name=Ada`.
+//! Calls that are given as words, such as `customer.name=Ada`.
 ghost use Rattle.std.specs.Prelude.{◌≡◌, ◌++◌, true, IfOk, OnOk, List, [], string_bytes};
 ghost use Rattle.std.specs.List.{flat_map};
 ghost use Rattle.capnp_calls.specs.CallViews.{step_view};
@@ -17,10 +17,10 @@ use std::alloc::{AllocError, Global};
 use std::fmt;
 use std::fmt::{Display, Formatter, Write};
 
-/// What `Call::new` takes.
+/// The arguments of `Call::new`.
 pub type CallParts = (Vec<Step>, Verb, Option<CallValue>);
 
-/// Which call words make.
+/// The kind of call that words make.
 #[derive(Clone, Copy, Debug, PartialEq, Eq)]
 pub enum WordVerb {
     Get,
@@ -30,7 +30,7 @@ pub enum WordVerb {
     Clear,
 }
 
-/// Why words make no call.
+/// The reason for which words don't make a call.
 #[derive(Debug, Drop)]
 pub enum WordTrouble {
     /// The path isn't one: names with points between them, each with indices in brackets after it
@@ -38,15 +38,15 @@ pub enum WordTrouble {
     Path,
     /// The path leads nowhere.
     Step(Misstep),
-    /// There is no `=` with a value behind it.
+    /// There is no `=` with a value after it.
     NoValue,
-    /// The value isn't one of the type that is there.
+    /// The value isn't one of the type of the target.
     Value(&'static str),
-    /// Values of what is there can't be given as words.
+    /// Values of the target can't be given as words.
     NotByWords(&'static str),
     /// The enum has no such enumerant.
     NoEnumerant,
-    /// A growth was refused.
+    /// An allocation was refused.
     Memory,
 }
 
@@ -98,7 +98,7 @@ fn push_indices(path: &mut Vec<Step>, text: &str) -> Result<(), WordTrouble> {
     Ok(())
 }
 
-/// Adds the text of a step: a name behind a point, an index in brackets.
+/// Adds the text of a step: a name after a point, an index in brackets.
 fn push_step(alloc: Global, text: &mut String, step: &Step) -> Result<(), AllocError>
     ensures { OnOk result
         (string_bytes text.new ≡ string_bytes text.old ++ step_text (step_view step.now)) }
@@ -126,7 +126,8 @@ fn push_steps(alloc: Global, text: &mut String, path: &[Step]) -> Result<(), All
     Ok(())
 }
 
-/// Returns the text of a path, as `lines[0].count`. An error if an allocation is refused.
+/// Returns the text of a path, such as `lines[0].count`. Returns an error if an allocation is
+/// refused.
 pub fn path_text(alloc: Global, path: &[Step]) -> Result<String, AllocError>
     ensures { IfOk result (λ text. string_bytes text ≡ path_told path.now) }
 {
@@ -141,8 +142,8 @@ pub fn path_text(alloc: Global, path: &[Step]) -> Result<String, AllocError>
     Ok(text)
 }
 
-/// Whether a text spells a path: it is the only text of these steps. An error where a growth was
-/// refused.
+/// Tests whether a text spells a path: it is the only text of these steps. Returns an error if an
+/// allocation was refused.
 fn spells(alloc: Global, text: &str, path: &[Step]) -> Result<bool, AllocError>
     ensures { IfOk result (λ is. is ≡ true → SpellsPath text.now path.now) }
 {
@@ -154,8 +155,8 @@ fn spells(alloc: Global, text: &str, path: &[Step]) -> Result<bool, AllocError>
     Ok(given.as_bytes() == told.as_bytes())
 }
 
-/// The steps of a path, as `lines[0].count`. `Path`: the text is no path, or its numbers have a
-/// sign or a zero in front. `Memory`: a growth was refused.
+/// Returns the steps of a path, such as `lines[0].count`. `Path`: the text isn't a path, or one of
+/// its numbers has a sign or a leading zero. `Memory`: an allocation was refused.
 pub fn path_of(alloc: Global, text: &str) -> Result<Vec<Step>, WordTrouble>
     ensures { IfOk result (λ path. SpellsPath text.now path.items) }
 {
@@ -166,7 +167,7 @@ pub fn path_of(alloc: Global, text: &str) -> Result<Vec<Step>, WordTrouble>
     Err(WordTrouble::Path)
 }
 
-/// The steps of a path, where numbers may have a sign or a zero in front.
+/// Returns the steps of a path, whose numbers may have a sign or a leading zero.
 fn steps_in(alloc: Global, text: &str) -> Result<Vec<Step>, WordTrouble> {
     let mut path = Vec::new(alloc);
     for part in text.split('.') {
@@ -185,7 +186,7 @@ fn steps_in(alloc: Global, text: &str) -> Result<Vec<Step>, WordTrouble> {
     Ok(path)
 }
 
-/// The number of the first enumerant of a name.
+/// Returns the number of the first enumerant of a name.
 fn enumerant_named(node: &NodeRecord, word: &str) -> Option<usize>
     ensures { result ≡ enumerant_numbered node.now word.now }
 {
@@ -194,7 +195,7 @@ fn enumerant_named(node: &NodeRecord, word: &str) -> Option<usize>
         .position(|enumerant| enumerant.name.as_str() == word)
 }
 
-/// The number of an enumerant, by its name or its number.
+/// Returns the number of an enumerant, by its name or its number.
 fn enumerant_of(nodes: &[NodeRecord], id: u64, word: &str) -> Result<u16, WordTrouble>
     ensures { IfOk result (SpellsEnumerant nodes.now id word.now) }
 {
@@ -212,9 +213,9 @@ fn enumerant_of(nodes: &[NodeRecord], id: u64, word: &str) -> Result<u16, WordTr
     }
 }
 
-/// A value of a base type that a word spells. It is a number in decimal digits, `true` or `false`,
-/// an enumerant's name or number, a text as it is, or data in hex. Void is spelled by the empty word,
-/// `void`, `()` or any number.
+/// Returns the value of a base type that a word spells: a number in decimal digits, `true` or
+/// `false`, the name or the number of an enumerant, a text as it is, or data in hexadecimal digits.
+/// The empty word, `void`, `()` and any number spell Void.
 fn value_of(
     alloc: Global,
     nodes: &[NodeRecord],
@@ -250,7 +251,7 @@ fn value_of(
     }
 }
 
-/// The bits of the float that a word spells, for a base type of as many bits.
+/// Returns the bits of the float that a word spells, for a base type of as many bits.
 fn float_value(base: BaseType, word: &str) -> Result<CallValue, WordTrouble>
     ensures { (floats : List FloatField) → (floats ≡ [] → ⊥) → IfOk result (MayBeBits floats) }
 {
@@ -264,8 +265,8 @@ fn float_value(base: BaseType, word: &str) -> Result<CallValue, WordTrouble>
     }
 }
 
-/// The value that a word spells where a path leads; a float's, where one of these fields stands
-/// there, is that of its bits.
+/// Returns the value that a word spells for the target of a path. If the target is one of these
+/// floats, the value has its bits.
 fn value_there(
     alloc: Global,
     nodes: &[NodeRecord],
@@ -291,15 +292,16 @@ fn value_there(
     value_of(alloc, nodes, ty.base, there, word)
 }
 
-/// What `Call::new` takes for the call that words make under a schema, from the struct of an id on.
-/// The words are a path, or for `Set` and `Initn` a path, `=` and a value. Values of these fields
-/// are given as floats, whose bits are set. A refusal says what is wrong:
-/// - `Path`: the path isn't one;
-/// - `Step`: it leads nowhere, where a value is set;
+/// Returns the arguments of `Call::new` for the call that words make under a schema, from the
+/// struct of an id on. The words are a path, or for `Set` and `Initn` a path, `=` and a value.
+/// Values of `floats` are given as floats, whose bits are set. An error says what is wrong:
+/// - `Path`: the text before `=` isn't a path;
+/// - `Step`: a value is set, and the path leads nowhere;
 /// - `NoValue`: there is no `=`;
-/// - `Value`, `NoEnumerant`: the word behind it spells no value of the type there, or no number;
-/// - `NotByWords`: values of what is there can't be spelled;
-/// - `Memory`: a growth was refused.
+/// - `Value`, `NoEnumerant`: the word after `=` doesn't spell a value of the type there, or a
+///   number;
+/// - `NotByWords`: values of the target can't be spelled;
+/// - `Memory`: an allocation was refused.
 pub fn call_of_words(
     alloc: Global,
     nodes: &[NodeRecord],

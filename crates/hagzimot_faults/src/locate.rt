@@ -16,39 +16,39 @@ use capnp_wire_objects::place::{Place, ROOT};
 use capnp_wire_objects::size::size_at;
 use std::alloc::{AllocError, Global};
 
-/// How far a message is followed.
+/// Limits of the pointers of a message.
 #[derive(Clone, Copy, Debug, PartialEq, Eq)]
 pub struct WalkLimits {
-    /// The most words that following it may cost.
+    /// The most words that following the pointers may cost.
     pub words: u32,
     /// The most levels of pointers, the root's the first.
     pub nesting: u32,
 }
 
-/// A pointer that can't be followed, and why.
+/// A pointer that can't be followed, and the reason.
 #[derive(Clone, Copy, Debug, PartialEq, Eq)]
 pub struct Refused {
     pub kind: ErrorKind,
     pub place: Place,
 }
 
-/// Where the pointer is that can't be followed.
+/// The place of a pointer that can't be followed.
 #[derive(Debug, Drop)]
 pub struct FaultPlace {
     pub place: Place,
-    /// The steps that lead to it from the root.
+    /// The steps that lead to the pointer from the root.
     pub steps: Vec<Step>,
 }
 
-/// Why a message has no value.
+/// The reason for which a message has no value.
 #[derive(Debug, Drop)]
 pub struct WireFault {
     pub kind: ErrorKind,
-    /// Where that is met.
+    /// The place of the fault.
     pub at: Option<FaultPlace>,
 }
 
-/// What is looked for.
+/// The kind of fault that is looked for.
 #[derive(Clone, Copy, Debug, PartialEq, Eq)]
 enum Wanted {
     /// A pointer that can't be followed.
@@ -124,7 +124,7 @@ fn locate_at<A: ReaderArena>(
     locate_inside(arena, limiter, object, levels - 1, wanted, steps)
 }
 
-/// Finds it from the pointers in an object on.
+/// Finds the same, from the pointers in an object on.
 #[cycle(locate)]
 fn locate_inside<A: ReaderArena>(
     arena: &A,
@@ -191,7 +191,7 @@ fn locate_inside<A: ReaderArena>(
     }
 }
 
-/// Finds it from pointers in a row on.
+/// Finds the same, from pointers in a row on.
 #[cycle(locate)]
 fn locate_in_row<A: ReaderArena>(
     arena: &A,
@@ -222,7 +222,7 @@ fn locate_in_row<A: ReaderArena>(
     Ok(None)
 }
 
-/// Finds it from the pointers in the elements of a list of structs on.
+/// Finds the same, from the pointers in the elements of a list of structs on.
 #[cycle(locate)]
 fn locate_in_elements<A: ReaderArena>(
     arena: &A,
@@ -256,14 +256,14 @@ fn locate_in_elements<A: ReaderArena>(
     Ok(None)
 }
 
-/// Returns whether two kinds are the same.
+/// Tests whether two kinds are the same.
 fn are_same(one: ErrorKind, other: ErrorKind) -> bool
     ensures { result ≡ true → one ≡ other }
 {
     one == other
 }
 
-/// Finds where the root's value is refused by this kind.
+/// Finds the place at which the value of the root is refused by this kind.
 fn place_of<A: ReaderArena>(
     alloc: Global,
     arena: &A,
@@ -293,8 +293,8 @@ fn place_of<A: ReaderArena>(
     }
 }
 
-/// Returns why a message has no value within the limits, or none without a capability; `None` if it
-/// has one.
+/// Returns the reason for which a message has no value within the limits without a capability.
+/// Returns `None` if the message has such a value.
 ///
 /// The kind is that of the first pointer that can't be followed, in the order of reading: a
 /// struct's or a list's pointers one after the other, each with what lies below it. Only if all can

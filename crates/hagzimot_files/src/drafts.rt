@@ -1,4 +1,4 @@
-//! A file that is written beside a name, and gets the name once it is whole.
+//! Files that are written beside a name, and get the name once they are whole.
 ghost use Rattle.std.specs.Prelude.{◌≡◌, ℕ, ◌≤◌, ◌∷◌, false, length, take, bytes_eq, is_some, string_bytes, IfOk, OnOk, OnErr, IsTrue};
 ghost use Rattle.hagzimot_files.specs.Calls.{created, wrote};
 ghost use Rattle.hagzimot_files.specs.Faults.{IfKept, IfUnsynced};
@@ -11,19 +11,19 @@ use crate::names::{draft_path, folder_of};
 use std::alloc::Global;
 use std::io;
 
-/// How many names are tried for a draft.
+/// The number of names that are tried for a draft.
 const TRIES: u32 = 100;
 
-/// What a draft is to become.
+/// The file that a draft becomes.
 #[derive(Debug, Drop)]
 pub struct Goal {
     /// The name that the draft gets.
     pub path: String,
-    /// Those of the file that has the name now, if there is one.
+    /// The owners of the file that has the name now, if there is one.
     pub owners: Option<Owners>,
-    /// The number of the process, which stands in the draft's name.
+    /// The number of the process, which is a part of the draft's name.
     pub process: u32,
-    /// Whether bytes and names are synced.
+    /// Bytes and names are synced.
     pub sync: bool,
 }
 
@@ -31,7 +31,7 @@ pub struct Goal {
 #[derive(Drop)]
 pub struct Draft<F: Files> {
     file: F::File,
-    /// The folder of the name, if it is to be synced.
+    /// The folder of the name, if the folder is synced.
     folder: Option<F::Folder>,
     path: String,
     ghost beside: { bytes_eq (string_bytes path) (F.made_as file) ≡ false },
@@ -69,7 +69,7 @@ fn give_up<F: Files>(files: &mut F, file: &F::File)
     let _removed = files.remove(file);
 }
 
-/// Syncs the bytes of a draft if that is asked for.
+/// Syncs the bytes of a draft if `sync` is set.
 fn make_ready<F: Files>(files: &mut F, file: &F::File, sync: bool) -> io::Result<()>
     ensures ok { OnOk result (F.calls files.new ≡ made_ready sync (F.made_as file.now)
         (F.calls files.old)) }
@@ -120,7 +120,7 @@ impl<F: Files> Draft<F> {
         })
     }
 
-    /// Appends bytes to the draft, and returns how many.
+    /// Appends bytes to the draft, and returns the number that was written.
     pub fn write(&self, files: &mut F, bytes: &[u8]) -> io::Result<usize>
         ensures ok { IfOk result (λ n. F.calls files.new ≡ wrote (F.made_as self.now.file)
             (take n bytes.now) ∷ F.calls files.old) }
@@ -130,8 +130,8 @@ impl<F: Files> Draft<F> {
         files.write(&self.file, bytes)
     }
 
-    /// Gives the draft its name, with its bytes and the name synced if that is asked for. At each
-    /// moment the name holds what it held, or the whole draft.
+    /// Gives the draft its name, and syncs its bytes and the name if its goal says so. At each
+    /// moment the name holds what it held before, or the whole draft.
     pub fn commit(self, files: &mut F) -> Result<(), CommitError>
         ensures replaces { OnOk result (ReplacesFile (F.made_as self.file) (string_bytes self.path)
             (is_some self.folder) (F.calls files.old) (F.calls files.new)) }

@@ -1,10 +1,10 @@
-//! What is asked of the system that a draft is written on.
+//! Calls of the system on which a draft is written.
 ghost use Rattle.std.specs.Prelude.{◌≡◌, ◌≤◌, List, ◌∷◌, length, take, string_bytes, IfOk, OnOk, OnErr};
 ghost use Rattle.hagzimot_files.specs.Calls.{Name, FileCall, created, wrote, synced, renamed_to, removed, synced_names};
 
 use std::io;
 
-/// Who may read and write a file, and whose it is.
+/// The mode of a file, and its owner and group.
 #[derive(Clone, Copy, Debug, PartialEq, Eq)]
 pub struct Owners {
     pub mode: u32,
@@ -12,7 +12,7 @@ pub struct Owners {
     pub gid: u32,
 }
 
-/// A system of files, with a record of its calls. What names hold then is `tree_after` of
+/// A system of files, with a record of its calls. After these calls, names hold `tree_after` of
 /// `specs/Calls.antt`.
 ///
 /// A call that fails changes nothing that a name holds. After `sync` or `sync_folder` has failed,
@@ -40,7 +40,7 @@ pub trait Files {
     fn set_owners(&mut self, file: &Self::File, owners: Owners) -> io::Result<()>
         ensures { calls self.new ≡ calls self.old };
 
-    /// Appends bytes to a file, and returns how many.
+    /// Appends bytes to a file, and returns the number that was written.
     fn write(&mut self, file: &Self::File, bytes: &[u8]) -> io::Result<usize>
         ensures ok { IfOk result (λ n. calls self.new ≡ wrote (made_as file.now)
             (take n bytes.now) ∷ calls self.old) }

@@ -20,13 +20,13 @@ const REMOVED: u64 = 4;
 
 const SYNCED_NAMES: u64 = 5;
 
-/// How often a call is made that a signal interrupts.
+/// The number of times that a call is made if a signal interrupts it.
 const TRIES: u32 = 100;
 
-/// The bits of a mode that say who may do what.
+/// The bits of a mode that are permissions.
 const PERMISSIONS: u32 = 0o7777;
 
-/// The same, without those by which a program runs as its owner.
+/// The permissions without the bits that run a program as its owner.
 const PLAIN_PERMISSIONS: u32 = 0o777;
 
 /// The files of the operating system. Each method makes its call of the system, and then notes it
@@ -47,7 +47,7 @@ pub struct HostFile {
 impl Host {
     ghost use Rattle.std.specs.Prelude.{◌≡◌, []};
 
-    /// The files of the operating system, with no call noted.
+    /// Returns the files of the operating system, with no call noted.
     pub fn new(rt: &HostRuntime) -> Host
         ensures { result.log.calls ≡ [] }
     {
@@ -63,7 +63,7 @@ fn change_owners(file: &File, owners: Owners) -> io::Result<bool> {
     match fchown(file, Some(owners.uid), Some(owners.gid)) {
         Ok(()) => Ok(true),
         Err(e) if e.kind() == io::ErrorKind::PermissionDenied => {
-            // The group alone may be permitted.
+            // Only the group may be permitted.
             let _changed = fchown(file, None, Some(owners.gid));
             Ok(false)
         }

@@ -1,4 +1,4 @@
-//! The bits of floats that texts spell.
+//! Bits of the floats that texts spell.
 ghost use Rattle.std.specs.Prelude.{◌≡◌, ℕ, ◌<◌, ◌≤◌, true, false, Some, List, ◌++◌, codes, IfSome, option_and_then};
 ghost use Rattle.std.specs.Char.{is_ascii_hexdigit};
 ghost use Rattle.std.specs.List.{list_all};
@@ -9,14 +9,14 @@ ghost use Rattle.hagzimot_floats.specs.Bits.{is_decimal, finite_bits, number_of_
 use crate::float_text::{INFINITY_32, INFINITY_64, NAN_32, NAN_64, SIGN_32, SIGN_64};
 use std::num::{f32_to_bits_with_nan, f64_to_bits_with_nan};
 
-/// Whether a text is hex digits.
+/// Tests whether a text is hexadecimal digits.
 fn are_hex_digits(text: &str) -> bool
     ensures { result ≡ list_all is_ascii_hexdigit text.now }
 {
     text.bytes().all(|byte| byte.is_ascii_hexdigit())
 }
 
-/// The number that so many hex digits spell.
+/// Returns the number that `digits` hexadecimal digits spell.
 fn number_of_hex(hex: &str, digits: usize) -> Option<u64>
     requires some { 0 < digits }
     requires few { digits ≤ 16 }
@@ -28,7 +28,7 @@ fn number_of_hex(hex: &str, digits: usize) -> Option<u64>
     u64::from_str_radix(hex, 16).ok()
 }
 
-/// The number that so many hex digits spell behind `nan:`.
+/// Returns the number that `digits` hexadecimal digits spell after `nan:`.
 fn payload(text: &str, digits: usize) -> Option<u64>
     requires some { 0 < digits }
     requires few { digits ≤ 16 }
@@ -39,7 +39,7 @@ fn payload(text: &str, digits: usize) -> Option<u64>
     number_of_hex(text.strip_prefix("nan:")?, digits)
 }
 
-/// Whether a text begins with a digit, behind a minus or not.
+/// Tests whether a text begins with a digit, after a minus or not.
 fn is_decimal(text: &str) -> bool
     ensures { result ≡ is_decimal text.now }
 {
@@ -50,9 +50,9 @@ fn is_decimal(text: &str) -> bool
     }
 }
 
-/// The bits of the float of 32 bits that a text spells. It is the nearest to a decimal number, as
-/// `1.5` or `-2e10`, or what `Float32` writes for people. `None` where it spells none, or a number
-/// past the greatest.
+/// Returns the bits of the float of 32 bits that a text spells. The text is a decimal number, such
+/// as `1.5` or `-2e10`, whose nearest float is meant, or a text that `Float32` writes for people.
+/// Returns `None` if the text doesn't spell a float, or spells a number past the greatest one.
 pub fn float32_bits(text: &str) -> Option<u32>
     ensures infinity { text.now ≡ codes "inf" → result ≡ Some 0x7f80_0000 }
     ensures negative { text.now ≡ codes "-inf" → result ≡ Some 0xff80_0000 }
@@ -85,7 +85,8 @@ pub fn float32_bits(text: &str) -> Option<u32>
     }
 }
 
-/// The same for the float of 64 bits that a text spells, as `Float64` writes it.
+/// Returns the bits of the float of 64 bits that a text spells, as `Float64` writes it. Otherwise
+/// works as `float32_bits`.
 pub fn float64_bits(text: &str) -> Option<u64>
     ensures infinity { text.now ≡ codes "inf" → result ≡ Some 0x7ff0_0000_0000_0000 }
     ensures negative { text.now ≡ codes "-inf" → result ≡ Some 0xfff0_0000_0000_0000 }

@@ -4,33 +4,37 @@ use ryu::Buffer;
 use std::fmt;
 use std::fmt::{Display, Formatter, Write};
 
-/// For which readers a float is written.
+/// The readers for which a float is written.
 #[derive(Clone, Copy, Debug, PartialEq, Eq)]
 pub enum FloatForm {
-    /// For people: a decimal number, `inf`, `-inf`, `nan`, or another NaN by the hex of its bits,
-    /// as `nan:7fc00001`.
+    /// People: a decimal number, `inf`, `-inf` or `nan`. Another NaN has the hexadecimal digits of
+    /// its bits, as `nan:7fc00001`.
     Text,
-    /// For readers of JSON, which take numbers as floats of 64 bits: the number as one of these, or
-    /// a text. The texts are `"Infinity"`, `"-Infinity"` and `"NaN"`, which stands for every NaN.
+    /// Readers of JSON, which read numbers as floats of 64 bits: such a number, or a text. The
+    /// texts are `"Infinity"`, `"-Infinity"` and, for every NaN, `"NaN"`.
     Json,
 }
 
-/// The bits that tell the sign, infinity and the NaN of no payload, for floats of 32 bits.
+/// The bit of the sign of a float of 32 bits.
 pub const SIGN_32: u32 = 0x8000_0000;
 
+/// The bits of infinity, as a float of 32 bits.
 pub const INFINITY_32: u32 = 0x7f80_0000;
 
+/// The bits of the NaN without a payload, as a float of 32 bits.
 pub const NAN_32: u32 = 0x7fc0_0000;
 
-/// The same for floats of 64 bits.
+/// The bit of the sign of a float of 64 bits.
 pub const SIGN_64: u64 = 0x8000_0000_0000_0000;
 
+/// The bits of infinity, as a float of 64 bits.
 pub const INFINITY_64: u64 = 0x7ff0_0000_0000_0000;
 
+/// The bits of the NaN without a payload, as a float of 64 bits.
 pub const NAN_64: u64 = 0x7ff8_0000_0000_0000;
 
 impl FloatForm {
-    /// The word for infinity.
+    /// Returns the word for infinity.
     fn infinity(self, is_negative: bool) -> &'static str {
         match (self, is_negative) {
             (FloatForm::Text, false) => "inf",
@@ -40,7 +44,7 @@ impl FloatForm {
         }
     }
 
-    /// The word for a NaN, where it tells all of its bits or the form tells no NaN from another.
+    /// Returns the word for a NaN. Returns `None` if the word would lose bits that the form shows.
     fn nan(self, is_plain: bool) -> Option<&'static str> {
         match self {
             FloatForm::Text if is_plain => Some("nan"),
@@ -50,7 +54,7 @@ impl FloatForm {
     }
 }
 
-/// A float of 32 bits, by these bits.
+/// A float of 32 bits, given by its bits.
 #[derive(Clone, Copy, Debug, PartialEq, Eq)]
 pub struct Float32 {
     pub bits: u32,
@@ -85,7 +89,7 @@ impl Display for Float32 {
     }
 }
 
-/// A float of 64 bits, by these bits.
+/// A float of 64 bits, given by its bits.
 #[derive(Clone, Copy, Debug, PartialEq, Eq)]
 pub struct Float64 {
     pub bits: u64,

@@ -1,4 +1,4 @@
-//! Floats as people read and write them, for the whole numbers of their bits.
+//! Texts of floats, for the whole numbers of their bits.
 #![tactic(auto)]
 
 pub mod float_bits;

@@ -25,7 +25,7 @@ enum Verb {
     Clear,
 }
 
-/// Hex that was looked at.
+/// Hexadecimal digits that were checked.
 #[derive(Clone, Copy, Debug, Drop, Deserialize)]
 #[serde(try_from = "String")]
 struct Hex;
@@ -42,7 +42,7 @@ impl TryFrom<String> for Hex {
     }
 }
 
-/// A number that was looked at.
+/// A number that was checked.
 #[derive(Clone, Copy, Debug, Drop, Deserialize)]
 #[serde(try_from = "i128")]
 struct Number;
@@ -92,7 +92,7 @@ struct CallKeys {
     _value: Option<Value>,
 }
 
-/// A call that was looked at.
+/// A call that was checked.
 #[derive(Clone, Copy, Debug, Drop, Deserialize)]
 #[serde(try_from = "CallKeys")]
 struct Call;
@@ -122,8 +122,8 @@ struct CallsFile {
     _nesting: Option<i32>,
 }
 
-/// What is wrong with the form of a calls file, with line and column; `None` where nothing of it is
-/// seen here.
+/// Returns the first fault in the form of a calls file, with line and column. Returns `None` if
+/// this function finds no fault.
 pub fn calls_form_fault(alloc: Global, bytes: &[u8]) -> Option<Error>
     ensures { IfNone result (IsUtf8 bytes.now) }
 {

@@ -1,34 +1,34 @@
-//! Ids of schema files that are texts of digits, as numbers.
+//! Schema files with numbers in place of ids that are texts of digits.
 ghost use Rattle.std.specs.Prelude.{◌≡◌, IfOk};
 ghost use Rattle.hagzimot_forms.specs.Ids.{is_digit_byte, digits_end, is_id_text, is_id_key, next_in_text, at_quote, at_colon, next_outside, next_place, is_in_id, stays_told, ids_as_numbers};
 
 use std::alloc::{AllocError, Global};
 
-/// Where a byte of a JSON text stands.
+/// The place of a byte in a JSON text.
 #[derive(Clone, Copy, Debug, PartialEq, Eq)]
 enum Place {
-    /// Outside texts, and not where an id may follow.
+    /// Outside texts, at a place that no id may follow.
     Apart,
-    /// In a text; whether it is the key of an id.
+    /// In a text. The flag says whether the text is the key of an id.
     Text(bool),
-    /// In such a text, behind a backslash.
+    /// In such a text, after a backslash.
     Escape(bool),
-    /// Behind the key of an id.
+    /// After the key of an id.
     Key,
-    /// Behind its colon.
+    /// After the colon of the key.
     Colon,
-    /// In a text of digits there.
+    /// In a text of digits after the colon.
     Id,
 }
 
-/// Whether a byte is a decimal digit.
+/// Tests whether a byte is a decimal digit.
 fn is_digit(byte: u8) -> bool
     ensures { result ≡ is_digit_byte byte }
 {
     byte >= b'0' && byte <= b'9'
 }
 
-/// Whether the digits at the front end with a quote.
+/// Tests whether the digits at the front end with a quote.
 fn digits_end(bytes: &[u8]) -> bool
     ensures { result ≡ digits_end bytes.now }
 {
@@ -42,7 +42,7 @@ fn digits_end(bytes: &[u8]) -> bool
     false
 }
 
-/// Whether a text whose bytes these are is an id's digits, without a zero in front.
+/// Tests whether the text at the front is the digits of an id, without a leading zero.
 fn is_id_text(bytes: &[u8]) -> bool
     ensures { result ≡ is_id_text bytes.now }
 {
@@ -56,7 +56,7 @@ fn is_id_text(bytes: &[u8]) -> bool
     }
 }
 
-/// Whether a text whose bytes these are is the key of an id.
+/// Tests whether the text at the front is the key of an id.
 fn is_id_key(bytes: &[u8]) -> bool
     ensures { result ≡ is_id_key bytes.now }
 {
@@ -66,7 +66,7 @@ fn is_id_key(bytes: &[u8]) -> bool
         || bytes.starts_with(b"enum\"")
 }
 
-/// Where the byte behind one of a text stands.
+/// Returns the place of the byte after a byte of a text.
 fn next_in_text(is_key: bool, byte: u8) -> Place
     ensures { result ≡ next_in_text is_key byte }
 {
@@ -80,7 +80,7 @@ fn next_in_text(is_key: bool, byte: u8) -> Place
 }
 
 impl Place {
-    /// Where the bytes of a text stand that begins here.
+    /// Returns the place of the bytes of a text that begins here.
     fn at_quote(self, behind: &[u8]) -> Place
         ensures { result ≡ at_quote self behind.now }
     {
@@ -90,7 +90,7 @@ impl Place {
         }
     }
 
-    /// Where the byte behind a colon stands.
+    /// Returns the place of the byte after a colon.
     fn at_colon(self) -> Place
         ensures { result ≡ at_colon self }
     {
@@ -100,7 +100,7 @@ impl Place {
         }
     }
 
-    /// Where the byte behind one outside texts stands.
+    /// Returns the place of the byte after a byte outside texts.
     fn next_outside(self, byte: u8, behind: &[u8]) -> Place
         ensures { result ≡ next_outside self byte behind.now }
     {
@@ -116,7 +116,7 @@ impl Place {
         Place::Apart
     }
 
-    /// Where the byte behind this one stands.
+    /// Returns the place of the next byte.
     fn next(self, byte: u8, behind: &[u8]) -> Place
         ensures { result ≡ next_place self byte behind.now }
     {
@@ -129,7 +129,7 @@ impl Place {
         }
     }
 
-    /// Whether it is in an id.
+    /// Tests whether the place is in an id.
     fn is_id(self) -> bool
         ensures { result ≡ is_in_id self }
     {
@@ -139,7 +139,7 @@ impl Place {
         }
     }
 
-    /// Whether this byte stays, and isn't one of the quotes around an id.
+    /// Tests whether this byte is kept: it isn't one of the quotes around an id.
     fn keeps(self, byte: u8, next: Place) -> bool
         ensures { result ≡ stays_told self byte next }
     {
@@ -147,8 +147,8 @@ impl Place {
     }
 }
 
-/// A schema file in which ids that are texts of digits are numbers; the same bytes where none is.
-/// An error where a growth was refused.
+/// Returns a schema file with numbers in place of ids that are texts of digits. If there are no
+/// such ids, the bytes are the same. Returns an error if an allocation was refused.
 pub fn ids_as_numbers(alloc: Global, bytes: &[u8]) -> Result<Vec<u8>, AllocError>
     ensures { IfOk result (λ told. told.items ≡ ids_as_numbers bytes.now) }
 {

@@ -1,8 +1,8 @@
-//! Ids, which are numbers or texts of their digits.
+//! Ids of schema files: numbers, or texts of their digits.
 
 use serde::Deserialize;
 
-/// What stands for an id.
+/// The JSON of an id.
 #[derive(Drop, Deserialize)]
 #[serde(untagged)]
 pub(crate) enum AnyId {
@@ -10,7 +10,7 @@ pub(crate) enum AnyId {
     Digits(String),
 }
 
-/// An id that was looked at.
+/// An id that was checked.
 #[derive(Clone, Copy, Debug, Drop, Deserialize)]
 #[serde(try_from = "AnyId")]
 pub(crate) struct Id;

@@ -1,4 +1,4 @@
-//! The forms of the command's JSON files, read once more for what is wrong and where.
+//! Faults in the form of the command's JSON files, with their places.
 #![tactic(auto)]
 
 pub mod calls_form;

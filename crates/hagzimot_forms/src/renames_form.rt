@@ -17,8 +17,8 @@ struct Renaming {
     _to: String,
 }
 
-/// What is wrong with the form of a renames file, with line and column; `None` where nothing of it
-/// is seen here.
+/// Returns the first fault in the form of a renames file, with line and column. Returns `None` if
+/// this function finds no fault.
 pub fn renames_form_fault(alloc: Global, bytes: &[u8]) -> Option<Error>
     ensures { IfNone result (IsUtf8 bytes.now) }
 {

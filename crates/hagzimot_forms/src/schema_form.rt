@@ -57,12 +57,12 @@ struct FieldKeys {
     default: Option<Default>,
 }
 
-/// A field that was looked at.
+/// A field that was checked.
 #[derive(Clone, Copy, Debug, Drop, Deserialize)]
 #[serde(try_from = "FieldKeys")]
 struct Field;
 
-/// Why a default is none of a type.
+/// Returns the reason for which a default is not of a type.
 fn default_fault(ty: &Type, default: &Default) -> Option<&'static str> {
     let (least, greatest) = match ty {
         Type::Bool => {
@@ -102,7 +102,7 @@ fn default_fault(ty: &Type, default: &Default) -> Option<&'static str> {
     }
 }
 
-/// Whether bytes are pairs of hex digits.
+/// Tests whether bytes are pairs of hexadecimal digits.
 pub(crate) fn is_hex(text: &[u8]) -> bool {
     text.len() % 2 == 0 && text.iter().all(|byte| byte.is_ascii_hexdigit())
 }
@@ -153,7 +153,7 @@ struct NodeKeys {
     enumerants: Option<Vec<String>>,
 }
 
-/// A node that was looked at.
+/// A node that was checked.
 #[derive(Clone, Copy, Debug, Drop, Deserialize)]
 #[serde(try_from = "NodeKeys")]
 struct Node;
@@ -184,8 +184,8 @@ impl TryFrom<NodeKeys> for Node {
     }
 }
 
-/// What is wrong with the form of a schema file, with line and column; `None` where nothing of it
-/// is seen here.
+/// Returns the first fault in the form of a schema file, with line and column. Returns `None` if
+/// this function finds no fault.
 pub fn schema_form_fault(alloc: Global, bytes: &[u8]) -> Option<Error>
     ensures { IfNone result (IsUtf8 bytes.now) }
 {

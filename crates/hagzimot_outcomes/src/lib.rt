@@ -1,4 +1,4 @@
-//! What becomes of messages and their calls, and the lines of the log that say so.
+//! Outcomes of messages and their calls, and the lines of the log that report them.
 #![tactic(auto)]
 
 pub mod log_lines;

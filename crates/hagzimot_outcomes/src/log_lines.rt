@@ -1,4 +1,4 @@
-//! Lines of the log, as text and as JSON, made from what became of each message.
+//! Lines of the log, as text and as JSON, made from the outcome of each message.
 ghost use Rattle.std.specs.Prelude.{◌≡◌, ◌<◌, ◌++◌, false, codes, decimal, OnOk, IfOk};
 ghost use Rattle.std.specs.List.{flat_map};
 ghost use Rattle.std.specs.Fmt.{digit_glyph};
@@ -19,7 +19,7 @@ fn push_number(line: &mut Vec<u8>, number: u64) -> Result<(), AllocError>
     line.extend_from_slice(buffer.format(number).as_bytes())
 }
 
-/// Appends what became of a call.
+/// Appends the outcome of a call.
 fn push_call(line: &mut Vec<u8>, call: &CallOutcome) -> Result<(), AllocError>
     ensures { OnOk result (line.new.items ≡ line.old.items ++ call_text call.now) }
 {
@@ -46,7 +46,7 @@ fn reason_word(reason: Reason) -> &'static [u8]
     }
 }
 
-/// Appends why a message is not edited.
+/// Appends the reason for which a message is not edited.
 fn push_cause(line: &mut Vec<u8>, cause: Cause) -> Result<(), AllocError>
     ensures { OnOk result (line.new.items ≡ line.old.items ++ cause_text cause) }
 {
@@ -61,7 +61,7 @@ fn push_cause(line: &mut Vec<u8>, cause: Cause) -> Result<(), AllocError>
     }
 }
 
-/// Appends what became of each call, after a semicolon.
+/// Appends the outcome of each call, after a semicolon.
 fn push_calls(line: &mut Vec<u8>, calls: &[CallOutcome]) -> Result<(), AllocError>
     ensures { OnOk result (line.new.items ≡ line.old.items ++ each_call_text calls.now) }
 {
@@ -72,7 +72,7 @@ fn push_calls(line: &mut Vec<u8>, calls: &[CallOutcome]) -> Result<(), AllocErro
     Ok(())
 }
 
-/// Appends that so many calls are done, each after a semicolon.
+/// Appends `done` for each of `count` calls, after a semicolon.
 fn push_done(line: &mut Vec<u8>, count: usize) -> Result<(), AllocError>
     ensures { OnOk result (line.new.items ≡ line.old.items ++ done_text count) }
 {
@@ -82,7 +82,7 @@ fn push_done(line: &mut Vec<u8>, count: usize) -> Result<(), AllocError>
     Ok(())
 }
 
-/// Appends what became of a message.
+/// Appends the outcome of a message.
 fn push_outcome(line: &mut Vec<u8>, outcome: &Outcome) -> Result<(), AllocError>
     ensures { OnOk result (line.new.items ≡ line.old.items ++ outcome_text outcome.now) }
 {
@@ -106,8 +106,8 @@ fn push_outcome(line: &mut Vec<u8>, outcome: &Outcome) -> Result<(), AllocError>
     }
 }
 
-/// Returns the line of message `number`, as `message 1 written; done` or `message 2 refused: value`,
-/// with a line feed. An error if an allocation is refused.
+/// Returns the line of message `number`, such as `message 1 written; done` or
+/// `message 2 refused: value`, with a line feed. Returns an error if an allocation is refused.
 pub fn text_line(alloc: Global, number: u64, outcome: &Outcome) -> Result<Vec<u8>, AllocError>
     ensures { IfOk result (λ line. line.items ≡ text_line_of number outcome.now) }
 {
@@ -150,7 +150,7 @@ fn push_byte(line: &mut Vec<u8>, byte: u8) -> Result<(), AllocError>
     }
 }
 
-/// Appends a text as it stands between double quotes.
+/// Appends the bytes of a text as they are written between double quotes.
 fn push_bytes(line: &mut Vec<u8>, text: &[u8]) -> Result<(), AllocError>
     ensures { OnOk result (line.new.items ≡ line.old.items ++ flat_map byte_quoted text.now) }
 {
@@ -169,7 +169,7 @@ fn push_quoted(line: &mut Vec<u8>, text: &[u8]) -> Result<(), AllocError>
     line.extend_from_slice(b"\"")
 }
 
-/// Appends what became of a call, between double quotes.
+/// Appends the outcome of a call, between double quotes.
 fn push_quoted_call(alloc: Global, line: &mut Vec<u8>, call: &CallOutcome) -> Result<(), AllocError>
     ensures { OnOk result (line.new.items ≡ line.old.items ++ quoted (call_text call.now)) }
 {
@@ -178,7 +178,7 @@ fn push_quoted_call(alloc: Global, line: &mut Vec<u8>, call: &CallOutcome) -> Re
     push_quoted(line, &text)
 }
 
-/// Appends what became of each call, between double quotes and after a comma.
+/// Appends the outcome of each call, between double quotes and after a comma.
 fn push_others(alloc: Global, line: &mut Vec<u8>, calls: &[CallOutcome]) -> Result<(), AllocError>
     ensures { OnOk result (line.new.items
         ≡ line.old.items ++ flat_map (λ c. codes "," ++ quoted (call_text c)) calls.now) }
@@ -190,7 +190,7 @@ fn push_others(alloc: Global, line: &mut Vec<u8>, calls: &[CallOutcome]) -> Resu
     Ok(())
 }
 
-/// Appends an array of what became of each call.
+/// Appends an array of the outcomes of calls.
 fn push_array(alloc: Global, line: &mut Vec<u8>, calls: &[CallOutcome]) -> Result<(), AllocError>
     ensures { OnOk result (line.new.items ≡ line.old.items ++ call_array calls.now) }
 {
@@ -205,7 +205,7 @@ fn push_array(alloc: Global, line: &mut Vec<u8>, calls: &[CallOutcome]) -> Resul
     }
 }
 
-/// Appends that so many calls are done, each between double quotes and after a comma.
+/// Appends `done` for each of `count` calls, between double quotes and after a comma.
 fn push_more_done(line: &mut Vec<u8>, count: usize) -> Result<(), AllocError>
     ensures { OnOk result (line.new.items ≡ line.old.items ++ more_done count) }
 {
@@ -215,7 +215,7 @@ fn push_more_done(line: &mut Vec<u8>, count: usize) -> Result<(), AllocError>
     Ok(())
 }
 
-/// Appends an array that says of so many calls that they are done.
+/// Appends an array that has `done` for each of `count` calls.
 fn push_done_array(line: &mut Vec<u8>, count: usize) -> Result<(), AllocError>
     ensures { OnOk result (line.new.items ≡ line.old.items ++ done_array count) }
 {
@@ -227,8 +227,8 @@ fn push_done_array(line: &mut Vec<u8>, count: usize) -> Result<(), AllocError>
     line.extend_from_slice(b"]")
 }
 
-/// Appends the value of a member that says why a message is not edited, and the member with the
-/// number of the call that was refused.
+/// Appends the value of a member: the reason for which a message is not edited. Then appends the
+/// member with the number of the refused call.
 fn push_cause_members(line: &mut Vec<u8>, cause: Cause) -> Result<(), AllocError>
     ensures { OnOk result (line.new.items ≡ line.old.items ++ cause_members cause) }
 {
@@ -242,7 +242,7 @@ fn push_cause_members(line: &mut Vec<u8>, cause: Cause) -> Result<(), AllocError
     }
 }
 
-/// Appends the members of an object that say what became of a message.
+/// Appends the members of an object with the outcome of a message.
 fn push_members(alloc: Global, line: &mut Vec<u8>, outcome: &Outcome) -> Result<(), AllocError>
     ensures { OnOk result (line.new.items ≡ line.old.items ++ outcome_members outcome.now) }
 {
@@ -266,14 +266,14 @@ fn push_members(alloc: Global, line: &mut Vec<u8>, outcome: &Outcome) -> Result<
     }
 }
 
-/// Why a message has no answer, in words, and the name of its input.
+/// The reason for which a message has no answer, in words, and the name of its input.
 #[derive(Clone, Copy, Debug)]
 pub struct Explanation<'a> {
     pub file: &'a str,
     pub why: &'a str,
 }
 
-/// Appends the members that explain why a message has no answer, if that is known.
+/// Appends the members of an explanation, if there is one.
 fn push_explanation(
     line: &mut Vec<u8>,
     explanation: Option<Explanation<'_>>,
@@ -290,7 +290,7 @@ fn push_explanation(
 }
 
 /// Returns the line of message `number` as a JSON object and a line feed. The message begins after
-/// `start` bytes of its input. An error if an allocation is refused.
+/// `start` bytes of its input. Returns an error if an allocation is refused.
 pub fn json_line(
     alloc: Global,
     number: u64,

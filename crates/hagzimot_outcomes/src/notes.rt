@@ -1,4 +1,4 @@
-//! Who is told what becomes of messages.
+//! Receivers of the outcomes of messages.
 
 use crate::outcomes::Outcome;
 use capnp_stream::buffers::NoAllocSliceSegments;
@@ -6,9 +6,9 @@ use std::alloc::Global;
 
 /// Takes notes of messages, for a log.
 pub trait Notes {
-    /// Looks at a message that has no answer, before what became of it is noted.
+    /// Looks at a message that has no answer, before its outcome is noted.
     fn look_at_refused(&self, alloc: Global, message: &NoAllocSliceSegments<'_>);
 
-    /// Notes what became of the message that was answered last.
+    /// Notes the outcome of the message that was answered last.
     fn note(&self, outcome: Outcome);
 }

@@ -1,4 +1,4 @@
-//! What became of a message and of its calls.
+//! Outcomes of a message and of its calls.
 ghost use Rattle.std.specs.Prelude.{◌≡◌, Some, map, IfOk};
 ghost use Rattle.capnp_calls.specs.Replies.{reply_view};
 ghost use Rattle.hagzimot_outcomes.specs.Outcomes.{reply_told, is_refusal, refused_place, told_each, refused_count};
@@ -8,7 +8,7 @@ use capnp_relay_loop::answer::Reason;
 use capnp_units::kinds::ErrorKind;
 use std::alloc::{AllocError, Global};
 
-/// What became of a call.
+/// The outcome of a call.
 #[derive(Debug, Drop)]
 pub enum CallOutcome {
     /// The text of a `get`.
@@ -19,32 +19,32 @@ pub enum CallOutcome {
     Skipped,
 }
 
-/// A call that was refused: its number, counted from 1, and why.
+/// A refused call: its number, counted from 1, and the kind of the refusal.
 #[derive(Clone, Copy, Debug, PartialEq, Eq)]
 pub struct RefusedCall {
     pub number: usize,
     pub kind: ErrorKind,
 }
 
-/// Why a message is not edited.
+/// The reason for which a message is not edited.
 #[derive(Clone, Copy, Debug, PartialEq, Eq)]
 pub enum Cause {
     /// The message has no answer.
     Message(Reason),
-    /// A call was refused, and none may be.
+    /// A call was refused, and the run is strict.
     Call(RefusedCall),
 }
 
-/// What became of a message.
+/// The outcome of a message.
 #[derive(Debug, Drop)]
 pub enum Outcome {
-    /// It was written, and each of so many calls was done.
+    /// The message was written, and each of this number of calls was done.
     Done(usize),
-    /// It was written, after these calls.
+    /// The message was written, after these calls.
     Written(Vec<CallOutcome>),
-    /// It was written as it came.
+    /// The message was written unedited.
     Unedited(Cause),
-    /// It was not written.
+    /// The message was not written.
     Refused(Cause),
 }
 
@@ -59,7 +59,8 @@ fn copy_of(alloc: Global, reply: &Reply) -> Result<CallOutcome, AllocError>
     }
 }
 
-/// Returns copies of replies, each as the outcome of a call. An error if an allocation is refused.
+/// Returns copies of replies, each as the outcome of a call. Returns an error if an allocation is
+/// refused.
 pub fn outcomes_of(alloc: Global, replies: &[Reply]) -> Result<Vec<CallOutcome>, AllocError>
     ensures { IfOk result (λ calls. map reply_told calls.items ≡ told_each replies.now) }
 {
@@ -70,14 +71,14 @@ pub fn outcomes_of(alloc: Global, replies: &[Reply]) -> Result<Vec<CallOutcome>,
     Ok(calls)
 }
 
-/// Whether a call was refused.
+/// Tests whether a call was refused.
 fn is_refused(reply: &Reply) -> bool
     ensures { result ≡ is_refusal (reply_view reply.now) }
 {
     matches!(reply, Reply::Refused(_))
 }
 
-/// Returns how many calls were refused.
+/// Returns the number of calls that were refused.
 #[inline(never)]
 pub fn refused_calls(replies: &[Reply]) -> usize
     ensures { result ≡ refused_count replies.now }

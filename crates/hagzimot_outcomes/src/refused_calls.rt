@@ -1,4 +1,4 @@
-//! How many calls were refused, of each kind.
+//! Counts of refused calls, by their kinds.
 ghost use Rattle.std.specs.Prelude.{◌≡◌, ◌++◌, codes, decimal, position, string_bytes, OnOk};
 ghost use Rattle.std.specs.List.{flat_map};
 ghost use Rattle.hagzimot_outcomes.specs.Counts.{total_from, kind_text, kinds_text, kind_member, kind_members};
@@ -7,7 +7,7 @@ use capnp_units::kinds::ErrorKind;
 use itoa::Buffer;
 use std::alloc::{AllocError, Global};
 
-/// How many calls were refused with a kind.
+/// The number of calls that were refused with a kind.
 #[derive(Clone, Copy, Debug)]
 struct KindCount {
     kind: ErrorKind,
@@ -106,11 +106,11 @@ fn push_members(text: &mut String, kinds: &[KindCount]) -> Result<(), AllocError
     }
 }
 
-/// How many calls were refused with each kind, in the order in which the kinds came.
+/// The number of calls that were refused with each kind, in the order in which the kinds came.
 #[derive(Debug, Drop)]
 pub struct RefusedCalls {
     kinds: Vec<KindCount>,
-    /// How many there were whose kind could not be kept.
+    /// The number of calls whose kind could not be kept.
     others: u64,
 }
 
@@ -118,7 +118,7 @@ impl RefusedCalls {
     ghost use Rattle.std.specs.Prelude.{◌≡◌, position, string_bytes, [], IfOk};
     ghost use Rattle.hagzimot_outcomes.specs.Counts.{total_from, counts_text, counts_json, CountsOne};
 
-    /// None was refused.
+    /// Returns counts of no calls.
     pub fn new(alloc: Global) -> RefusedCalls
         ensures kinds { result.kinds.items ≡ [] }
         ensures others { result.others ≡ 0 }
@@ -129,7 +129,7 @@ impl RefusedCalls {
         }
     }
 
-    /// Counts a call that was refused. A new kind is behind the others; if an allocation is
+    /// Counts a call that was refused. A new kind comes after the others. If an allocation is
     /// refused, the call is counted without its kind.
     pub fn count(&mut self, kind: ErrorKind)
         ensures { CountsOne
@@ -152,7 +152,7 @@ impl RefusedCalls {
         }
     }
 
-    /// How many calls were refused.
+    /// Returns the number of calls that were refused.
     fn total(&self) -> u64
         ensures { result ≡ total_from self.now.others self.now.kinds.items }
     {
@@ -165,8 +165,8 @@ impl RefusedCalls {
         total
     }
 
-    /// Returns the counts as `2 calls refused (InactiveMember 2)`. An error if an allocation is
-    /// refused.
+    /// Returns the counts as text, such as `2 calls refused (InactiveMember 2)`. Returns an error
+    /// if an allocation is refused.
     pub fn text(&self, alloc: Global) -> Result<String, AllocError>
         ensures { IfOk result (λ text. string_bytes text ≡ counts_text self.now) }
     {
@@ -177,8 +177,8 @@ impl RefusedCalls {
         Ok(text)
     }
 
-    /// Returns the counts as a JSON object, as `{"InactiveMember":2}`. An error if an allocation is
-    /// refused.
+    /// Returns the counts as a JSON object, such as `{"InactiveMember":2}`. Returns an error if an
+    /// allocation is refused.
     pub fn json(&self, alloc: Global) -> Result<String, AllocError>
         ensures { IfOk result (λ text. string_bytes text ≡ counts_json self.now) }
     {

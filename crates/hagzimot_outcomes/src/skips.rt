@@ -10,16 +10,16 @@ use std::alloc::{AllocError, Global};
 use std::cell::Cell;
 use std::vec::IntoIter;
 
-/// Which calls did not run, by probes that met an inactive member.
+/// The calls that did not run, by probes that met an inactive member.
 #[derive(Clone, Copy)]
 pub struct Skips<'p, 'i> {
-    /// For each call the number of its probe, counted from 0 and below 64, if it has one.
+    /// The number of each call's probe, counted from 0 and below 64, if the call has a probe.
     pub probes: &'p [Option<usize>],
     /// The places of the probes that met an inactive member, as bits.
     pub inactive: &'i Cell<u64>,
 }
 
-/// Whether a call did not run, by its probe.
+/// Tests whether a call did not run, by its probe.
 fn is_skipped(bits: u64, probe: Option<usize>) -> bool
     ensures { result ≡ is_skipped bits probe }
 {
@@ -29,7 +29,7 @@ fn is_skipped(bits: u64, probe: Option<usize>) -> bool
     }
 }
 
-/// Puts a call that did not run behind others, or the next of those that ran.
+/// Appends a call that did not run to others, or the next of those that ran.
 fn push_next(
     calls: &mut Vec<CallOutcome>,
     left: &mut IntoIter<CallOutcome>,
@@ -50,7 +50,7 @@ fn push_next(
     Ok(())
 }
 
-/// What became of each call, by its probe, where this is what became of those that ran.
+/// Returns the outcome of each call, by its probe. `ran` has the outcomes of the calls that ran.
 fn calls_among(
     alloc: Global,
     bits: u64,
@@ -69,7 +69,7 @@ fn calls_among(
     Ok(calls)
 }
 
-/// As many calls that are done.
+/// Returns the outcomes of `count` calls that are done.
 fn all_done(alloc: Global, count: usize) -> Result<Vec<CallOutcome>, AllocError>
     ensures { IfOk result (λ calls. calls.items ≡ replicate count Done) }
 {
@@ -80,7 +80,7 @@ fn all_done(alloc: Global, count: usize) -> Result<Vec<CallOutcome>, AllocError>
     Ok(calls)
 }
 
-/// What became of a message, with the calls that did not run among the others.
+/// Returns the outcome of a message, with the calls that did not run among the others.
 fn with_skips(
     alloc: Global,
     bits: u64,
@@ -99,7 +99,7 @@ fn with_skips(
     }
 }
 
-/// What is left of the number of a call behind another, among those that ran.
+/// Returns the number that a later call has after this one, among those that ran.
 fn number_behind(skipped: bool, number: usize) -> usize
     ensures { result ≡ number_behind skipped number }
 {
@@ -110,8 +110,8 @@ fn number_behind(skipped: bool, number: usize) -> usize
     }
 }
 
-/// The number among all calls of a call that is the one of this number among those that ran;
-/// `None` if fewer ran.
+/// Returns the number among all calls of the call that has this number among those that ran.
+/// Returns `None` if fewer calls ran.
 fn number_among(bits: u64, probes: &[Option<usize>], number: usize) -> Option<usize>
     ensures { result ≡ number_among bits 0 probes.now number }
 {
@@ -127,8 +127,8 @@ fn number_among(bits: u64, probes: &[Option<usize>], number: usize) -> Option<us
 }
 
 impl Skips<'_, '_> {
-    /// What became of a message, with the calls that did not run among the others. An error if an
-    /// allocation is refused.
+    /// Returns the outcome of a message, with the calls that did not run among the others. Returns
+    /// an error if an allocation is refused.
     pub(crate) fn among(self, alloc: Global, outcome: Outcome) -> Result<Outcome, AllocError> {
         match self.inactive.get() {
             0 => Ok(outcome),
@@ -136,7 +136,8 @@ impl Skips<'_, '_> {
         }
     }
 
-    /// A call that was refused, by its number among all calls in place of that among those that ran.
+    /// Returns a refused call with its number among all calls, in place of the number among those
+    /// that ran.
     pub(crate) fn numbered(self, call: RefusedCall) -> RefusedCall {
         match number_among(self.inactive.get(), self.probes, call.number) {
             Some(number) => RefusedCall {

@@ -1,4 +1,4 @@
-//! Answers of which it is noted what becomes of each message and its calls.
+//! Answers that note the outcome of each message and its calls.
 ghost use Rattle.std.specs.Prelude.{◌≡◌, ℕ, List, IfOk};
 ghost use Rattle.capnp_relay_loop.specs.MessageAnswers.{answer_view};
 ghost use Rattle.hagzimot_outcomes.specs.Outcomes.{refused_place};
@@ -15,8 +15,8 @@ use capnp_units::sizes::Word;
 use std::alloc::{AllocError, Global};
 use std::cell::Cell;
 
-/// The replies of an answer that were made one by one; none where each call is done, or the message
-/// has no answer.
+/// Returns the replies of an answer that were made one by one. Returns no replies if each call is
+/// done, or if the message has no answer.
 #[inline(always)]
 fn replies_of(answer: &MessageAnswer) -> &[Reply]
     ensures { (into : List (List ℕ)) → refused_call (answer_view into answer.now)
@@ -32,12 +32,13 @@ fn replies_of(answer: &MessageAnswer) -> &[Reply]
     }
 }
 
-/// Answers as they are. Calls that are refused are counted, and messages without an answer looked at.
-// Measured: where each call is done nothing is counted, so a small message costs nothing more.
+/// Answers that pass through unchanged. Refused calls are counted, and messages without an answer
+/// are looked at.
+// Measured: if each call is done, nothing is counted, so a small message costs nothing more.
 #[derive(Drop)]
 pub struct Counted<'a, 'n, A, N> {
     pub answers: &'a A,
-    /// How many calls were refused so far.
+    /// The number of calls that were refused so far.
     pub refused: &'n Cell<u64>,
     pub notes: &'n N,
 }
@@ -71,19 +72,19 @@ impl<A: Answers, N: Notes> Answers for Counted<'_, '_, A, N> {
     }
 }
 
-/// Answers of which it is noted what became of the message. If they are strict a message with a
-/// call that is refused is refused too.
+/// Answers that note the outcome of each message. If they are strict, a message with a refused call
+/// is refused too.
 #[derive(Drop)]
 pub struct Watched<'a, 'n, 'p, 'i, A, N> {
     pub answers: &'a A,
-    /// Who is told what became of each message.
+    /// The receiver of the outcome of each message.
     pub notes: &'n N,
     pub is_strict: bool,
-    /// Which calls the answers leave out, if they leave some out.
+    /// The calls that the answers leave out, if they leave some out.
     pub skips: Option<Skips<'p, 'i>>,
 }
 
-/// Returns what became of a message with this answer, whose calls all ran.
+/// Returns the outcome of a message with this answer, whose calls all ran.
 fn outcome_of(alloc: Global, answer: &MessageAnswer) -> Result<Outcome, AllocError>
     ensures { IfOk result (IsOutcomeOf answer.now) }
 {
@@ -104,7 +105,7 @@ impl<A, N: Notes> Watched<'_, '_, '_, '_, A, N> {
     ghost use Rattle.std.specs.Prelude.{◌≡◌, IfErr};
     ghost use Rattle.capnp_relay_loop.specs.declared.answer.Want.{Want};
 
-    /// Notes what became of a message with this answer.
+    /// Notes the outcome of a message with this answer.
     fn note(&self, alloc: Global, answer: &MessageAnswer) -> Result<(), Want>
         ensures { IfErr result (λ want. want ≡ Want.Memory) }
     {

@@ -14,11 +14,11 @@ use capnp_units::errors::Error;
 use capnp_units::kinds::ErrorKind;
 use std::alloc::Global;
 
-/// Why messages are no longer copied, and how many were copied before.
+/// The fault that ends a copy of messages, and the number of messages before it.
 #[derive(Clone, Copy, Debug, PartialEq, Eq)]
 pub struct CopyFault {
     pub fault: Fault,
-    /// The messages that were copied whole.
+    /// The number of messages that were copied whole.
     pub copied: u64,
 }
 
@@ -44,7 +44,7 @@ fn write_fault(e: Error) -> Fault
     }
 }
 
-/// Copies the next message of the source to the sink, and returns whether there was one.
+/// Copies the next message of the source to the sink. Returns `false` at the end of the source.
 fn copy_next<I: MessageForm, O: MessageForm, R: BufRead, W: Write>(
     alloc: Global,
     buffer: &mut MessageBuffer,
@@ -67,13 +67,13 @@ fn copy_next<I: MessageForm, O: MessageForm, R: BufRead, W: Write>(
     }
 }
 
-/// Copies at most so many messages from the source to the sink, each with the segments that it came
-/// with, and returns how many there were: fewer only if the source then is at its end. A message has
-/// at most `limit` words. The buffer holds each message in turn. (Encoding, "Serialization Over a
+/// Copies at most `most` messages from the source to the sink, each with its segments. Returns the
+/// number of messages, which is smaller only if the source is then at its end. A message has at
+/// most `limit` words. The buffer holds each message in turn. (Encoding, "Serialization Over a
 /// Stream")
 ///
-/// Errors, after each of which the messages before it have been copied whole:
-/// - `Framing`: what is left of the source does not begin with a message;
+/// Errors, after which the earlier messages have been copied whole:
+/// - `Framing`: the rest of the source does not begin with a message;
 /// - `Source`, `Out`: the device failed, or the sink has no room;
 /// - `Memory`: the memory for a message or its table was refused.
 pub fn copy_messages<I: MessageForm, O: MessageForm, R: BufRead, W: Write>(

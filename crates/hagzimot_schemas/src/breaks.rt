@@ -1,4 +1,4 @@
-//! What breaks the compatibility of two versions of a schema, in sentences.
+//! Sentences that report what breaks the compatibility of two versions of a schema.
 ghost use Rattle.std.specs.Prelude.{◌≡◌, ◌==◌, ◌≤◌, true, false, length, option_map, option_copied, slice_get, string_bytes, All, IfOk, IfErr};
 ghost use Rattle.std.specs.Bool.{MatchBool};
 ghost use Rattle.capnp_model.specs.Accepted.{fields_of_kind};
@@ -21,9 +21,10 @@ use capnp_records::node::{BaseType, FieldBody, FieldRecord, NodeRecord};
 use capnp_units::errors::Result;
 use std::alloc::{AllocError, Global};
 
-/// What breaks a newer schema's compatibility with an older from the two roots on, where fields are
-/// renamed: the first break alone or, with `all`, that of each pair of structs. None exactly where
-/// they are compatible. `OutOfMemory` is the one error.
+/// Returns what breaks a newer schema's compatibility with an older one, from the two roots on:
+/// only the first break or, with `all`, that of each pair of structs. Fields are paired by
+/// renamings too. There is no break exactly when the schemas are compatible. `OutOfMemory` is the
+/// only error.
 pub fn breaks_between(
     alloc: Global,
     older: Root<'_>,
@@ -55,14 +56,14 @@ pub fn breaks_between(
 /// A sentence, or a part of it.
 type Told = std::result::Result<String, AllocError>;
 
-/// A version of a schema: its nodes, and its age, `older` or `newer`, by which sentences call it.
+/// A version of a schema: its nodes, and its age, `older` or `newer`, which sentences name.
 #[derive(Clone, Copy)]
 pub struct Version<'a> {
     pub nodes: &'a [NodeRecord],
     pub age: &'a str,
 }
 
-/// The name of the field of an index; `None` past the last field, and in an enum.
+/// Returns the name of the field of an index. Returns `None` past the last field, and for an enum.
 pub fn field_name(node: &NodeRecord, index: usize) -> Option<&str>
     ensures { option_copied result ≡ option_map (λ f. f.name)
         (slice_get (fields_of_kind (node_kind node.now.body)) index) }
@@ -73,8 +74,8 @@ pub fn field_name(node: &NodeRecord, index: usize) -> Option<&str>
     }
 }
 
-/// A name in one version, and in the other of this age where it is another there. Each stands
-/// between two marks.
+/// Returns a name in one version. If the name is another in the version of this age, that name
+/// follows. Each name is between two marks.
 fn names_told(alloc: Global, mark: &str, older: &str, newer: &str, age: &str) -> Told
     ensures { IfOk result (λ s. string_bytes s
         ≡ names_text mark.now older.now newer.now age.now) }
@@ -85,7 +86,7 @@ fn names_told(alloc: Global, mark: &str, older: &str, newer: &str, age: &str) ->
     format!(in alloc; "{mark}{older}{mark} (in the {age} schema {mark}{newer}{mark})")
 }
 
-/// The name of a node.
+/// Returns the name of a node.
 fn node_name(node: Option<&NodeRecord>) -> &str
     ensures { result.now ≡ node_text (option_copied node.entry) }
 {
@@ -95,7 +96,7 @@ fn node_name(node: Option<&NodeRecord>) -> &str
     }
 }
 
-/// The field of an index.
+/// Returns the field of an index.
 fn field_at(node: Option<&NodeRecord>, index: usize) -> Option<&FieldRecord>
     ensures { option_copied result ≡ field_in (option_copied node.entry) index }
 {
@@ -105,7 +106,7 @@ fn field_at(node: Option<&NodeRecord>, index: usize) -> Option<&FieldRecord>
     }
 }
 
-/// The name of a field, `?` where there is none.
+/// Returns the name of a field, or `?` if there is no field.
 fn name_of(field: Option<&FieldRecord>) -> &str
     ensures { result.now ≡ name_text (option_copied field.entry) }
 {
@@ -115,8 +116,8 @@ fn name_of(field: Option<&FieldRecord>) -> &str
     }
 }
 
-/// How many times a list of enums a type is that is so many times a list of a base; `None` of
-/// another base.
+/// Returns the depth of a list of enums, given the depth of a list and its base. Returns `None` if
+/// the base is another one.
 fn enum_depth(count: u32, base: BaseType) -> Option<u32>
     ensures { result ≡ enum_depth count base }
 {
@@ -126,7 +127,8 @@ fn enum_depth(count: u32, base: BaseType) -> Option<u32>
     }
 }
 
-/// How many times a slot is a list of enums; `None` where it is of another type, or a group.
+/// Returns the depth of a slot that is a list of enums. Returns `None` if it is of another type, or
+/// a group.
 fn depth_of_enums(field: &FieldRecord) -> Option<u32>
     ensures { result ≡ depth_of_enums field.now.body }
 {
@@ -136,7 +138,7 @@ fn depth_of_enums(field: &FieldRecord) -> Option<u32>
     }
 }
 
-/// Whether both fields are of enums, in lists of one depth.
+/// Tests whether both fields are of enums, in lists of one depth.
 fn are_enums(older: Option<&FieldRecord>, newer: Option<&FieldRecord>) -> bool
     ensures { result ≡ are_enums (option_copied older.entry) (option_copied newer.entry) }
 {
@@ -152,7 +154,7 @@ fn are_enums(older: Option<&FieldRecord>, newer: Option<&FieldRecord>) -> bool
     }
 }
 
-/// What is said of two fields that break a rule, of enums or not.
+/// Returns the text of a rule that two fields break. `enums` says whether they are of enums.
 fn how_told(rule: FieldRule, enums: bool) -> &'static str
     ensures { result.now ≡ how_text rule enums }
 {
@@ -167,8 +169,7 @@ fn how_told(rule: FieldRule, enums: bool) -> &'static str
     }
 }
 
-/// Two nodes that break a rule, the second in the version of this age. A node that is missing is
-/// `None`.
+/// Two nodes that break a rule. The second is in the version of this age. A missing node is `None`.
 #[derive(Clone, Copy)]
 struct Nodes<'a> {
     older: Option<&'a NodeRecord>,
@@ -176,7 +177,7 @@ struct Nodes<'a> {
     age: &'a str,
 }
 
-/// The nodes by their names.
+/// Returns the names of the nodes.
 fn nodes_told(alloc: Global, nodes: Nodes<'_>) -> Told
     ensures { IfOk result (λ s. string_bytes s ≡ nodes_text (pair_view nodes.entry)) }
 {
@@ -184,7 +185,7 @@ fn nodes_told(alloc: Global, nodes: Nodes<'_>) -> Told
     names_told(alloc, "", older, newer, nodes.age)
 }
 
-/// A field of each by its name.
+/// Returns the names of a field of each node.
 fn fields_told(alloc: Global, nodes: Nodes<'_>, older: usize, newer: usize) -> Told
     ensures { IfOk result (λ s. string_bytes s ≡ fields_text (pair_view nodes.entry) older newer) }
 {
@@ -193,7 +194,7 @@ fn fields_told(alloc: Global, nodes: Nodes<'_>, older: usize, newer: usize) -> T
     names_told(alloc, "\"", older, newer, nodes.age)
 }
 
-/// Says how a newer field doesn't keep the older one.
+/// Returns the sentence of a newer field that doesn't keep the older one.
 fn field_told(alloc: Global, nodes: Nodes<'_>, older: usize, newer: usize, rule: FieldRule) -> Told
     ensures { IfOk result (λ s. string_bytes s
         ≡ field_text (pair_view nodes.entry) older newer rule) }
@@ -208,7 +209,7 @@ fn field_told(alloc: Global, nodes: Nodes<'_>, older: usize, newer: usize, rule:
     }
 }
 
-/// Says before which field another stands, if there is one.
+/// Returns the part of a sentence that names the older field that is due, if there is one.
 fn due_told(alloc: Global, due: Option<&FieldRecord>) -> Told
     ensures { IfOk result (λ s. string_bytes s ≡ due_text (option_copied due.entry)) }
 {
@@ -221,7 +222,8 @@ fn due_told(alloc: Global, due: Option<&FieldRecord>) -> Told
     }
 }
 
-/// Says that a newer field has the value of an older member, where an older field is due.
+/// Returns the sentence of a newer field that has the union value of an older member, although
+/// another older field is due.
 fn taken_told(alloc: Global, nodes: Nodes<'_>, due: usize, newer: usize) -> Told
     ensures { IfOk result (λ s. string_bytes s
         ≡ taken_text (pair_view nodes.entry) due newer) }
@@ -234,7 +236,7 @@ fn taken_told(alloc: Global, nodes: Nodes<'_>, due: usize, newer: usize) -> Told
     )
 }
 
-/// Says that an older field is missing.
+/// Returns the sentence of an older field that is missing.
 fn missing_told(alloc: Global, nodes: Nodes<'_>, older: usize) -> Told
     ensures { IfOk result (λ s. string_bytes s
         ≡ missing_text (pair_view nodes.entry) older) }
@@ -246,7 +248,7 @@ fn missing_told(alloc: Global, nodes: Nodes<'_>, older: usize) -> Told
     )
 }
 
-/// What is said of two nodes that break a rule.
+/// Returns the sentence of two nodes that break a rule.
 fn rule_told(alloc: Global, nodes: Nodes<'_>, rule: Rule) -> Told
     ensures { IfOk result (λ s. string_bytes s ≡ rule_text (pair_view nodes.entry) rule) }
 {
@@ -266,7 +268,7 @@ fn rule_told(alloc: Global, nodes: Nodes<'_>, rule: Rule) -> Told
     }
 }
 
-/// The nodes of two ids in two versions.
+/// Returns the nodes of two ids in two versions.
 fn nodes_of<'a>(older: Version<'a>, newer: Version<'a>, ids: (u64, u64)) -> Nodes<'a>
     ensures { pair_view result ≡ pair_of older.entry newer.entry ids.0 ids.1 }
 {
@@ -277,7 +279,8 @@ fn nodes_of<'a>(older: Version<'a>, newer: Version<'a>, ids: (u64, u64)) -> Node
     }
 }
 
-/// What is said of a field whose interface is another in the newer version.
+/// Returns the sentence of a field that has another interface in the newer version. Returns an
+/// error if an allocation was refused.
 pub fn interface_sentence(
     alloc: Global,
     older: Version<'_>,
@@ -295,9 +298,9 @@ pub fn interface_sentence(
     format!(in alloc; "{names}: field {fields} has another interface in the {age} schema")
 }
 
-/// What is said of a break of the newer version's compatibility with the older, as
-/// `shop.capnp:Order: field "total" lies elsewhere in the newer schema`. A name that is another in
-/// the newer version is told in both. An error where a growth was refused.
+/// Returns the sentence of a break of the newer version's compatibility with the older, such as
+/// `shop.capnp:Order: field "total" lies elsewhere in the newer schema`. If a name is another in
+/// the newer version, the sentence has both names. Returns an error if an allocation was refused.
 pub fn sentence(alloc: Global, older: Version<'_>, newer: Version<'_>, broken: Break) -> Told
     ensures { IfOk result (λ s. string_bytes s ≡ sentence_text
         (pair_of older.entry newer.entry broken.older broken.newer) broken.rule) }

@@ -7,7 +7,7 @@ use hagzimot_forms::schema_form::schema_form_fault;
 use serde_json::Value as Json;
 use std::alloc::Global;
 
-/// What a file that is given as a schema looks like.
+/// The form that a file given as a schema seems to have.
 #[derive(Clone, Copy, Debug, PartialEq, Eq)]
 pub enum SchemaForm {
     /// No bytes.
@@ -20,11 +20,11 @@ pub enum SchemaForm {
     Json,
     /// The source of a schema, which the compiler reads.
     Source,
-    /// None of these.
+    /// Any other file.
     Other,
 }
 
-/// Whether a file is a request of the compiler and no JSON.
+/// Tests whether a file is a request of the compiler, and not JSON.
 pub(crate) fn is_request(bytes: &[u8]) -> bool
     ensures { result ≡ is_request bytes.now }
 {
@@ -34,7 +34,7 @@ pub(crate) fn is_request(bytes: &[u8]) -> bool
     }
 }
 
-/// The bytes behind white space and comments of a schema's source.
+/// Returns the bytes after the white space and the comments at the head of a schema's source.
 fn behind_comments(bytes: &[u8]) -> &[u8] {
     let mut rest = bytes;
     let mut is_comment = false;
@@ -52,7 +52,7 @@ fn behind_comments(bytes: &[u8]) -> &[u8] {
     rest
 }
 
-/// What declarations in a schema's source begin with.
+/// The texts with which declarations in a schema's source begin.
 static BEGINNINGS: [&str; 8] = [
     "@0x",
     "using ",
@@ -64,7 +64,7 @@ static BEGINNINGS: [&str; 8] = [
     "$",
 ];
 
-/// What a file that is given as a schema looks like: the one place where that is decided.
+/// Returns the form that a file given as a schema seems to have. Only this function decides it.
 pub fn schema_form(bytes: &[u8]) -> SchemaForm {
     if bytes.is_empty() {
         return SchemaForm::Empty;
@@ -88,7 +88,7 @@ pub fn schema_form(bytes: &[u8]) -> SchemaForm {
     }
 }
 
-/// Why bytes are no JSON of a schema's form.
+/// Returns the reason for which bytes are not a JSON schema file.
 pub(crate) fn json_trouble(alloc: Global, bytes: &[u8]) -> SchemaTrouble {
     match Json::from_slice(alloc, bytes) {
         Ok(_) => SchemaTrouble::Form(schema_form_fault(alloc, bytes)),

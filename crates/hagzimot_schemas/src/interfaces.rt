@@ -29,7 +29,7 @@ pub struct InterfaceBreak {
     pub newer_field: usize,
 }
 
-/// The interface of the field of an index; 0 of any interface.
+/// Returns the interface of the field of an index, or 0 if it may be any interface.
 fn interface_of(fields: &[InterfaceField], node: u64, index: usize) -> u64
     ensures { result ≡ interface_of fields.now node index }
 {
@@ -43,7 +43,7 @@ fn interface_of(fields: &[InterfaceField], node: u64, index: usize) -> u64
     0
 }
 
-/// The name that a field has in the newer version.
+/// Returns the name that a field has in the newer version.
 fn newer_name<'a>(renamings: &'a Renamings, node: u64, name: &'a str) -> &'a str
     ensures { result.now ≡ partner_name (renamings_of renamings.now) node name.now }
 {
@@ -57,14 +57,14 @@ fn newer_name<'a>(renamings: &'a Renamings, node: u64, name: &'a str) -> &'a str
     name
 }
 
-/// Whether a base is a capability.
+/// Tests whether a base is a capability.
 fn is_capability_base(base: BaseType) -> bool
     ensures { result ≡ is_capability_base base }
 {
     matches!(base, BaseType::Capability)
 }
 
-/// Whether a field is a capability, or a list of them.
+/// Tests whether a field is a capability, or a list of capabilities.
 fn is_capability(field: &FieldRecord) -> bool
     ensures { result ≡ is_capability field.now.body }
 {
@@ -74,7 +74,7 @@ fn is_capability(field: &FieldRecord) -> bool
     }
 }
 
-/// The struct of a base.
+/// Returns the struct of a base.
 fn struct_of_base(base: BaseType) -> Option<u64>
     ensures { result ≡ struct_of_base base }
 {
@@ -84,7 +84,7 @@ fn struct_of_base(base: BaseType) -> Option<u64>
     }
 }
 
-/// The node that a field leads to: its struct, or its group.
+/// Returns the node that a field leads to: its struct, or its group.
 fn target(field: &FieldRecord) -> Option<u64>
     ensures { result ≡ target_of field.now.body }
 {
@@ -94,7 +94,7 @@ fn target(field: &FieldRecord) -> Option<u64>
     }
 }
 
-/// The index of the partner of an older node's field among the newer node's.
+/// Returns the index of the partner of an older node's field among the fields of the newer node.
 fn partner_index(
     renamings: &Renamings,
     node: u64,
@@ -107,7 +107,7 @@ fn partner_index(
     others.iter().position(|other| other.name.as_str() == name)
 }
 
-/// The pair of nodes that a field and its partner lead to.
+/// Returns the pair of nodes that a field and its partner lead to.
 fn lead(
     renamings: &Renamings,
     old: &NodeRecord,
@@ -124,7 +124,7 @@ fn lead(
     Some((older, newer))
 }
 
-/// Puts a pair behind others, if there is one.
+/// Appends a pair to others, if there is one.
 pub(crate) fn push_pair(
     pairs: &mut Vec<(u64, u64)>,
     pair: Option<(u64, u64)>,
@@ -137,7 +137,7 @@ pub(crate) fn push_pair(
     Ok(())
 }
 
-/// The pairs that the fields of a pair lead to.
+/// Returns the pairs that the fields of a pair lead to.
 fn leads(
     alloc: Global,
     older: Version<'_>,
@@ -172,7 +172,7 @@ impl Pairs {
     ghost use Rattle.std.specs.Prelude.{◌≡◌, [], IfOk};
     ghost use Rattle.hagzimot_schemas.specs.Interfaces.{with_pair, with_pairs, IsKnown};
 
-    /// No pairs.
+    /// Returns no pairs.
     fn new(alloc: Global) -> Pairs
         ensures none { result.pairs.items ≡ [] }
         ensures known { IsKnown result }
@@ -183,7 +183,7 @@ impl Pairs {
         }
     }
 
-    /// Puts a pair behind the others, unless it is there.
+    /// Appends a pair to the others, unless they have it.
     fn reach(&mut self, pair: (u64, u64)) -> Result<(), AllocError>
         requires { IsKnown self.old }
         ensures pairs { IfOk result (λ _.
@@ -196,7 +196,7 @@ impl Pairs {
         Ok(())
     }
 
-    /// Puts pairs behind the others, each unless it is there.
+    /// Appends pairs to the others, except those that they have.
     fn reach_all(&mut self, pairs: &[(u64, u64)]) -> Result<(), AllocError>
         requires { IsKnown self.old }
         ensures pairs { IfOk result (λ _.
@@ -212,7 +212,7 @@ impl Pairs {
     }
 }
 
-/// The pairs of nodes that are reached from two, each once.
+/// Returns the pairs of nodes that are reached from two nodes, each once.
 #[tactic(auto, unfolding(crate::specs::Interfaces::reached))]
 fn reached(
     alloc: Global,
@@ -237,8 +237,8 @@ fn reached(
     Err(AllocError)
 }
 
-/// What is told of a field of an index, if it is a capability whose partner is of another
-/// interface.
+/// Returns the break of the field of an index, if the field is a capability whose partner has
+/// another interface.
 fn change(
     older: Interfaces<'_>,
     newer: Interfaces<'_>,
@@ -266,7 +266,7 @@ fn change(
     }
 }
 
-/// Puts a break behind others, if there is one.
+/// Appends a break to others, if there is one.
 fn push_break(
     breaks: &mut Vec<InterfaceBreak>,
     broken: Option<InterfaceBreak>,
@@ -279,7 +279,7 @@ fn push_break(
     Ok(())
 }
 
-/// Puts what is told of the fields of a pair behind others.
+/// Appends the breaks of the fields of a pair of nodes to others.
 fn push_changes(
     found: &mut Vec<InterfaceBreak>,
     older: Interfaces<'_>,
@@ -303,8 +303,9 @@ fn push_changes(
     Ok(())
 }
 
-/// The fields, from the two roots on, whose interface is another in the newer version. Fields are
-/// paired by their names, and by renamings. They are in the order in which their nodes are reached.
+/// Returns the fields, from the two roots on, that have another interface in the newer version.
+/// Fields are paired by their names, and by renamings. They are in the order in which their nodes
+/// are reached.
 pub fn interface_breaks(
     alloc: Global,
     older: Interfaces<'_>,

@@ -1,4 +1,4 @@
-//! Schemas as people give them: read from files, told, checked and compared in words.
+//! Schemas that users give: read from files, printed, checked and compared in words.
 #![tactic(auto)]
 
 pub mod breaks;

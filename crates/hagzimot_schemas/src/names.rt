@@ -1,4 +1,4 @@
-//! How words name the nodes of a schema.
+//! Names of the nodes of a schema.
 ghost use Rattle.std.specs.Prelude.{◌≡◌, map, IfOk, string_bytes};
 ghost use Rattle.capnp_records.specs.NodeViews.{node_kind, node_of};
 ghost use Rattle.hagzimot_schemas.specs.Roots.{is_struct_sort, is_struct_kind, whole_name, names_view, names_of_node, names_of, hex_digit, number_spelled, id_of_word, spells, last_part, names_exactly, names_last};
@@ -7,7 +7,7 @@ use crate::nodes::short_name;
 use capnp_records::node::{NodeBody, NodeRecord};
 use std::alloc::{AllocError, Global};
 
-/// What a node is.
+/// The sort of a node.
 #[derive(Clone, Copy, Debug, PartialEq, Eq)]
 pub enum NodeSort {
     Struct,
@@ -26,7 +26,7 @@ pub struct NodeName {
     pub path: String,
 }
 
-/// What a node is.
+/// Returns the sort of a node.
 fn sort_of(node: &NodeRecord) -> NodeSort
     ensures { is_struct_sort result ≡ is_struct_kind (node_kind node.now.body) }
 {
@@ -42,8 +42,8 @@ fn sort_of(node: &NodeRecord) -> NodeSort
     }
 }
 
-/// The whole name of a node of a file; where the file has no name it is part of the node's, if
-/// anything.
+/// Returns the whole name of a node of a file. If the file has no name, the node's name is the
+/// whole name, with a file's name in it or not.
 fn whole_name(alloc: Global, file: &str, name: &str) -> Result<String, AllocError>
     ensures { IfOk result (λ s. string_bytes s ≡ whole_name file.now name.now) }
 {
@@ -56,7 +56,7 @@ fn whole_name(alloc: Global, file: &str, name: &str) -> Result<String, AllocErro
     Ok(whole)
 }
 
-/// The names of a node of a file.
+/// Returns the names of a node of a file.
 fn names_of_node(alloc: Global, node: &NodeRecord, file: &str) -> Result<NodeName, AllocError>
     ensures { IfOk result (λ n. names_view n ≡ names_of_node (node_of node.now) file.now) }
 {
@@ -68,7 +68,7 @@ fn names_of_node(alloc: Global, node: &NodeRecord, file: &str) -> Result<NodeNam
     })
 }
 
-/// The names of nodes. Files are told in the order of the nodes, or not.
+/// Returns the names of nodes. `files` has the names of their files in the same order, or is empty.
 pub fn names_of(
     alloc: Global,
     nodes: &[NodeRecord],
@@ -93,7 +93,7 @@ pub fn names_of(
     Ok(names)
 }
 
-/// The value of a digit in hex, of either case.
+/// Returns the value of a hexadecimal digit, of either case.
 fn hex_digit(byte: u8) -> Option<u64>
     ensures { result ≡ hex_digit byte }
 {
@@ -108,7 +108,8 @@ fn hex_digit(byte: u8) -> Option<u64>
     }
 }
 
-/// The number that digits spell in a base; `None` without digits, and if it has more than 64 bits.
+/// Returns the number that digits spell in a base. Returns `None` if there are no digits, or if the
+/// number has more than 64 bits.
 fn number_spelled(base: u64, digits: &[u8]) -> Option<u64>
     ensures { result ≡ number_spelled base digits.now }
 {
@@ -128,7 +129,7 @@ fn number_spelled(base: u64, digits: &[u8]) -> Option<u64>
     Some(number)
 }
 
-/// The id that a word spells, in decimal digits, or in hex behind `0x`.
+/// Returns the id that a word spells, in decimal digits, or in hexadecimal digits after `0x`.
 pub fn id_of_word(word: &[u8]) -> Option<u64>
     ensures { result ≡ id_of_word word.now }
 {
@@ -138,7 +139,7 @@ pub fn id_of_word(word: &[u8]) -> Option<u64>
     }
 }
 
-/// Whether a word spells an id.
+/// Tests whether a word spells an id.
 fn spells(word: &[u8], id: u64) -> bool
     ensures { result ≡ spells word.now id }
 {
@@ -148,7 +149,7 @@ fn spells(word: &[u8], id: u64) -> bool
     }
 }
 
-/// The last part of a path: what stands behind its last point.
+/// Returns the last part of a path: the bytes after its last point.
 fn last_part(path: &[u8]) -> &[u8]
     ensures { result.now ≡ last_part path.now }
 {
@@ -163,14 +164,15 @@ fn last_part(path: &[u8]) -> &[u8]
     last
 }
 
-/// Whether a word is a node's id, its path, or its whole name.
+/// Tests whether a word is a node's id, its path, or its whole name.
 pub fn names_exactly(word: &[u8], node: &NodeName) -> bool
     ensures { result ≡ names_exactly word.now (names_view node.now) }
 {
     spells(word, node.id) || node.path.as_bytes() == word || node.whole.as_bytes() == word
 }
 
-/// Whether a word is the last part of a node's path. A path with arguments is named as a whole.
+/// Tests whether a word is the last part of a node's path. A path with arguments is named as a
+/// whole.
 pub fn names_last(word: &[u8], node: &NodeName) -> bool
     ensures { result ≡ names_last word.now (names_view node.now) }
 {

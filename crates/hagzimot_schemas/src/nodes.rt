@@ -6,7 +6,7 @@ ghost use Rattle.hagzimot_schemas.specs.Nodes.{behind_colons, enumerants_of_body
 
 use capnp_records::node::{EnumerantRecord, FieldRecord, NodeBody, NodeRecord};
 
-/// The node of an id.
+/// Returns the node of an id.
 pub fn node_of_id(nodes: &[NodeRecord], id: u64) -> Option<&NodeRecord>
     ensures first { option_copied result ≡ find (λ n. n.id == id) nodes.now }
     ensures found { IfSome result (λ node. node.now.id ≡ id) }
@@ -15,7 +15,7 @@ pub fn node_of_id(nodes: &[NodeRecord], id: u64) -> Option<&NodeRecord>
     nodes.iter().find(|node| node.id == id)
 }
 
-/// The name of a node, without what stands in front of its last colon.
+/// Returns the name of a node after its last colon.
 pub fn short_name(node: &NodeRecord) -> &str
     ensures { result.now ≡ behind_colons (string_bytes node.now.display_name) }
 {
@@ -26,7 +26,7 @@ pub fn short_name(node: &NodeRecord) -> &str
     name
 }
 
-/// The fields of a node; none of an enum.
+/// Returns the fields of a node. An enum has no fields.
 pub fn fields_of(node: &NodeRecord) -> &[FieldRecord]
     ensures records { result.now ≡ fields_of_body node.now.body }
     ensures fields { map field_of result.now ≡ fields_of_kind (node_kind node.now.body) }
@@ -37,7 +37,7 @@ pub fn fields_of(node: &NodeRecord) -> &[FieldRecord]
     }
 }
 
-/// The enumerants of a node; none of a struct.
+/// Returns the enumerants of a node. A struct has no enumerants.
 pub fn enumerants_of(node: &NodeRecord) -> &[EnumerantRecord]
     ensures records { result.now ≡ enumerants_of_body node.now.body }
     ensures enumerants { map enumerant_of result.now

@@ -21,8 +21,8 @@ pub struct StructPairs<'a> {
     pub left_out: Vec<&'a str>,
 }
 
-/// Whether a node is a struct of its own: no group and no struct that binds a generic type, which
-/// are compared with the structs that lead to them.
+/// Tests whether a node is a struct of its own. Groups and structs that bind a generic type are
+/// not: they are compared with the structs that lead to them.
 fn is_own_struct(node: &NodeRecord) -> bool
     ensures { result ≡ is_own_struct node.now }
 {
@@ -73,7 +73,7 @@ impl<'a> Structs<'a> {
     ghost use Rattle.std.specs.Prelude.{◌≡◌, IfOk};
     ghost use Rattle.hagzimot_schemas.specs.Twins.{twin_of};
 
-    /// The structs among nodes.
+    /// Finds the structs among nodes.
     fn new(alloc: Global, nodes: &'a [NodeRecord]) -> Result<Structs<'a>, AllocError>
         ensures { IfOk result (λ structs. structs.nodes.now ≡ nodes.now) }
     {
@@ -88,8 +88,8 @@ impl<'a> Structs<'a> {
         Ok(Structs { nodes, ids, names })
     }
 
-    /// The struct that is an older node's: that of its id or, if there is none, the last of its
-    /// name.
+    /// Returns the newer struct of an older node: that of its id or, if there isn't one, the last
+    /// of its name.
     fn twin(&self, node: &NodeRecord) -> Option<u64>
         ensures { result ≡ twin_of self.now.nodes.now node.now }
     {
@@ -100,7 +100,7 @@ impl<'a> Structs<'a> {
     }
 }
 
-/// The ids of an older node and its newer struct, if it is a struct that has one.
+/// Returns the ids of an older node and its newer struct, if it is a struct that has one.
 fn paired(newer: &Structs<'_>, node: &NodeRecord) -> Option<(u64, u64)>
     ensures { result ≡ paired newer.now.nodes.now node.now }
 {
@@ -111,7 +111,7 @@ fn paired(newer: &Structs<'_>, node: &NodeRecord) -> Option<(u64, u64)>
     Some((node.id, twin))
 }
 
-/// The name of an older node, if it is a struct that has no newer one.
+/// Returns the name of an older node, if it is a struct that has no newer struct.
 fn lacked<'a>(newer: &Structs<'_>, node: &'a NodeRecord) -> Option<&'a str>
     ensures { option_map (λ s. s.now) result ≡ lacked newer.now.nodes.now node.now }
 {

@@ -1,4 +1,4 @@
-//! The struct that words name as the root of messages.
+//! The struct that the arguments name as the root of messages.
 ghost use Rattle.std.specs.Prelude.{◌≡◌, ◌&&◌, [], ◌∷◌, map, IfOk, IfErr};
 ghost use Rattle.hagzimot_schemas.specs.Roots.{names_view, names_exactly, names_last, with_id, roots_named, has_no_scope, structs_where, IsRootRefusal};
 
@@ -8,30 +8,30 @@ use std::fmt;
 use std::fmt::{Display, Formatter, Write};
 use strsim::osa_distance;
 
-/// Why there is no root.
+/// The reason for which there is no root.
 #[derive(Debug, Drop)]
 pub enum RootTrouble {
-    /// The word names several structs, which are told.
+    /// The word names several structs, which `structs` lists.
     Ambiguous {
         word: String,
         structs: String,
     },
-    /// The word names no node; the nearest name of a struct, if one is near.
+    /// The word doesn't name a node. `nearest` is the nearest name of a struct, if one is near.
     Unknown {
         word: String,
         nearest: Option<String>,
     },
-    /// The word names nodes, but no struct; what the first is.
+    /// The word names nodes, but not a struct. `sort` is that of the first node.
     NoStruct {
         word: String,
         sort: NodeSort,
     },
-    /// Without a word there is no root, since the schema has none or several at its top, which are
-    /// told.
+    /// There is no word, and the schema doesn't have one struct at its top. `structs` lists those
+    /// that it has.
     NoSingle {
         structs: String,
     },
-    /// A growth was refused.
+    /// An allocation was refused.
     Memory,
 }
 
@@ -46,7 +46,7 @@ impl From<AllocError> for RootTrouble {
     }
 }
 
-/// What a node of a sort is called.
+/// Returns the noun of a sort of nodes.
 fn sort_text(sort: NodeSort) -> &'static str {
     match sort {
         NodeSort::Struct => "a struct",
@@ -84,14 +84,14 @@ impl Display for RootTrouble {
     }
 }
 
-/// Whether another node has the same path.
+/// Tests whether another node has the same path.
 fn has_twin(names: &[NodeName], name: &NodeName) -> bool {
     names
         .iter()
         .any(|other| other.id != name.id && other.path == name.path)
 }
 
-/// The nodes of these ids, by their names and ids, with commas between them.
+/// Returns the names and ids of the nodes of these ids, with commas between them.
 fn told(alloc: Global, names: &[NodeName], ids: &[u64]) -> Result<String, AllocError> {
     let mut text = String::new(alloc);
     for name in names {
@@ -112,14 +112,14 @@ fn told(alloc: Global, names: &[NodeName], ids: &[u64]) -> Result<String, AllocE
     Ok(text)
 }
 
-/// Whether a node is a struct that is no group.
+/// Tests whether a node is a struct that is not a group.
 fn is_struct(name: &NodeName) -> bool
     ensures { result ≡ (names_view name.now).is_struct }
 {
     matches!(name.sort, NodeSort::Struct)
 }
 
-/// Puts an id behind others, if a test took it.
+/// Appends an id to others, if a test accepted it.
 fn push_if(ids: &mut Vec<u64>, id: u64, is_taken: bool) -> Result<(), AllocError>
     ensures { IfOk result (λ _. ids.new.items ≡ with_id ids.old.items id is_taken) }
 {
@@ -129,22 +129,22 @@ fn push_if(ids: &mut Vec<u64>, id: u64, is_taken: bool) -> Result<(), AllocError
     Ok(())
 }
 
-/// Whether a word names a struct exactly.
+/// Tests whether a word names a struct exactly.
 fn is_exact(word: &[u8], name: &NodeName) -> bool
     ensures { let n = names_view name.now in result ≡ (n.is_struct && names_exactly word.now n) }
 {
     is_struct(name) && names_exactly(word, name)
 }
 
-/// Whether a word is the last part of a struct's path.
+/// Tests whether a word is the last part of a struct's path.
 fn is_last(word: &[u8], name: &NodeName) -> bool
     ensures { let n = names_view name.now in result ≡ (n.is_struct && names_last word.now n) }
 {
     is_struct(name) && names_last(word, name)
 }
 
-/// The ids of the structs that a word names: those that it names exactly, or else those whose
-/// path's last part it is.
+/// Returns the ids of the structs that a word names: those that it names exactly or, if there
+/// aren't any, those whose path has the word as its last part.
 fn structs_named(alloc: Global, names: &[NodeName], word: &[u8]) -> Result<Vec<u64>, AllocError>
     ensures { IfOk result (λ ids. ids.items ≡ roots_named word.now (map names_view names.now)) }
 {
@@ -163,7 +163,7 @@ fn structs_named(alloc: Global, names: &[NodeName], word: &[u8]) -> Result<Vec<u
     }
 }
 
-/// The last part of a path.
+/// Returns the last part of a path.
 fn last_name(path: &str) -> &str {
     match path.rsplit_once('.') {
         Some((_, name)) => name,
@@ -171,8 +171,8 @@ fn last_name(path: &str) -> &str {
     }
 }
 
-/// The path of the struct of which a word is nearest to the path or, with `by_last`, to its last
-/// part, where at most a third of the word's letters, and one, are otherwise.
+/// Returns the path of the struct that is nearest to a word. With `by_last`, only the last part of
+/// the path is compared. At most a third of the word's letters, and one more, may differ.
 fn nearest_path<'a>(
     alloc: Global,
     names: &'a [NodeName],
@@ -195,7 +195,7 @@ fn nearest_path<'a>(
     Ok(nearest)
 }
 
-/// The path of the struct that is nearest to a word, if one is near.
+/// Returns the path of the struct that is nearest to a word, if one is near.
 fn nearest(alloc: Global, names: &[NodeName], word: &str) -> Result<Option<String>, AllocError> {
     let by_path = nearest_path(alloc, names, word, false)?;
     let near = match by_path {
@@ -208,7 +208,7 @@ fn nearest(alloc: Global, names: &[NodeName], word: &str) -> Result<Option<Strin
     }
 }
 
-/// The sort of the first node that a word names.
+/// Returns the sort of the first node that a word names.
 fn sort_named(names: &[NodeName], word: &[u8]) -> Option<NodeSort> {
     for name in names {
         if names_exactly(word, name) || names_last(word, name) {
@@ -218,7 +218,7 @@ fn sort_named(names: &[NodeName], word: &[u8]) -> Option<NodeSort> {
     None
 }
 
-/// What is said of a word that names no struct.
+/// Returns the reason for which a word doesn't name a struct.
 fn unknown(alloc: Global, names: &[NodeName], word: &str) -> Result<RootTrouble, AllocError>
     ensures { IfOk result (IsRootRefusal []) }
 {
@@ -232,7 +232,7 @@ fn unknown(alloc: Global, names: &[NodeName], word: &str) -> Result<RootTrouble,
     })
 }
 
-/// The id of the struct that a word names.
+/// Returns the id of the struct that a word names.
 pub fn root_named(alloc: Global, names: &[NodeName], word: &str) -> Result<u64, RootTrouble>
     ensures named { IfOk result (λ id. roots_named word.now (map names_view names.now) ≡ id ∷ []) }
     ensures refused { IfErr result (IsRootRefusal
@@ -249,7 +249,7 @@ pub fn root_named(alloc: Global, names: &[NodeName], word: &str) -> Result<u64, 
     }
 }
 
-/// The one struct at the top of a schema.
+/// Returns the one struct at the top of a schema.
 pub fn single_root(
     alloc: Global,
     names: &[NodeName],
@@ -265,7 +265,7 @@ pub fn single_root(
     }
 }
 
-/// Whether a node is a struct whose path has no scope and no arguments.
+/// Tests whether a node is a struct whose path has no scope and no arguments.
 fn is_unscoped(name: &NodeName) -> bool
     ensures { let n = names_view name.now in result ≡ (n.is_struct && has_no_scope n) }
 {
@@ -273,7 +273,8 @@ fn is_unscoped(name: &NodeName) -> bool
     is_struct(name) && !path.contains(&b'.') && !path.contains(&b'(')
 }
 
-/// The structs whose paths have no scope and no arguments: those at the top of a schema file.
+/// Returns the structs whose paths have no scope and no arguments: those at the top of a schema
+/// file.
 pub fn unscoped(alloc: Global, names: &[NodeName]) -> Result<Vec<u64>, AllocError>
     ensures { IfOk result (λ ids. ids.items
         ≡ structs_where has_no_scope (map names_view names.now)) }

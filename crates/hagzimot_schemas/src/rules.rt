@@ -2,7 +2,7 @@
 ghost use Rattle.std.specs.Prelude.{◌≡◌};
 ghost use Rattle.hagzimot_schemas.specs.Rules.{rule_told};
 
-/// What the rule of a number says, from 1 to 12.
+/// Returns the text of a rule by its number, from 1 to 12.
 pub fn rule_text(rule: u32) -> &'static str
     ensures { result.now ≡ rule_told rule }
 {

@@ -1,4 +1,4 @@
-//! Whether nodes are the same but for their annotations.
+//! Comparison of nodes without their annotations.
 ghost use Rattle.std.specs.Prelude.{◌≡◌, IsTrue, map, option_map};
 ghost use Rattle.capnp_records.specs.NodeViews.{base_of, type_record_of, value_of, kind_of_field, field_of, enumerant_of, struct_of, node_kind, node_of};
 ghost use Rattle.hagzimot_schemas.specs.SchemaForms.{bare_field, bare_enumerant, bare_struct, bare_kind, bare_node};
@@ -139,7 +139,7 @@ fn is_same_node(told: &NodeRecord, read: &NodeRecord) -> bool
         && is_same_kind(&told.body, &read.body)
 }
 
-/// Whether nodes are the same but for their annotations.
+/// Tests whether nodes are the same, apart from their annotations.
 pub(crate) fn are_same_nodes(told: &[NodeRecord], read: &[NodeRecord]) -> bool
     ensures { IsTrue result
         → map bare_node (map node_of told.now) ≡ map bare_node (map node_of read.now) }

@@ -1,4 +1,4 @@
-//! Nodes as the text of a schema file.
+//! The text of a JSON schema file for nodes.
 ghost use Rattle.std.specs.Prelude.{◌≡◌, map, option_map, string_bytes, Some, IfOk};
 ghost use Rattle.capnp_records.specs.NodeViews.{node_of};
 ghost use Rattle.capnp_relay_files.specs.SchemaFiles.{schema_nodes_in};
@@ -17,7 +17,7 @@ use std::alloc::{AllocError, Global};
 use std::fmt;
 use std::fmt::{Display, Formatter, Write};
 
-/// Bytes in hex, between double quotes.
+/// Bytes in hexadecimal digits, between double quotes.
 #[derive(Clone, Copy)]
 struct Hex<'a>(&'a [u8]);
 
@@ -31,12 +31,12 @@ impl Display for Hex<'_> {
     }
 }
 
-/// How ids are written.
+/// The form in which ids are written.
 #[derive(Clone, Copy, Debug, PartialEq, Eq)]
 pub enum IdForm {
-    /// As numbers of up to 20 digits.
+    /// Numbers of up to 20 digits.
     Numbers,
-    /// As texts of their digits, which no reader of JSON rounds. The command takes both.
+    /// Texts of their digits, which no reader of JSON rounds. The command reads both.
     Texts,
 }
 
@@ -119,7 +119,7 @@ impl Display for TypeText {
     }
 }
 
-/// A default, with the key in front of it; nothing where the file tells it by leaving it out.
+/// A default, after its key. It is empty if a file leaves out this default.
 #[derive(Clone, Copy)]
 struct DefaultText<'a>(&'a Value);
 
@@ -153,7 +153,7 @@ impl Display for DefaultText<'_> {
             Value::UInt64(n) => DefaultText::put_number(*n as i128, f),
             Value::Text(text) => match str::from_utf8(text) {
                 Ok(text) => DefaultText::put(Quoted(text), f),
-                // Not one that the file can hold; it doesn't read back, which is told.
+                // A file can't have this text. It doesn't read back, so `Untold` is returned.
                 Err(_) => Ok(()),
             },
             Value::Data(bytes) | Value::List(bytes) | Value::Struct(bytes) => {
@@ -276,7 +276,7 @@ impl Display for NodeText<'_> {
     }
 }
 
-/// Nodes, as the text of a schema file.
+/// The text of a schema file with these nodes.
 #[derive(Clone, Copy)]
 struct SchemaText<'a> {
     nodes: &'a [NodeRecord],
@@ -296,14 +296,14 @@ impl Display for SchemaText<'_> {
     }
 }
 
-/// Why nodes have no text.
+/// The reason for which nodes have no text.
 #[derive(Clone, Copy, Debug, PartialEq, Eq, thiserror::Error)]
 pub enum SchemaTextFault {
-    /// A schema file can't tell them: a default is a text that isn't UTF-8, or a union isn't as its
-    /// members say.
-    #[error("a schema file can't tell it")]
+    /// A schema file can't express the nodes: a default is a text that isn't UTF-8, or a union
+    /// isn't as its members say.
+    #[error("a schema file can't express it")]
     Untold,
-    /// A growth was refused.
+    /// An allocation was refused.
     #[error("there is no memory for it")]
     Memory,
 }
@@ -320,7 +320,7 @@ impl From<AllocError> for SchemaTextFault {
     }
 }
 
-/// The nodes of a text that has its ids in this form.
+/// Reads the nodes of a text that has its ids in this form.
 fn read_back(alloc: Global, text: &[u8], ids: IdForm) -> Result<Vec<NodeRecord>, SchemaTextFault>
     ensures { IfOk result (λ nodes. schema_nodes_in (readable ids text.now)
         ≡ Some (map node_of nodes.items)) }
@@ -336,9 +336,9 @@ fn read_back(alloc: Global, text: &[u8], ids: IdForm) -> Result<Vec<NodeRecord>,
     }
 }
 
-/// The text of a schema file that tells these nodes but for their annotations, which files don't
-/// hold. It has a line for each node, and one for each field. `Untold`: no file can tell them.
-/// `Memory`: a growth was refused.
+/// Returns the text of a schema file with these nodes, without their annotations. The text has a
+/// line for each node, and one for each field. `Untold`: a file can't express the nodes.
+/// `Memory`: an allocation was refused.
 pub fn schema_text(
     alloc: Global,
     nodes: &[NodeRecord],

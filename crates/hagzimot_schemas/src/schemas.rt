@@ -27,35 +27,35 @@ use std::alloc::{AllocError, Global};
 use std::fmt;
 use std::fmt::{Display, Formatter, Write};
 
-/// Why a file holds no schema that can be used.
+/// The reason for which a file is not a schema that can be used.
 #[derive(Debug, Drop)]
 pub enum SchemaTrouble {
-    /// It is empty.
+    /// The file is empty.
     Empty,
-    /// It is compressed by gzip.
+    /// The file is compressed by gzip.
     Gzip,
-    /// It is the source of a schema.
+    /// The file is the source of a schema.
     Source,
-    /// It is neither a request of the compiler nor JSON.
+    /// The file is neither a request of the compiler nor JSON.
     Other,
-    /// It looks like JSON, and isn't; why, with line and column.
+    /// The file looks like JSON, but isn't. The error has the line and the column.
     Json(serde_json::Error),
-    /// It is JSON, but no array of nodes; what is wrong, with line and column, where a closer look
-    /// finds it.
+    /// The file is JSON, but not an array of nodes. The error has the line and the column, if a
+    /// closer look finds the fault.
     Form(Option<serde_json::Error>),
-    /// It is a request of the compiler that can't be read.
+    /// The file is a request of the compiler that can't be read.
     Request(RequestFault),
-    /// It has no nodes.
+    /// The file has no nodes.
     NoNodes,
-    /// The nodes break a rule; the name of the first node that does, and its place, counted from 0.
+    /// The nodes break a rule. `node` is the place of the first node that does, counted from 0.
     Rule {
         rule: u32,
         node: usize,
         name: String,
     },
-    /// It has no root, or several.
+    /// The schema has no root, or several.
     Root(RootTrouble),
-    /// A growth was refused.
+    /// An allocation was refused.
     Memory,
 }
 
@@ -65,7 +65,7 @@ impl From<AllocError> for SchemaTrouble {
     }
 }
 
-/// What a file that holds no schema is taken for.
+/// Returns the text of a reason that has no further details.
 fn form_text(trouble: &SchemaTrouble) -> &'static str {
     match trouble {
         SchemaTrouble::Empty => "the file is empty (did the compiler fail?)",
@@ -85,7 +85,7 @@ impl Display for SchemaTrouble {
             SchemaTrouble::Form(Some(error)) => write!(f, "not a schema file: {error}"),
             SchemaTrouble::Form(None) => write!(
                 f,
-                "JSON, but not an array of nodes: compare it with docs/FILES.md"
+                "JSON, but not an array of nodes (the manual describes it: Schemas and roots)"
             ),
             SchemaTrouble::Request(fault) => write!(f, "not a request of the compiler: {fault}"),
             SchemaTrouble::Rule { rule, node, name } => {
@@ -98,7 +98,7 @@ impl Display for SchemaTrouble {
     }
 }
 
-/// Why a file of a form that isn't a request's holds no schema.
+/// Returns the reason for which a file of another form than a request is not a schema.
 fn trouble_of(alloc: Global, form: SchemaForm, bytes: &[u8]) -> SchemaTrouble {
     match form {
         SchemaForm::Empty => SchemaTrouble::Empty,
@@ -109,7 +109,7 @@ fn trouble_of(alloc: Global, form: SchemaForm, bytes: &[u8]) -> SchemaTrouble {
     }
 }
 
-/// Why a request isn't read.
+/// Returns the reason for which a request isn't read.
 fn request_trouble(fault: RequestFault) -> SchemaTrouble {
     match fault {
         RequestFault::Memory => SchemaTrouble::Memory,
@@ -117,7 +117,8 @@ fn request_trouble(fault: RequestFault) -> SchemaTrouble {
     }
 }
 
-/// The nodes of a JSON schema file, whose ids are numbers or, where that reads none, texts too.
+/// Returns the nodes of a JSON schema file. If it doesn't read with ids that are numbers, ids may
+/// be texts too.
 fn json_file(alloc: Global, bytes: &[u8]) -> Result<Vec<NodeRecord>, FileFault>
     ensures ok { IfOk result (λ nodes. json_nodes bytes.now ≡ Some (map node_of nodes.items)) }
     ensures refused { IfErr result (IsFileRefusal (json_nodes bytes.now)) }
@@ -133,13 +134,13 @@ fn json_file(alloc: Global, bytes: &[u8]) -> Result<Vec<NodeRecord>, FileFault>
     }
 }
 
-/// The structs at the top of a JSON schema file: those whose names have no point.
+/// Returns the structs at the top of a JSON schema file: those whose names have no point.
 fn tops_of(alloc: Global, nodes: &[NodeRecord]) -> Result<Vec<u64>, AllocError> {
     let names = names_of(alloc, nodes, &[])?;
     unscoped(alloc, &names)
 }
 
-/// What a JSON schema file tells.
+/// Reads a JSON schema file.
 fn json_told(alloc: Global, bytes: &[u8], form: SchemaForm) -> Result<Requested, SchemaTrouble>
     ensures nodes { IfOk result
         (λ told. json_nodes bytes.now ≡ Some (map node_of told.nodes.items)) }
@@ -160,7 +161,7 @@ fn json_told(alloc: Global, bytes: &[u8], form: SchemaForm) -> Result<Requested,
     })
 }
 
-/// What a file tells, which may have no nodes.
+/// Reads a file, which may have no nodes.
 fn read_any(alloc: Global, bytes: &[u8], floats: Floats) -> Result<Requested, SchemaTrouble>
     ensures nodes { IfOk result
         (λ told. AreNodesTold floats bytes.now (map node_of told.nodes.items)) }
@@ -180,9 +181,9 @@ fn read_any(alloc: Global, bytes: &[u8], floats: Floats) -> Result<Requested, Sc
     }
 }
 
-/// The nodes that a file tells. It is a request of the compiler, which `capnp compile -o-` writes,
-/// or a JSON schema file, whose ids are numbers or texts of their digits. The fields that are
-/// floats or capabilities of an interface are those of a request.
+/// Reads the schema of a file: a request of the compiler, which `capnp compile -o-` writes, or a
+/// JSON schema file, whose ids are numbers or texts of their digits. Only a request names the
+/// fields that are floats, and those that are capabilities of an interface.
 pub fn read_told(alloc: Global, bytes: &[u8], floats: Floats) -> Result<Requested, SchemaTrouble>
     ensures nodes { IfOk result
         (λ told. AreNodesTold floats bytes.now (map node_of told.nodes.items)) }
@@ -196,7 +197,7 @@ pub fn read_told(alloc: Global, bytes: &[u8], floats: Floats) -> Result<Requeste
     Ok(told)
 }
 
-/// The nodes that a file tells, as `read_told` reads them.
+/// Returns the nodes of a file, as `read_told` reads them.
 pub fn read_nodes(
     alloc: Global,
     bytes: &[u8],
@@ -207,7 +208,7 @@ pub fn read_nodes(
     Ok(read_told(alloc, bytes, floats)?.nodes)
 }
 
-/// The name of the node of a place.
+/// Returns the name of the node at a place.
 fn name_at(alloc: Global, nodes: &[NodeRecord], place: usize) -> Result<String, AllocError> {
     match nodes.get(place) {
         Some(node) => String::from_str(alloc, node.display_name.as_str()),
@@ -215,21 +216,21 @@ fn name_at(alloc: Global, nodes: &[NodeRecord], place: usize) -> Result<String, 
     }
 }
 
-/// What a file tells, whose nodes keep all rules.
+/// The schema of a file whose nodes keep all rules.
 #[derive(Drop)]
 pub struct CheckedSchema {
     pub set: SchemaSet,
     /// The fields that are floats in a request.
     pub floats: Vec<FloatField>,
-    /// Those that are capabilities of an interface.
+    /// The fields that are capabilities of an interface.
     pub interfaces: Vec<InterfaceField>,
-    /// The names of the nodes' files, if they are told.
+    /// The names of the nodes' files, if the file has them.
     pub files: Vec<String>,
     /// The structs at the top of the file.
     pub top_structs: Vec<u64>,
 }
 
-/// The set of the nodes that a file tells, which keep all rules, and what else it tells.
+/// Reads the schema of a file, and checks that its nodes keep all rules.
 pub fn read_set(alloc: Global, bytes: &[u8], floats: Floats) -> Result<CheckedSchema, SchemaTrouble>
     ensures nodes { IfOk result (λ s. AreNodesTold floats bytes.now (nodes_of s.set)) }
     ensures floats { IfOk result
@@ -283,7 +284,7 @@ pub struct RootedSchema {
     root: RawBrandedStructSchema,
     floats: Vec<FloatField>,
     interfaces: Vec<InterfaceField>,
-    /// The names of the nodes' files, if they are told.
+    /// The names of the nodes' files, if the file has them.
     files: Vec<String>,
     /// The structs at the top of the file.
     top_structs: Vec<u64>,
@@ -299,8 +300,8 @@ impl RootedSchema {
     ghost use Rattle.capnp_relay_requests.specs.Floats.{float_told};
     ghost use Rattle.hagzimot_schemas.specs.SchemaForms.{AreNodesTold, AreFloatsTold};
 
-    /// The schema that a file tells, with the struct that a word names as root, as `root_named`
-    /// has it; without a word, with the one struct at the top of the file.
+    /// Reads the schema of a file. Its root is the struct that a word names, as `root_named` finds
+    /// it. Without a word, the root is the one struct at the top of the file.
     pub fn new(
         alloc: Global,
         bytes: &[u8],
@@ -341,7 +342,7 @@ impl RootedSchema {
         }
     }
 
-    /// The root's schema.
+    /// Returns the schema of the root.
     pub fn root(&self) -> StructSchema<'_>
         ensures nodes { nodes_around result ≡ nodes_of self.now.set }
         ensures known { IsRoot result }
@@ -351,7 +352,7 @@ impl RootedSchema {
         StructSchema::new(&self.set, self.root)
     }
 
-    /// The id of the root.
+    /// Returns the id of the root.
     pub fn root_id(&self) -> u64
         ensures id { result ≡ self.now.root.id }
         ensures known { (number : ℕ)
@@ -360,38 +361,37 @@ impl RootedSchema {
         self.root.id
     }
 
-    /// The nodes of the schema.
+    /// Returns the nodes of the schema.
     pub fn nodes(&self) -> &[NodeRecord]
         ensures { map node_of result.now ≡ nodes_of self.now.set }
     {
         self.set.nodes()
     }
 
-    /// The fields that are floats in the compiler's request, whose bits they are here; none of a
-    /// JSON file.
+    /// Returns the fields that are floats in the compiler's request, whose bits the nodes have as
+    /// whole numbers.
     pub fn floats(&self) -> &[FloatField]
         ensures { result.now ≡ self.now.floats.items }
     {
         &self.floats
     }
 
-    /// Whether the schema tells which fields are capabilities of which interface: a request of the
-    /// compiler does, a JSON file doesn't.
+    /// Tests whether the schema names the interfaces of its fields. A request of the compiler does,
+    /// and a JSON file doesn't.
     pub fn tells_interfaces(&self) -> bool
         ensures { result ≡ not (length self.now.files.items == 0) }
     {
         !self.files.is_empty()
     }
 
-    /// The fields that are capabilities of an interface in the compiler's request; none of a JSON
-    /// file.
+    /// Returns the fields that are capabilities of an interface in the compiler's request.
     pub fn interfaces(&self) -> &[InterfaceField]
         ensures { result.now ≡ self.now.interfaces.items }
     {
         &self.interfaces
     }
 
-    /// The set of the nodes.
+    /// Returns the set of the nodes.
     pub fn set(&self) -> &SchemaSet
         ensures { result.now ≡ self.now.set }
     {

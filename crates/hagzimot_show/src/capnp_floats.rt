@@ -6,7 +6,7 @@ use hagzimot_floats::float_text::{
 use std::alloc::{AllocError, Global};
 use std::fmt::Write;
 
-/// How many digits the C++ tool tries first, and how many it writes otherwise.
+/// The number of digits that the C++ tool tries first, and the number that it writes otherwise.
 #[derive(Clone, Copy)]
 struct Digits {
     few: usize,
@@ -30,8 +30,8 @@ fn power(len: usize) -> i32 {
     i32::try_from(len).unwrap_or(i32::MAX)
 }
 
-/// Returns the digits of a number without the zeros before and after the others, and how many
-/// zeros there are before them.
+/// Returns the digits of a number without the zeros before and after the others, and the number of
+/// zeros before them.
 fn significant(
     alloc: Global,
     whole: &str,
@@ -114,7 +114,7 @@ impl Decimal {
         put_zeros(out, missing.saturating_sub(power(self.digits.len())))
     }
 
-    /// Writes the number with at most so many digits as `%g` of C lays it out.
+    /// Writes the number with at most this number of digits, in the layout of `%g` of C.
     fn put(&self, out: &mut String, digits: Digits) -> Result<(), AllocError> {
         if self.digits.is_empty() {
             return out.push('0');
@@ -132,7 +132,7 @@ impl Decimal {
     }
 }
 
-/// Writes a finite float that isn't negative, by its shortest text. Zero behind a minus keeps its
+/// Writes a finite float that isn't negative, by its shortest text. A zero after a minus keeps its
 /// point, because the C++ tool reads `-0` as the whole number zero.
 fn put_finite(
     out: &mut String,

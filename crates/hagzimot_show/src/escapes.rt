@@ -3,12 +3,12 @@
 use std::fmt;
 use std::fmt::{Display, Formatter, Write};
 
-/// Bytes between double quotes, as the C++ tool writes them and reads them back: `\"`, `\'` and `\\`
-/// behind a backslash, other control characters by a letter or three octal digits.
+/// Bytes between double quotes, as the C++ tool writes them and reads them back. `\"`, `\'` and
+/// `\\` have a backslash, and control characters are a letter or three octal digits.
 #[derive(Clone, Copy)]
 pub(crate) struct Escaped<'a> {
     bytes: &'a [u8],
-    /// The bytes as text, if they are UTF-8 and characters past ASCII are to stand as they are.
+    /// The bytes as text, if they are UTF-8 and characters past ASCII are not escaped.
     text: Option<&'a str>,
 }
 
@@ -27,7 +27,7 @@ impl<'a> Escaped<'a> {
     }
 }
 
-/// Returns the letter that stands for a character behind a backslash, if there is one.
+/// Returns the letter for a character after a backslash, if there is one.
 fn letter(byte: u8) -> Option<char> {
     match byte {
         7 => Some('a'),

@@ -23,22 +23,22 @@ use hagzimot_commands::canonical::{Canonical, write_value};
 use hagzimot_faults::locate::WalkLimits;
 use std::alloc::Global;
 
-/// How messages are shown.
+/// The form in which messages are shown.
 #[derive(Clone, Copy)]
 pub struct Manner<'a> {
     /// The struct at the root of messages.
     pub root: StructSchema<'a>,
-    /// How far messages are followed.
+    /// The limits of messages.
     pub limits: Canonical,
     pub layout: Layout,
-    /// How single values are spelled in text; JSON has its own spelling.
+    /// The spelling of single values in text; JSON has its own spelling.
     pub spelling: Spelling,
     /// The fields that are floats: the whole numbers there are the bits of floats.
     pub floats: &'a [FloatField],
 }
 
 impl Manner<'_> {
-    /// The limits as readers take them.
+    /// Returns the limits as readers take them.
     pub(crate) fn options(&self) -> ReaderOptions {
         ReaderOptions {
             traversal_limit_in_words: Some(self.limits.words as usize),
@@ -59,13 +59,13 @@ impl Manner<'_> {
         }
     }
 
-    /// The limit of levels; more than 2^31 - 1 are as good as that many.
+    /// Returns the limit of levels. A limit of more than 2^31 - 1 means 2^31 - 1.
     fn nesting_limit(&self) -> i32 {
         i32::try_from(self.limits.nesting).unwrap_or(i32::MAX)
     }
 }
 
-/// Why nothing is shown.
+/// Returns the reason for which nothing is shown.
 fn fault_of(e: Error) -> ShowFault
     ensures { IsRecordFault result }
 {
@@ -75,7 +75,7 @@ fn fault_of(e: Error) -> ShowFault
     }
 }
 
-/// The record of an arena's root, which has a value.
+/// Returns the text of the record of an arena's root, which has a value.
 fn text_of<'a, A: ReaderArena>(
     alloc: Global,
     arena: &'a A,
@@ -105,19 +105,19 @@ fn text_of<'a, A: ReaderArena>(
     }
 }
 
-/// The message of these segments in a layout: the record that its root has under a schema, with the
-/// fields that `show` prints, in the same order.
+/// Returns the message of these segments in a layout: the record that its root has under a schema,
+/// with the fields that `show` prints, in the same order.
 ///
-/// As text a float is a decimal number, `inf`, `-inf`, `nan`, or `nan:` with the hex of its bits,
-/// and all else is written as `show` writes it. In JSON a struct is an object; 64-bit numbers are
-/// texts, enum values names, data arrays of numbers, Void null. Floats are numbers there, or one of
-/// the texts `Infinity`, `-Infinity` and `NaN`.
+/// As text, a float is a decimal number, `inf`, `-inf`, `nan`, or `nan:` with the hexadecimal
+/// digits of its bits, and everything else is written as `show` writes it. In JSON, a struct is an
+/// object, 64-bit numbers are texts, enum values names, data arrays of numbers, and Void null.
+/// Floats are numbers there, or one of the texts `Infinity`, `-Infinity` and `NaN`.
 ///
-/// - `Value`: it has no value within the limits, or one with a capability.
-/// - `Root`: its root is a list.
+/// - `Value`: the message has no value within the limits, or one with a capability.
+/// - `Root`: the root is a list.
 /// - `Unreadable`: a field or an element can't be read as its type, or more than 2,048 structs,
-///   groups and lists lie within one another.
-/// - `Memory`: a growth was refused.
+///   groups and lists are nested.
+/// - `Memory`: an allocation was refused.
 pub fn laid_out<S: ReaderSegments>(
     alloc: Global,
     segments: &S,

@@ -1,4 +1,4 @@
-//! How values are laid out.
+//! Layouts of values, and spellings of single ones.
 
 use capnp_relay_requests::request::FloatField;
 use capnp_units::errors::Error;
@@ -6,23 +6,23 @@ use capnp_values_queries::fields::Field;
 use std::alloc::Global;
 use std::fmt::{Display, Write};
 
-/// How values are laid out.
+/// The layout of values.
 #[derive(Clone, Copy, Debug, PartialEq, Eq)]
 pub enum Layout {
-    /// As text, on one line.
+    /// Text on one line.
     Line,
-    /// As text, each item on a line of its own behind two blanks for each level.
+    /// Text with each item on a line of its own, after two blanks for each level.
     Pretty,
-    /// As JSON, on one line.
+    /// JSON on one line.
     Json,
 }
 
-/// How single values are spelled in text.
+/// The spelling of single values in text.
 #[derive(Clone, Copy, Debug, PartialEq, Eq)]
 pub enum Spelling {
-    /// As the relay's log spells them.
+    /// The spelling of the relay's log.
     Hagzimot,
-    /// As the C++ tool `capnp` spells them, which reads them back.
+    /// The spelling of the C++ tool `capnp`, which reads it back.
     Capnp,
 }
 
@@ -43,7 +43,7 @@ impl FieldKey {
     }
 }
 
-/// Writes something behind the rest.
+/// Appends something to a text.
 pub(crate) fn put<T: Display + Drop>(out: &mut String, part: T) -> Result<(), Error> {
     write!(out, "{part}")?;
     Ok(())
@@ -66,7 +66,7 @@ pub(crate) struct Marks {
 }
 
 impl Style<'_> {
-    /// Whether a field is a float, or lists of floats.
+    /// Tests whether a field is a float, or lists of floats.
     pub(crate) fn is_float(&self, field: Field<'_>) -> bool {
         let node = field.parent().get_proto().id;
         let index = field.get_index() as u32;
@@ -75,7 +75,7 @@ impl Style<'_> {
             .any(|float| float.node == node && float.index == index)
     }
 
-    /// The marks of structs.
+    /// Returns the marks of structs.
     pub(crate) fn struct_marks(&self) -> Marks {
         match self.layout {
             Layout::Json => Marks {
@@ -89,7 +89,7 @@ impl Style<'_> {
         }
     }
 
-    /// Begins a line of so many levels, where items have lines of their own.
+    /// Begins a line of a level, if items have lines of their own.
     pub(crate) fn put_line(&self, out: &mut String, level: u32) -> Result<(), Error> {
         if self.layout != Layout::Pretty {
             return Ok(());
@@ -101,7 +101,7 @@ impl Style<'_> {
         Ok(())
     }
 
-    /// Begins an item of so many levels, behind a comma where it isn't the first.
+    /// Begins an item of a level, after a comma unless it is the first.
     pub(crate) fn put_item(
         &self,
         out: &mut String,

@@ -8,7 +8,7 @@ use capnp_wire_objects::arena::ReaderArena;
 use hagzimot_faults::steps::Step;
 use std::alloc::AllocError;
 
-/// How many groups within one another are looked through for a pointer's field.
+/// The most nested groups in which the field of a pointer is looked for.
 const MOST_GROUPS: u32 = 64;
 
 /// A field that was found, and its value, if that can be read.

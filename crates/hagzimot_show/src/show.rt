@@ -1,4 +1,4 @@
-//! Messages of a stream as text.
+//! Printing of the messages of a stream.
 ghost use Rattle.std.specs.Prelude.{◌≡◌, ℕ, ◌<◌, ◌≤◌, true, false, [], ◌∷◌, ◌++◌, Ok, IfOk, IfErr, OnOk, string_bytes};
 ghost use Rattle.std.specs.Io.KnownBytes.{Keeps, Appends};
 ghost use Rattle.capnp_model.specs.Messages.{frame};
@@ -24,33 +24,33 @@ use capnp_units::segments::ReaderSegments;
 use capnp_values_queries::structs::StructSchema;
 use std::alloc::{AllocError, Global};
 
-/// Which messages of a stream are shown, counted from 1.
+/// The messages of a stream that are shown, counted from 1.
 #[derive(Clone, Copy, Debug, PartialEq, Eq)]
 pub struct Chosen {
-    /// The first that is shown.
+    /// The first message that is shown.
     pub first: u64,
-    /// The last that is read.
+    /// The last message that is read.
     pub last: u64,
-    /// Whether they are counted alone.
+    /// The messages are only counted.
     pub is_count: bool,
 }
 
-/// How many messages were shown, or counted, and how many could not be shown.
+/// The number of messages that were shown, or counted, and of those that could not be shown.
 #[derive(Clone, Copy, Debug, PartialEq, Eq)]
 pub struct ShownCounts {
     pub shown: u64,
     pub not_shown: u64,
 }
 
-/// Why a stream isn't shown to its end, and at which message, counted from 1.
+/// The fault that ends the printing of a stream, and the number of its message, from 1.
 #[derive(Clone, Copy, Debug, PartialEq, Eq)]
 pub struct StreamFault {
     pub fault: Fault,
     pub number: u64,
 }
 
-/// The text of the message of these segments, on one line, as `show` gives it. `Memory`: a growth
-/// was refused.
+/// Returns the text of the message of these segments, on one line, as `show` prints it. `Memory`:
+/// an allocation was refused.
 pub fn text_of_segments<S: ReaderSegments>(
     alloc: Global,
     segments: &S,
@@ -72,12 +72,12 @@ pub fn text_of_segments<S: ReaderSegments>(
     }
 }
 
-/// Where the messages of a stream come from.
+/// The file of the messages of a stream.
 pub trait Origin {
     /// Returns the name of the file.
     fn file(&self) -> &str;
 
-    /// Returns how many bytes of the file are before the message that was read last.
+    /// Returns the number of bytes of the file before the message that was read last.
     fn byte(&self) -> u64;
 }
 
@@ -103,7 +103,7 @@ fn ended(line: String) -> Result<Vec<u8>, AllocError>
     Ok(bytes)
 }
 
-/// What a refused read is told as.
+/// Returns the fault of a refused read.
 fn read_fault(e: Error) -> Fault {
     match e.kind {
         ErrorKind::OutOfMemory => Fault::Memory,
@@ -112,7 +112,7 @@ fn read_fault(e: Error) -> Fault {
     }
 }
 
-/// A reader of messages that are shown, and what it counted.
+/// A printer of messages, and its counts.
 #[derive(Drop)]
 struct Shower<'a, O> {
     alloc: Global,
@@ -123,7 +123,7 @@ struct Shower<'a, O> {
 }
 
 impl<O: Origin> Shower<'_, O> {
-    /// What a message is shown as.
+    /// Returns the text of a message.
     fn text_of<S: ReaderSegments>(&self, segments: &S) -> Result<Vec<u8>, ShowFault>
         requires { AreWritable (S.segments segments.now) }
     {
@@ -158,8 +158,8 @@ impl<O: Origin> Shower<'_, O> {
         ended(message_line(self.alloc, origin, "not shown", why.as_str())?)
     }
 
-    /// Writes the text of a message of this number, and a line feed; or a line to the log, where it
-    /// can't be shown.
+    /// Writes the text of the message of this number, and a line feed. If the message can't be
+    /// shown, writes a line to the log instead.
     #[tactic(auto, using(crate::proofs::Sinks::sinks, crate::proofs::Sinks::lines))]
     fn put_text<S: ReaderSegments, W: Write, L: Write>(
         &mut self,
@@ -196,7 +196,7 @@ impl<O: Origin> Shower<'_, O> {
         }
     }
 
-    /// Reads the message of a number, and writes its text where it is chosen; false where no byte
+    /// Reads the message of a number, and writes its text if it is chosen. Returns false if no byte
     /// is left.
     #[tactic(auto, using(crate::proofs::Sinks::sinks, crate::proofs::Sinks::lines))]
     fn show_next<I: MessageForm, R: BufRead, W: Write, L: Write>(
@@ -238,7 +238,7 @@ impl<O: Origin> Shower<'_, O> {
     }
 }
 
-/// Pauses before a read; no byte is given to a sink.
+/// Runs the pause before a read, which writes nothing to a sink.
 #[tactic(auto, using(crate::proofs::Sinks::pausing))]
 fn pause<R: BufRead, W: Write, L: Write, P: Pause<R, W, L>>(
     source: &R,
@@ -254,13 +254,13 @@ fn pause<R: BufRead, W: Write, L: Write, P: Pause<R, W, L>>(
     }
 }
 
-/// Writes the texts of the chosen messages of the source, with a line feed behind each, or counts
-/// these messages alone. A message that can't be shown is a line of the log, `FILE: message N (byte
-/// B) not shown: PATH: WHY`. None behind the last that is chosen is read. Before each read there is
-/// a pause.
+/// Writes the text of each chosen message of the source with a line feed, or only counts these
+/// messages. A message that can't be shown gets a line of the log,
+/// `FILE: message N (byte B) not shown: PATH: WHY`. No message after the last chosen one is read.
+/// Before each read the pause runs.
 ///
-/// `Framing`: what is left of the source begins with no message. `Source`, `Out`, `Log`: the device
-/// failed, or a sink has no room. `Memory`: a growth was refused.
+/// `Framing`: the rest of the source doesn't begin with a message. `Source`, `Out`, `Log`: the
+/// device failed, or a sink has no room. `Memory`: an allocation was refused.
 #[tactic(auto, using(crate::proofs::Sinks::sinks))]
 pub fn show_all<I: MessageForm, R: BufRead, W: Write, L: Write, P: Pause<R, W, L>, O: Origin>(
     alloc: Global,

@@ -10,12 +10,12 @@ use capnp_values::{dynamic_list, dynamic_struct};
 use capnp_values_queries::introspect::Type;
 use capnp_wire_objects::arena::ReaderArena;
 
-/// Why a field or an element can't be shown.
+/// The reason for which a field or an element can't be shown.
 #[derive(Clone, Copy, Debug)]
 pub(crate) enum Unread {
-    /// What is there isn't of the field's type.
+    /// The value there isn't of the field's type.
     Type { kind: ErrorKind, expected: Type },
-    /// It lies in too many structs, groups and lists.
+    /// The field or the element is in too many structs, groups and lists.
     Deep,
 }
 
@@ -41,7 +41,7 @@ pub(crate) fn find_unread<'a, A: ReaderArena>(
     }
 }
 
-/// Finds it in the fields of a struct or a group that are shown.
+/// Finds the same in the fields of a struct or a group that are shown.
 #[cycle(unread)]
 fn find_in_struct<'a, A: ReaderArena>(
     parts: &mut Vec<Part<'a>>,
@@ -69,7 +69,7 @@ fn find_in_struct<'a, A: ReaderArena>(
     Ok(None)
 }
 
-/// Finds it in the elements of a list.
+/// Finds the same in the elements of a list.
 #[cycle(unread)]
 fn find_in_list<'a, A: ReaderArena>(
     parts: &mut Vec<Part<'a>>,

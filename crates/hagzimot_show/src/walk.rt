@@ -11,8 +11,7 @@ use capnp_values_queries::fields::Field;
 use capnp_wire_objects::arena::ReaderArena;
 use hagzimot_schemas::json_text::Quoted;
 
-/// How deep structs, groups and lists are followed within one another. Each takes up to 2 KiB of
-/// stack.
+/// The most nested structs, groups and lists that are followed. Each takes up to 2 KiB of stack.
 pub(crate) const MOST_LEVELS: u32 = 2048;
 
 /// Writes a value, within which structs, groups and lists are nested at most `left` deep. The null
@@ -33,7 +32,7 @@ pub(crate) fn put_value<A: ReaderArena>(
     }
 }
 
-/// The level of the line on which something stands where so many are left.
+/// Returns the level of a line, given the number of levels that are left.
 fn level_of(left: u32) -> u32 {
     MOST_LEVELS.saturating_sub(left)
 }
@@ -83,7 +82,7 @@ pub(crate) fn is_written<A: ReaderArena>(
     Ok(active == Some(member) && layout != Layout::Json)
 }
 
-/// Writes the name of a field, in front of its value.
+/// Writes the name of a field, before its value.
 fn put_name(out: &mut String, style: Style<'_>, field: Field<'_>) -> Result<(), Error> {
     let name = field.get_proto().name.as_str();
     if style.layout == Layout::Json {

@@ -1,13 +1,9 @@
-//! Tests of the relay and its program that data can't express: devices that fail, sources that
-//! wait, and long streams.
+//! Tests of the relay and its program that data can't express: devices that fail, and sources that
+//! wait.
 #![tactic(auto)]
 
 #[cfg(test)]
 mod devices;
-#[cfg(test)]
-mod files;
-#[cfg(test)]
-mod large;
 #[cfg(test)]
 mod runs;
 #[cfg(test)]

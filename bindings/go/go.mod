@@ -1,0 +1,3 @@
+module hagzimot.invalid/hagzimot
+
+go 1.19
