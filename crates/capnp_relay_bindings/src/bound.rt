@@ -45,6 +45,11 @@ impl From<AllocError> for BindFault {
 }
 
 impl<T: Drop> From<AllocFailed<T>> for BindFault {
+    ghost use Rattle.std.specs.Prelude.{◌≡◌};
+    ghost use Rattle.capnp_relay_bindings.specs.declared.bound.BindFault.{BindFault};
+
+    ghost from_gives = { λ _ fault. fault ≡ BindFault.Memory };
+
     fn from(_e: AllocFailed<T>) -> BindFault {
         BindFault::Memory
     }
@@ -58,11 +63,16 @@ pub struct BoundNodes {
 }
 
 impl BoundNodes {
-    ghost use Rattle.std.specs.Prelude.{◌≡◌, IfOk};
+    ghost use Rattle.std.specs.Prelude.{◌≡◌, ◌≤◌, ◌++◌, [], ◌∷◌, List, length, IfSome, IfOk, IfErr, OnOk, OnErr};
+    ghost use Rattle.capnp_relay_bindings.specs.declared.bound.BindFault.{BindFault};
+    ghost use Rattle.capnp_relay_bindings.specs.declared.bound.BoundNode.{BoundNode};
+    ghost use Rattle.capnp_relay_bindings.specs.Bound.{bound_nodes, IsNodeIn};
     ghost use Rattle.capnp_relay_bindings.specs.Identity.{bound_id};
 
     /// Makes an empty set of nodes.
-    pub fn new(alloc: Global) -> BoundNodes {
+    pub fn new(alloc: Global) -> BoundNodes
+        ensures { bound_nodes result ≡ [] }
+    {
         BoundNodes {
             nodes: Vec::new(alloc),
             places: HashMap::new(alloc),
@@ -70,14 +80,21 @@ impl BoundNodes {
     }
 
     /// Returns the nodes.
-    pub fn nodes(&self) -> &[BoundNode] {
+    pub fn nodes(&self) -> &[BoundNode]
+        ensures { result.now ≡ bound_nodes self.now }
+    {
         self.nodes.as_slice()
     }
 
     /// Returns the node of an id.
-    pub fn get(&self, id: u64) -> Option<&BoundNode> {
+    pub fn get(&self, id: u64) -> Option<&BoundNode>
+        ensures { IfSome result (λ node. IsNodeIn (bound_nodes self.now) id node.now) }
+    {
         let place = *self.places.get(&id)?;
-        self.nodes.get(place)
+        match self.nodes.get(place) {
+            Some(node) if node.id == id => Some(node),
+            _ => None,
+        }
     }
 
     /// Appends a node of an id.
@@ -89,7 +106,13 @@ impl BoundNodes {
         generic: u64,
         bindings: Vec<Binding>,
         key: Vec<u8>,
-    ) -> Result<(), BindFault> {
+    ) -> Result<(), BindFault>
+        ensures ok { OnOk result ((node : BoundNode) × (node.id ≡ id) × (node.key ≡ key)
+            × (bound_nodes self.new ≡ bound_nodes self.old ++ node ∷ [])) }
+        ensures err { OnErr result (bound_nodes self.new ≡ bound_nodes self.old) }
+        ensures many { IfErr result (λ e. e ≡ BindFault.TooMany
+            → 16384 ≤ length (bound_nodes self.old)) }
+    {
         let place = self.nodes.len();
         if place >= MOST_BOUND {
             return Err(BindFault::TooMany);
@@ -115,7 +138,11 @@ impl BoundNodes {
         generic: u64,
         bindings: Vec<Binding>,
     ) -> Result<u64, BindFault>
-        ensures { IfOk result (λ id. id ≡ bound_id generic bindings.items) }
+        ensures id { IfOk result (λ id. id ≡ bound_id generic bindings.items) }
+        ensures grows { (more : List BoundNode)
+            × (bound_nodes self.new ≡ bound_nodes self.old ++ more) }
+        ensures many { IfErr result (λ e. e ≡ BindFault.TooMany
+            → 16384 ≤ length (bound_nodes self.old)) }
     {
         if bindings.is_empty() {
             return Ok(generic);

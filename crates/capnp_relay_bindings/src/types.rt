@@ -1,7 +1,7 @@
 //! Types whose parameters are bound.
 
 ghost use Rattle.std.specs.Prelude.{◌≡◌};
-ghost use Rattle.capnp_relay_bindings.specs.Types.{is_pointer_base, bound_to};
+ghost use Rattle.capnp_relay_bindings.specs.Types.{is_pointer_base, bound_to, depth_of};
 
 use capnp_records::node::{BaseType, TypeRecord};
 
@@ -35,7 +35,7 @@ fn is_pointer_base(base: BaseType) -> bool
 impl BoundType {
     ghost use Rattle.std.specs.Prelude.{◌≡◌, ◌==◌, ◌&&◌};
     ghost use Rattle.capnp_records.specs.declared.node.BaseType.TheVariants.{AnyPointer, Capability};
-    ghost use Rattle.capnp_relay_bindings.specs.Types.{plain_type, argument_of};
+    ghost use Rattle.capnp_relay_bindings.specs.Types.{plain_type, argument_of, listed_type, is_untyped_type};
 
     /// Makes a type that isn't nested.
     pub fn of(base: BaseType) -> BoundType
@@ -69,7 +69,9 @@ impl BoundType {
     }
 
     /// Returns the list of the type.
-    pub fn in_list(self) -> BoundType {
+    pub fn in_list(self) -> BoundType
+        ensures { result ≡ listed_type self }
+    {
         BoundType {
             ty: TypeRecord {
                 list_count: self.ty.list_count.saturating_add(1),
@@ -81,7 +83,9 @@ impl BoundType {
     }
 
     /// Returns whether the type is the untyped pointer.
-    pub fn is_untyped(self) -> bool {
+    pub fn is_untyped(self) -> bool
+        ensures { result ≡ is_untyped_type self }
+    {
         self.ty.list_count == 0 && self.ty.base == BaseType::AnyPointer
     }
 
@@ -125,12 +129,16 @@ pub fn bound_to(bindings: &[Binding], scope: u64, index: u32) -> BoundType
 }
 
 /// Returns the number of nested types in a type with these bindings.
-pub fn depth_of(bindings: &[Binding]) -> u32 {
+pub fn depth_of(bindings: &[Binding]) -> u32
+    ensures { result ≡ depth_of bindings.now }
+{
     let mut most = 0;
-    for binding in bindings {
+    let mut left = bindings;
+    while let [binding, others @ ..] = left {
         if binding.to.depth > most {
             most = binding.to.depth;
         }
+        left = others;
     }
     most.saturating_add(1)
 }

@@ -1,1 +1,4 @@
 pub mod Meaning
+pub mod Paths
+pub mod Mistakes
+pub mod Numbers

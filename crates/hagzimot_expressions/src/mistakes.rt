@@ -1,4 +1,6 @@
 //! Mistakes in expressions.
+ghost use Rattle.std.specs.Prelude.{◌≡◌, ◌≤◌, length, filter};
+ghost use Rattle.hagzimot_expressions.specs.Mistakes.{starts_character, IsMistakeAt};
 
 use crate::tree::Span;
 use std::alloc::{AllocError, AllocFailed};
@@ -57,7 +59,7 @@ impl Wrong {
             Wrong::NoOperator =>
                 "an operator is missing behind the path (write = != < <= > >= ~ or is, or has before the path)",
             Wrong::NoValue => "a value is missing here (write one, in quotes if it has spaces)",
-            Wrong::NoMember => "the name of a member is missing behind is",
+            Wrong::NoMember => "the name of a member is missing behind is (write PATH is MEMBER)",
             Wrong::NotClosed => "this parenthesis is not closed (add a closing one)",
             Wrong::NotOpen => "no parenthesis is open here (take this one out)",
             Wrong::Behind =>
@@ -84,6 +86,11 @@ pub enum ExpressionFault {
 }
 
 impl From<AllocError> for ExpressionFault {
+    ghost use Rattle.std.specs.Prelude.{◌≡◌};
+    ghost use Rattle.hagzimot_expressions.specs.declared.mistakes.ExpressionFault.{ExpressionFault};
+
+    ghost from_gives = { λ _ fault. fault ≡ ExpressionFault.Memory };
+
     fn from(_e: AllocError) -> ExpressionFault {
         ExpressionFault::Memory
     }
@@ -96,7 +103,9 @@ impl<T: Drop> From<AllocFailed<T>> for ExpressionFault {
 }
 
 /// Returns the fault of a mistake.
-pub(crate) fn mistake_at(span: Span, wrong: Wrong) -> ExpressionFault {
+pub(crate) fn mistake_at(span: Span, wrong: Wrong) -> ExpressionFault
+    ensures { IsMistakeAt span wrong result }
+{
     ExpressionFault::Mistake(Mistake { span, wrong })
 }
 
@@ -107,16 +116,38 @@ pub struct Place<'a> {
     pub span: Span,
 }
 
+/// Returns whether a byte is the first of a character.
+fn starts_character(byte: u8) -> bool
+    ensures { result ≡ starts_character byte }
+{
+    byte & 0xc0 != 0x80
+}
+
+/// Returns the number of characters that begin in these bytes.
+fn characters(bytes: &[u8]) -> usize
+    ensures count { result ≡ length (filter starts_character bytes.now) }
+    ensures bound { result ≤ length bytes.now }
+{
+    bytes.iter().filter(|byte| starts_character(**byte)).count()
+}
+
 impl Place<'_> {
+    ghost use Rattle.std.specs.Prelude.{◌≡◌};
+    ghost use Rattle.hagzimot_expressions.specs.Mistakes.{column_of, IsPart};
+
     /// Returns the number of the first character, counted from 1.
-    pub fn column(&self) -> usize {
-        let before = self.text.as_bytes().get(..self.span.start).unwrap_or(&[]);
-        let characters = before.iter().filter(|byte| **byte & 0xc0 != 0x80).count();
-        characters.saturating_add(1)
+    pub fn column(&self) -> usize
+        ensures { result ≡ column_of self.now.text.now self.now.span.start }
+    {
+        let text = self.text.as_bytes();
+        let before = &text[..self.span.start.min(text.len())];
+        characters(before) + 1
     }
 
     /// Returns the part of the text that is there; empty at the end.
-    pub fn part(&self) -> &str {
+    pub fn part(&self) -> &str
+        ensures { IsPart self.now.text.now self.now.span result.now }
+    {
         match self.text.get(self.span.start..self.span.end) {
             Some(part) => part,
             None => "",

@@ -1,4 +1,6 @@
 //! From tokens to a tree.
+ghost use Rattle.std.specs.Prelude.{IfOk};
+ghost use Rattle.hagzimot_expressions.specs.Numbers.{NumbersRead};
 
 use crate::lexemes::{Token, TokenKind};
 use crate::mistakes::{ExpressionFault, Wrong, mistake_at};
@@ -24,6 +26,9 @@ pub(crate) struct Parser<'a> {
 }
 
 impl<'a> Parser<'a> {
+    ghost use Rattle.std.specs.Prelude.{◌≡◌, IfOk};
+    ghost use Rattle.hagzimot_expressions.specs.Numbers.{NumbersRead};
+
     /// Returns how many tokens are left.
     fn left(&self) -> usize {
         self.tokens.len().saturating_sub(self.at)
@@ -40,7 +45,9 @@ impl<'a> Parser<'a> {
     }
 
     /// Passes the next token.
-    fn advance(&mut self) {
+    fn advance(&mut self)
+        ensures { self.new.tests ≡ self.old.tests }
+    {
         self.at = self.at.saturating_add(1);
     }
 
@@ -74,7 +81,9 @@ impl<'a> Parser<'a> {
     }
 
     /// Passes the next token if it is such a word, and returns whether it is.
-    fn take_word(&mut self, word: &str) -> bool {
+    fn take_word(&mut self, word: &str) -> bool
+        ensures { self.new.tests ≡ self.old.tests }
+    {
         let is_word = self.is_word(word);
         if is_word {
             self.advance();
@@ -111,7 +120,9 @@ impl<'a> Parser<'a> {
     }
 
     /// Returns the path that is next, which is passed.
-    fn path(&mut self, missing: Wrong) -> Result<Path, ExpressionFault> {
+    fn path(&mut self, missing: Wrong) -> Result<Path, ExpressionFault>
+        ensures { self.new.tests ≡ self.old.tests }
+    {
         match self.next() {
             Some(
                 Token {
@@ -133,7 +144,9 @@ impl<'a> Parser<'a> {
     }
 
     /// Returns the value or the name that is next, which is passed.
-    fn word(&mut self, missing: Wrong) -> Result<Word, ExpressionFault> {
+    fn word(&mut self, missing: Wrong) -> Result<Word, ExpressionFault>
+        ensures { self.new.tests ≡ self.old.tests }
+    {
         let (text, span) = match self.next() {
             Some(
                 Token {
@@ -154,7 +167,9 @@ impl<'a> Parser<'a> {
     }
 
     /// Returns the operator that is next, which is passed.
-    fn operator(&mut self) -> Option<(Operator, Span)> {
+    fn operator(&mut self) -> Option<(Operator, Span)>
+        ensures { self.new.tests ≡ self.old.tests }
+    {
         match self.next() {
             Some(
                 Token {
@@ -170,7 +185,9 @@ impl<'a> Parser<'a> {
     }
 
     /// Returns the condition that is next.
-    fn test(&mut self) -> Result<Test, ExpressionFault> {
+    fn test(&mut self) -> Result<Test, ExpressionFault>
+        ensures { self.new.tests ≡ self.old.tests }
+    {
         if !self.is_path() && self.take_word("has") {
             return Ok(Test::Has(self.path(Wrong::NoPath)?));
         }
@@ -202,7 +219,10 @@ impl<'a> Parser<'a> {
     }
 
     /// Reads the condition that is next, and returns its place in the tree.
-    fn leaf(&mut self) -> Result<Tree, ExpressionFault> {
+    #[tactic(auto, unfolding(crate::specs::Numbers::NumbersFrom))]
+    fn leaf(&mut self) -> Result<Tree, ExpressionFault>
+        ensures { IfOk result (NumbersRead self.old self.new) }
+    {
         let number = self.tests.len();
         if number >= MOST_TESTS {
             return Err(self.wrong(Wrong::TooMany));
@@ -239,7 +259,9 @@ impl<'a> Parser<'a> {
     }
 
     /// Passes the closing parenthesis of one that was opened at a place.
-    fn close(&mut self, open: Span) -> Result<(), ExpressionFault> {
+    fn close(&mut self, open: Span) -> Result<(), ExpressionFault>
+        ensures { self.new.tests ≡ self.old.tests }
+    {
         match self.next() {
             Some(
                 Token {
@@ -258,7 +280,10 @@ impl<'a> Parser<'a> {
 
 /// Reads a condition, one after `not`, or an expression in parentheses.
 #[cycle(expressions)]
-fn single(parser: &mut Parser<'_>, levels: u32) -> Result<Tree, ExpressionFault> {
+#[tactic(auto, unfolding(crate::specs::Numbers::NumbersFrom))]
+fn single(parser: &mut Parser<'_>, levels: u32) -> Result<Tree, ExpressionFault>
+    ensures { IfOk result (NumbersRead parser.old parser.new) }
+{
     if levels == 0 {
         return Err(parser.wrong(Wrong::TooDeep));
     }
@@ -285,7 +310,10 @@ fn single(parser: &mut Parser<'_>, levels: u32) -> Result<Tree, ExpressionFault>
 
 /// Reads what is joined by `and`.
 #[cycle(expressions)]
-fn conjunction(parser: &mut Parser<'_>, levels: u32) -> Result<Tree, ExpressionFault> {
+#[tactic(auto, unfolding(crate::specs::Numbers::NumbersFrom))]
+fn conjunction(parser: &mut Parser<'_>, levels: u32) -> Result<Tree, ExpressionFault>
+    ensures { IfOk result (NumbersRead parser.old parser.new) }
+{
     let alloc = parser.alloc;
     let mut tree = single(parser, levels)?;
     for _ in 0..parser.left() {
@@ -300,7 +328,10 @@ fn conjunction(parser: &mut Parser<'_>, levels: u32) -> Result<Tree, ExpressionF
 
 /// Reads what is joined by `or`.
 #[cycle(expressions)]
-pub(crate) fn alternatives(parser: &mut Parser<'_>, levels: u32) -> Result<Tree, ExpressionFault> {
+#[tactic(auto, unfolding(crate::specs::Numbers::NumbersFrom))]
+pub(crate) fn alternatives(parser: &mut Parser<'_>, levels: u32) -> Result<Tree, ExpressionFault>
+    ensures { IfOk result (NumbersRead parser.old parser.new) }
+{
     let alloc = parser.alloc;
     let mut tree = conjunction(parser, levels)?;
     for _ in 0..parser.left() {

@@ -1,4 +1,9 @@
 //! Expressions are read.
+ghost use Rattle.std.specs.Prelude.{◌≡◌, length, IfOk, IfErr};
+ghost use Rattle.hagzimot_expressions.specs.Mistakes.{IsMistakeAt};
+ghost use Rattle.hagzimot_expressions.specs.Numbers.{NumbersFrom};
+ghost use Rattle.hagzimot_expressions.specs.Paths.{SpellsPath};
+ghost use Rattle.hagzimot_expressions.specs.declared.mistakes.Wrong.{Wrong};
 
 use crate::lexemes::tokens;
 use crate::mistakes::{ExpressionFault, Wrong, mistake_at};
@@ -12,7 +17,9 @@ use std::alloc::Global;
 ///
 /// It ends at any text, in time in proportion to its length; at most 64 parentheses and nots are
 /// nested, and there are at most 1000 conditions.
-pub fn expression(alloc: Global, text: &str) -> Result<Expression, ExpressionFault> {
+pub fn expression(alloc: Global, text: &str) -> Result<Expression, ExpressionFault>
+    ensures { IfOk result (λ e. NumbersFrom 0 e.tree (length e.tests.items)) }
+{
     let tokens = tokens(alloc, text.as_bytes())?;
     if tokens.is_empty() {
         let end = text.len();
@@ -34,7 +41,11 @@ pub fn expression(alloc: Global, text: &str) -> Result<Expression, ExpressionFau
 }
 
 /// Returns the path that a text spells, which is the whole text.
-pub fn path(alloc: Global, text: &str) -> Result<Path, ExpressionFault> {
+pub fn path(alloc: Global, text: &str) -> Result<Path, ExpressionFault>
+    ensures path { IfOk result (λ path. SpellsPath text.now path.steps.items) }
+    ensures refused { IfErr result
+        (IsMistakeAt (record { start = 0; end = length text.now }) Wrong.NotPath) }
+{
     let end = text.len();
     path_of(alloc, text, Span { start: 0, end })
 }

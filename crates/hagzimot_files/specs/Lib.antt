@@ -3,4 +3,5 @@ pub mod Drafts
 pub mod Faults
 pub mod Names
 pub mod Note
+pub mod Openings
 pub mod Places

@@ -6,5 +6,6 @@ pub mod faults;
 pub mod files;
 pub mod host;
 pub mod names;
+pub mod openings;
 pub mod places;
 pub mod record;

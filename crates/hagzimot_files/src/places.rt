@@ -1,5 +1,5 @@
 //! Where the name of an output leads, and which names lead to one file.
-ghost use Rattle.std.specs.Prelude.{◌≡◌, ◌↔◌, Err, [], IsTrue, IfOk, IfErr};
+ghost use Rattle.std.specs.Prelude.{◌≡◌, ◌↔◌, Err, [], is_some, IsTrue, IfOk, IfErr};
 ghost use Rattle.std.specs.Fs.{file_type, IsDir, IsFile};
 ghost use Rattle.hagzimot_files.specs.declared.places.PlaceError.{PlaceError};
 ghost use Rattle.hagzimot_files.specs.Places.{IsAt, AreOneFile, IsStandardName, is_replaced, is_stream, OpensDirectly};
@@ -97,11 +97,22 @@ pub fn file_at(rt: &HostRuntime, path: &str) -> io::Result<Option<FileId>> {
     Ok(metadata_at(rt, path)?.map(|metadata| id_of(&metadata)))
 }
 
+/// The file of which the system says this, or `None` if that isn't a file.
+fn file_in(metadata: &Metadata) -> Option<FileId>
+    ensures { IsTrue (is_some result) ↔ IsFile (file_type metadata.now) }
+{
+    if metadata.is_file() {
+        Some(id_of(metadata))
+    } else {
+        None
+    }
+}
+
 /// The file to which a descriptor of the process leads, or `None` if that isn't a file.
 pub fn file_of_descriptor(rt: &HostRuntime, path: &str) -> io::Result<Option<FileId>> {
     match metadata_at(rt, path)? {
-        Some(metadata) if metadata.is_file() => Ok(Some(id_of(&metadata))),
-        _ => Ok(None),
+        Some(metadata) => Ok(file_in(&metadata)),
+        None => Ok(None),
     }
 }
 
