@@ -36,7 +36,7 @@ impl Display for RelayTrouble {
             RelayTrouble::Calls(Some(error)) => write!(f, "calls: not a calls file: {error}"),
             RelayTrouble::Calls(None) => write!(
                 f,
-                "calls: not a calls file (compare it with docs/FILES.md)"
+                "calls: not a calls file (compare it with the manual: Calls and renames)"
             ),
             RelayTrouble::Call(number, fault) => write!(f, "calls: call {number}: {fault}"),
             RelayTrouble::Limits(fault) => write!(f, "calls: {fault}"),

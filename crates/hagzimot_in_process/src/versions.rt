@@ -51,7 +51,7 @@ impl Display for VersionsTrouble {
             }
             VersionsTrouble::Renames(None) => write!(
                 f,
-                "renames: not a renames file (compare it with docs/FILES.md)"
+                "renames: not a renames file (compare it with the manual: Calls and renames)"
             ),
             VersionsTrouble::Twice => f.write_str(
                 "renames: two fields of a node are renamed to one, or one is renamed twice",
