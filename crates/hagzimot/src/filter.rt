@@ -6,7 +6,6 @@ use crate::outputs::Outputs;
 use crate::picks::{Choice, PickCounts, Picking, pick_all};
 use crate::takers::{Copies, Digests, Nothing, Rows, Texts};
 use crate::words;
-use capnp_relay_answers::bounds::Bounds;
 use capnp_relay_program::sinks::Flush;
 use capnp_stream_io::traits::Write;
 use clap::ArgMatches;
@@ -119,15 +118,6 @@ fn picking_of<'a>(
         last: matches.get_one::<u64>("to").unwrap_or(u64::MAX),
         form: words::form(matches, "in"),
         unread,
-    }
-}
-
-/// Returns how far messages are followed within bounds.
-pub fn sight_within(schema: &RootedSchema, bounds: Bounds) -> Sight<'_> {
-    Sight {
-        root: schema.root(),
-        words: bounds.words,
-        nesting: bounds.nesting,
     }
 }
 

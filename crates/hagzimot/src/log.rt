@@ -83,7 +83,9 @@ impl Log {
     }
 
     /// Begins with the input of this name, and returns its tape.
-    pub fn begin_input(&mut self, name: &str) -> Result<Rc<Tape>, Failure> {
+    pub fn begin_input(&mut self, name: &str) -> Result<Rc<Tape>, Failure>
+        ensures { self.new.failures ≡ self.old.failures }
+    {
         self.name = String::from_str(self.alloc, name)?;
         if let Some(stats) = &mut self.stats {
             stats.pass_over(self.tape.start());
@@ -145,7 +147,9 @@ impl Log {
 
     /// Hands on what the sinks hold: the log's own, and the one of refused messages. False where
     /// they can't be written.
-    pub fn finish(&mut self) -> bool {
+    pub fn finish(&mut self) -> bool
+        ensures { self.new.failures ≡ self.old.failures }
+    {
         // A log that fails now has nowhere to say so.
         let _flushed = self.inner.flush();
         match &mut self.refusals.sink {

@@ -7,7 +7,6 @@ use capnp_values_queries::structs::StructSchema;
 use hagzimot_faults::locate::WalkLimits;
 use hagzimot_outcomes::notes::Notes;
 use hagzimot_outcomes::outcomes::Outcome;
-use hagzimot_outcomes::skips::Skips;
 use hagzimot_runs::asked::Watching;
 use hagzimot_show::explain::explained;
 use std::alloc::Global;
@@ -22,17 +21,19 @@ pub struct MessageNotes<'a> {
 }
 
 impl<'a> MessageNotes<'a> {
-    /// Returns the way to watch messages if the answers leave out these calls.
-    pub fn watching<'p, 'i>(
-        &'a self,
-        skips: Option<Skips<'p, 'i>>,
-    ) -> Watching<'a, 'p, 'i, MessageNotes<'a>> {
+    ghost use Rattle.std.specs.Prelude.{◌≡◌};
+
+    /// Returns the way to watch messages whose calls all run.
+    pub fn watching(&'a self) -> Watching<'a, 'a, 'a, MessageNotes<'a>>
+        ensures strict { result.is_strict ≡ self.now.watch.now.is_strict }
+        ensures passes { result.passes ≡ self.now.watch.now.passes }
+    {
         Watching {
             is_strict: self.watch.is_strict,
             passes: self.watch.passes,
             notes: self,
             unedited: &*self.watch.unedited,
-            skips,
+            skips: None,
         }
     }
 }

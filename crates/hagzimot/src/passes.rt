@@ -1,4 +1,9 @@
 //! Subcommands that read streams of messages and write streams of messages.
+ghost use Rattle.std.specs.Prelude.{◌≡◌, ⊤, length, codes, IfOk};
+ghost use Rattle.capnp_relay_loop.specs.Pauses.{RelaysPausing};
+ghost use Rattle.capnp_relay_loop.specs.Streams.{streams_of};
+ghost use Rattle.capnp_relay_streams.specs.Options.{reader_of, writer_of};
+ghost use Rattle.hagzimot.specs.Inputs.{grows_of, sinks_of, form_given, PassesInput, PassesAll, PassesSome, PassesWithStatus};
 
 use crate::faults::Failure;
 use crate::files::{Input, OutSink};
@@ -7,16 +12,16 @@ use crate::log_words::{Lines, LogWords, OnRefused, Watch};
 use crate::outputs::Outputs;
 use crate::plain_log::PlainLog;
 use crate::redacts::{RedactTask, WatchedRedaction};
-use crate::relay_task::RelayTask;
+use crate::relay_task::{relay_of, replies_of};
 use crate::run_log::{LogEnd, RunLog};
 use crate::tape::Tape;
 use crate::tasks::{CanonicalTask, Conversion, PlainRelay, Task, WatchedRelay};
 use crate::{files, words};
-use capnp_relay_loop::ends::{Counts, Fault};
-use capnp_relay_streams::between::BetweenFault;
+use capnp_relay_loop::ends::{Counts, Fault, RelayFault};
 use capnp_relay_streams::options::Form;
 use capnp_stream::forms::Framed;
 use capnp_stream_io::adapters::Source;
+use capnp_stream_io::traits::{Read, Write};
 use capnp_stream_packed::form::Packed;
 use clap::ArgMatches;
 use hagzimot_commands::canonical::Canonical;
@@ -36,7 +41,12 @@ fn run<T: Task, L: RunLog>(
     source: &mut Source<Input>,
     out: &mut OutSink,
     log: &mut L,
-) -> Result<Counts, BetweenFault> {
+) -> Result<Counts, RelayFault>
+    ensures { let seen = streams_of ⟦<Source<Input> as Read>⟧ ⟦<OutSink as Write>⟧
+        ⟦<L as Write>⟧ in RelaysPausing ⊤ (T.work task.now (reader_of forms.input)
+        (writer_of forms.output) (grows_of ⟦<OutSink as Write>⟧) L.may_grow)
+        (seen source.old out.old log.old) (seen source.new out.new log.new) result }
+{
     match (forms.input, forms.output) {
         (Form::Framed, Form::Framed) => {
             task.run_in::<Framed, Framed, L>(alloc, source, out, log)
@@ -75,26 +85,14 @@ fn end_failure(
     name: &str,
     tape: &Tape,
     outputs: &Outputs,
-    fault: BetweenFault,
+    end: RelayFault,
 ) -> Failure {
-    match fault {
-        BetweenFault::Relay(e) => {
-            let before = e.counts.written.saturating_add(e.counts.refused);
-            let number = before.saturating_add(1);
-            match (e.fault, tape.take_fault()) {
-                (Fault::Out, _) => outputs.messages.failure(alloc),
-                (Fault::Source, Some(why)) => Failure::unread(
-                    alloc,
-                    name,
-                    number,
-                    tape.start(),
-                    why,
-                ),
-                (fault, _) => Failure::stream(alloc, name, number, tape.start(), fault),
-            }
-        }
-        BetweenFault::Memory => Failure::Memory,
-        other => Failure::about(alloc, "--newer", &other),
+    let before = end.counts.written.saturating_add(end.counts.refused);
+    let number = before.saturating_add(1);
+    match (end.fault, tape.take_fault()) {
+        (Fault::Out, _) => outputs.messages.failure(alloc),
+        (Fault::Source, Some(why)) => { Failure::unread(alloc, name, number, tape.start(), why) }
+        (fault, _) => Failure::stream(alloc, name, number, tape.start(), fault),
     }
 }
 
@@ -107,7 +105,12 @@ fn pass_one<T: Task, L: RunLog>(
     outputs: &Outputs,
     out: &mut OutSink,
     log: &mut L,
-) -> Result<Ended, Failure> {
+) -> Result<Ended, Failure>
+    ensures { let seen = sinks_of ⟦<OutSink as Write>⟧ ⟦<L as Write>⟧ in
+        IfOk result (PassesInput (T.work task.now (reader_of forms.input)
+        (writer_of forms.output) (grows_of ⟦<OutSink as Write>⟧) L.may_grow)
+        (seen out.old log.old) (seen out.new log.new)) }
+{
     let alloc = rt.alloc();
     let tape = log.begin(name)?;
     let mut source = files::open_source(rt, name, &tape)?;
@@ -142,13 +145,18 @@ fn pass_each<T: Task, L: RunLog>(
     outputs: &Outputs,
     out: &mut OutSink,
     log: &mut L,
-) -> Result<bool, Failure> {
+) -> Result<bool, Failure>
+    ensures { let seen = sinks_of ⟦<OutSink as Write>⟧ ⟦<L as Write>⟧ in
+        IfOk result (PassesAll (T.work task.now (reader_of forms.input)
+        (writer_of forms.output) (grows_of ⟦<OutSink as Write>⟧) L.may_grow)
+        (length names.now) (seen out.old log.old) (seen out.new log.new)) }
+{
     let mut skipped = false;
     for name in names {
         let ended = pass_one::<T, L>(rt, task, forms, name.as_str(), outputs, out, log)?;
         skipped |= ended.skipped;
         if ended.stopped {
-            break;
+            return Ok(true);
         }
     }
     Ok(skipped)
@@ -158,16 +166,15 @@ fn pass_each<T: Task, L: RunLog>(
 /// passed on unedited, or calls were refused.
 fn pass_inputs<T: Task, L: RunLog>(
     rt: &HostRuntime,
-    matches: &ArgMatches<'_>,
     task: &T,
+    forms: Forms,
     names: &[String],
     outputs: &Outputs,
     asked: LogWords<'_>,
-) -> Result<bool, Failure> {
-    let forms = Forms {
-        input: words::form(matches, "in"),
-        output: words::form(matches, "out"),
-    };
+) -> Result<bool, Failure>
+    ensures { IfOk result (PassesSome (T.work task.now (reader_of forms.input)
+        (writer_of forms.output) (grows_of ⟦<OutSink as Write>⟧) L.may_grow) (length names.now)) }
+{
     let mut out = outputs.messages.sink(rt.alloc())?;
     let mut log = L::open(rt, asked)?;
     let skipped = pass_each::<T, L>(rt, task, forms, names, outputs, &mut out, &mut log);
@@ -182,7 +189,12 @@ fn pass_all<T: Task, L: RunLog>(
     matches: &ArgMatches<'_>,
     task: &T,
     mut asked: LogWords<'_>,
-) -> Result<u8, Failure> {
+) -> Result<u8, Failure>
+    ensures { IfOk result (PassesWithStatus (T.work task.now
+        (reader_of (form_given matches.now (codes "in")))
+        (writer_of (form_given matches.now (codes "out")))
+        (grows_of ⟦<OutSink as Write>⟧) L.may_grow)) }
+{
     let names = words::inputs(rt.alloc(), matches)?;
     let outputs = Outputs::open(rt, matches, &names)?;
     asked.refused_out = match outputs.refused_output() {
@@ -192,7 +204,11 @@ fn pass_all<T: Task, L: RunLog>(
             return Err(failure);
         }
     };
-    match pass_inputs::<T, L>(rt, matches, task, &names, &outputs, asked) {
+    let forms = Forms {
+        input: words::form(matches, "in"),
+        output: words::form(matches, "out"),
+    };
+    match pass_inputs::<T, L>(rt, task, forms, &names, &outputs, asked) {
         Ok(skipped) => {
             outputs.commit(rt.alloc())?;
             Ok(if skipped { SKIPPED } else { DONE })
@@ -274,15 +290,15 @@ pub fn redact(rt: &HostRuntime, matches: &ArgMatches<'_>) -> Result<u8, Failure>
 
 /// `hagzimot relay`.
 pub fn relay(rt: &HostRuntime, matches: &ArgMatches<'_>) -> Result<u8, Failure> {
-    let task = RelayTask::new(rt, matches)?;
+    let relay = relay_of(rt, matches)?;
     let mut asked = asked(rt, matches, lines(matches, Lines::All))?;
-    asked.floats = task.replies(rt.alloc(), asked.lines)?;
+    asked.floats = replies_of(rt.alloc(), &relay, asked.lines)?;
     let watch = shared_watch(rt, matches, &mut asked)?;
-    let task = &task;
-    if asked.are_plain() && task.runs_all() {
-        let task = PlainRelay { task, watch };
+    let edits = relay.edits();
+    if asked.are_plain() && relay.runs_all() {
+        let task = PlainRelay { edits, watch };
         return pass_all::<PlainRelay<'_>, PlainLog>(rt, matches, &task, asked);
     }
-    let task = WatchedRelay { task, watch };
+    let task = WatchedRelay { edits, watch };
     pass_all::<WatchedRelay<'_>, Log>(rt, matches, &task, asked)
 }

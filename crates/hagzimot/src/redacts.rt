@@ -14,9 +14,8 @@ use crate::run_log::RunLog;
 use crate::tasks::Task;
 use crate::words;
 use capnp_relay_answers::bounds::Bounds;
-use capnp_relay_loop::ends::Counts;
+use capnp_relay_loop::ends::{Counts, RelayFault};
 use capnp_relay_program::ahead::BoundedForm;
-use capnp_relay_streams::between::BetweenFault;
 use capnp_stream::forms::MessageForm;
 use capnp_stream_io::adapters::Source;
 use clap::ArgMatches;
@@ -96,13 +95,17 @@ pub struct WatchedRedaction<'a> {
 }
 
 impl Task for WatchedRedaction<'_> {
+    ghost use Rattle.hagzimot_redact.specs.Redacted.{redacted_work};
+
+    ghost work = { λ r read write. redacted_work read write r.task.now.limits };
+
     fn run_in<I: BoundedForm, O: MessageForm, L: RunLog>(
         &self,
         alloc: Global,
         source: &mut Source<Input>,
         out: &mut OutSink,
         log: &mut L,
-    ) -> Result<Counts, BetweenFault> {
+    ) -> Result<Counts, RelayFault> {
         let RedactTask {
             schema,
             plan,
@@ -122,9 +125,8 @@ impl Task for WatchedRedaction<'_> {
             plan,
             limits,
         };
-        let end = redact_all::<I, O, Source<Input>, OutSink, L, TurnAndFlush<I>, MessageNotes<'_>>(
+        redact_all::<I, O, Source<Input>, OutSink, L, TurnAndFlush<I>, MessageNotes<'_>>(
             alloc, source, out, log, redaction, &notes,
-        );
-        end.map_err(BetweenFault::Relay)
+        )
     }
 }

@@ -2,7 +2,7 @@
 ghost use Rattle.std.specs.Prelude.{OnOk, IfErr};
 ghost use Rattle.std.specs.Io.Buffered.{writer_buffer};
 ghost use Rattle.capnp_stream_io.specs.Adapters.{source_window, sink_inner};
-ghost use Rattle.capnp_relay_loop.specs.Streams.{sink_of};
+ghost use Rattle.capnp_relay_loop.specs.Streams.{sink_of, SinkStays};
 ghost use Rattle.capnp_relay_loop.specs.Pauses.{SinkRests, FailsInPause};
 ghost use Rattle.capnp_relay_program.specs.Flushing.{HoldsNothing};
 
@@ -32,7 +32,9 @@ pub trait RunLog: Flush + Drop {
     fn open(rt: &HostRuntime, words: LogWords<'_>) -> Result<Self, Failure>;
 
     /// Begins with the input of this name, and returns its tape.
-    fn begin(&mut self, name: &str) -> Result<Rc<Tape>, Failure>;
+    fn begin(&mut self, name: &str) -> Result<Rc<Tape>, Failure>
+        ensures { let line = sink_of ⟦<Self as Write>⟧ in
+            SinkRests (line self.old) (line self.new) };
 
     /// Sees to the message that was read last, before the next one, and flushes both sinks where
     /// the source may wait. `Out`, `Log`: the sink's device failed. `Log` too: the run has to end,
@@ -55,7 +57,9 @@ pub trait RunLog: Flush + Drop {
 
     /// Hands on what the log's sinks hold at the end of an input. False where the messages that
     /// were refused can't be written.
-    fn finish(&mut self) -> bool;
+    fn finish(&mut self) -> bool
+        ensures { let line = sink_of ⟦<Self as Write>⟧ in
+            SinkStays (line self.old) (line self.new) };
 
     /// What ended the run, where the log did.
     fn end(&self) -> Option<LogEnd>;

@@ -1,4 +1,6 @@
 //! What the words of a subcommand say.
+ghost use Rattle.std.specs.Prelude.{◌≡◌};
+ghost use Rattle.hagzimot.specs.Inputs.{form_given};
 
 use crate::faults::Failure;
 use crate::files::read_file;
@@ -24,7 +26,9 @@ const WORDS: u32 = 8_388_608;
 const NESTING: u32 = 64;
 
 /// The form that an option names.
-pub fn form(words: &ArgMatches<'_>, id: &str) -> Form {
+pub fn form(words: &ArgMatches<'_>, id: &str) -> Form
+    ensures { result ≡ form_given words.now id.now }
+{
     match words.get_str(id) {
         Some("packed") => Form::Packed,
         _ => Form::Framed,
@@ -39,14 +43,6 @@ pub fn limit_of_words(words: &ArgMatches<'_>) -> u32 {
 /// The limit of levels.
 pub fn nesting(words: &ArgMatches<'_>) -> u32 {
     words.get_one::<u32>("nesting").unwrap_or(NESTING)
-}
-
-/// The limit of levels, as readers take it.
-pub fn nesting_limit(words: &ArgMatches<'_>) -> i32 {
-    match i32::try_from(nesting(words)) {
-        Ok(limit) => limit,
-        Err(_) => i32::MAX,
-    }
 }
 
 /// The text of a required argument.

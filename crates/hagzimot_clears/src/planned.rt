@@ -18,7 +18,7 @@ pub struct PlannedCall {
 impl PlannedCall {
     ghost use Rattle.std.specs.Prelude.{◌≡◌, Ok, IfOk};
     ghost use Rattle.capnp_calls.specs.CallViews.{call_view, call_from};
-    ghost use Rattle.hagzimot_clears.specs.Planned.{planned_view};
+    ghost use Rattle.hagzimot_clears.specs.Planned.{planned_view, get_along};
 
     /// The call of these parts, which runs as a probe says, if there is one for it. What is wrong
     /// with the parts is told as `Call::new` does; `Memory` too if a copy of them is refused.
@@ -56,6 +56,17 @@ impl PlannedCall {
         match Call::new(alloc, path, self.verb, value) {
             Ok(call) => Ok(call),
             Err(_) => Err(AllocError),
+        }
+    }
+
+    /// Makes the probe of the call: the `get` along its path. The error is that of `Call::new`, or
+    /// `Memory` if a copy of the path is refused.
+    pub fn probe_call(&self, alloc: Global) -> Result<Call, CallFault>
+        ensures { IfOk result (λ call. call_view call ≡ get_along self.now) }
+    {
+        match copy_path(alloc, &self.path) {
+            Ok(path) => Call::new(alloc, path, Verb::Get, None),
+            Err(_) => Err(CallFault::Memory),
         }
     }
 }

@@ -23,8 +23,8 @@ use hagzimot_outcomes::watched::{Counted, Watched};
 use std::alloc::Global;
 use std::cell::Cell;
 
-/// A run that wants memory before it answers a message.
-fn wants_memory() -> RelayFault
+/// Returns the end of a run that lacks memory before it answers a message.
+pub fn wants_memory() -> RelayFault
     ensures fault { result.fault ≡ Fault.Memory }
     ensures counts { (result.counts.written ≡ 0) × (result.counts.refused ≡ 0) }
 {
@@ -166,51 +166,5 @@ pub fn answer_watched<
     }
     answer_all::<I, O, R, W, L, Watched<'_, '_, '_, '_, A, N>, P>(
         alloc, source, out, log, &watched, limit, region,
-    )
-}
-
-/// Relays the messages of a source under these calls, limits and forms, and notes what becomes of
-/// each. A message with a refused call is refused, and one that is refused goes out as it came, if
-/// that is asked. The region may have any length.
-///
-/// The run ends as that of `answer_watched` does.
-pub fn relay_watched<
-    I: MessageForm,
-    O: MessageForm,
-    R: BufRead,
-    W: Write,
-    L: Write,
-    P: Pause<R, W, L>,
-    N: Notes,
->(
-    alloc: Global,
-    source: &mut R,
-    out: &mut W,
-    log: &mut L,
-    asked: Asked<'_>,
-    watching: Watching<'_, '_, '_, N>,
-    region: &mut [u8],
-) -> Result<Counts, RelayFault>
-    requires root { IsRoot asked.root }
-    ensures { let seen = streams_of ⟦<R as Read>⟧ ⟦<W as Write>⟧ ⟦<L as Write>⟧ in
-        RelaysPausing P.may_fail (work_watched watching.entry.is_strict watching.entry.passes
-        (asked_work asked.entry I.reader O.writer W.may_grow L.may_grow))
-        (seen source.old out.old log.old) (seen source.new out.new log.new) result }
-{
-    region.fill(0);
-    let bounds = asked.bounds;
-    let limit = bounds.words as usize;
-    let Ok(calls) = RootCalls::new(alloc, asked.root, asked.calls) else {
-        return Err(wants_memory());
-    };
-    if asked.is_plain {
-        let answers = PlainCallsAtRoot { calls, bounds };
-        return answer_watched::<I, O, R, W, L, P, PlainCallsAtRoot<'_>, N>(
-            alloc, source, out, log, &answers, limit, watching, region,
-        );
-    }
-    let answers = CallsAtRoot { calls, bounds };
-    answer_watched::<I, O, R, W, L, P, CallsAtRoot<'_>, N>(
-        alloc, source, out, log, &answers, limit, watching, region,
     )
 }

@@ -1,4 +1,6 @@
 //! Calls that options spell.
+ghost use Rattle.std.specs.Prelude.{IfOk, IfSome};
+ghost use Rattle.hagzimot_relay.specs.Calls.{SpellsMessage, SpellsCall};
 
 use capnp_calls::{CallValue, Verb};
 use hagzimot_commands::word_calls::{CallParts, WordTrouble, WordVerb, call_of_words, path_of};
@@ -38,7 +40,9 @@ fn json_parts(
     schema: &RootedSchema,
     verb: WordVerb,
     words: &str,
-) -> Result<Option<CallParts>, PartsTrouble> {
+) -> Result<Option<CallParts>, PartsTrouble>
+    ensures { IfOk result (λ parts. IfSome parts (SpellsMessage verb words.now)) }
+{
     let Some((path, text)) = words.split_once('=') else {
         return Ok(None);
     };
@@ -68,7 +72,9 @@ pub fn parts_of(
     schema: &RootedSchema,
     verb: WordVerb,
     words: &str,
-) -> Result<CallParts, PartsTrouble> {
+) -> Result<CallParts, PartsTrouble>
+    ensures { IfOk result (SpellsCall schema.now verb words.now) }
+{
     if let Some(parts) = json_parts(alloc, schema, verb, words)? {
         return Ok(parts);
     }
