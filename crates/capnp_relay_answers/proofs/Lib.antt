@@ -11,3 +11,4 @@ mod PlainEdited
 mod PlainWhole
 mod Told
 mod SizeSums
+mod SameSets

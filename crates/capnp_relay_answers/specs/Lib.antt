@@ -6,3 +6,4 @@ pub mod Found
 pub mod Gets
 pub mod RootCalls
 pub mod Plain
+pub mod Kept

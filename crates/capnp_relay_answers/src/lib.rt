@@ -7,6 +7,7 @@ pub mod bounds;
 mod built;
 mod found;
 mod gets;
+pub mod kept;
 mod near;
 mod reading;
 pub mod root_calls;

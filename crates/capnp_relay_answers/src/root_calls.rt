@@ -29,7 +29,7 @@ use std::alloc::Global;
 
 /// Does what `write_sets` does, in the first n words of a buffer.
 #[inline(always)]
-fn put_sets(words: &mut [Word], count: usize, sets: &[PlainSet]) -> bool
+pub(crate) fn put_sets(words: &mut [Word], count: usize, sets: &[PlainSet]) -> bool
     requires { count ≤ length words.old }
     ensures sets { (schema : AnySchema) (calls : List ModelCall) (t : Tree) → result ≡ true
         → ArePlain schema calls sets.now → Fits t → trim t ≡ t
@@ -42,7 +42,7 @@ fn put_sets(words: &mut [Word], count: usize, sets: &[PlainSet]) -> bool
 
 /// Returns the number of data words of the root of canonical words, a struct or null.
 #[inline(always)]
-fn root_words(words: &[Word]) -> usize
+pub(crate) fn root_words(words: &[Word]) -> usize
     requires { 0 < length words.now }
 {
     ((u64::from_le_bytes(words[0]) >> 32) % 0x1_0000) as usize

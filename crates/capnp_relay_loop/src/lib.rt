@@ -5,8 +5,9 @@
 pub mod answer;
 pub mod answers;
 pub mod ends;
+pub mod kept;
 mod line;
 mod logging;
 pub mod pauses;
 pub mod run;
-mod step;
+pub mod step;

@@ -36,6 +36,13 @@ impl Line {
         }
     }
 
+    /// Makes the next line be written whole, whatever it differs in from this one.
+    pub(crate) fn forget(&mut self)
+        ensures { KeepsLine self.new }
+    {
+        self.digit = 0;
+    }
+
     /// Changes the line of the previous message into that of this message, whose calls are all
     /// done, if the lines differ only in the last digit of the number. Otherwise nothing changes.
     #[inline(always)]

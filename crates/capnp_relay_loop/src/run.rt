@@ -7,8 +7,9 @@ ghost use Rattle.capnp_relay_loop.specs.Pauses.{RelaysPausing, moment, pauses_of
 
 use crate::answers::Answers;
 use crate::ends::{Counts, RelayFault};
+use crate::kept::answer_all_in;
 use crate::pauses::Pause;
-use crate::step::{Progress, step};
+use crate::step::Progress;
 use capnp_stream::forms::MessageForm;
 use capnp_stream_io::traits::{BufRead, Read, Write};
 use std::alloc::Global;
@@ -52,31 +53,5 @@ pub fn answer_all<
     ensures zeros { region.new ≡ region.old }
 {
     let mut progress = Progress::new(alloc);
-    let mut answered: u64 = 0;
-    loop {
-        match P::pause(source, out, log) {
-            Ok(()) => {}
-            Err(fault) => {
-                let counts = progress.counts;
-                return Err(RelayFault { fault, counts });
-            }
-        }
-        match step::<I, O, R, W, L, A>(
-            source,
-            out,
-            log,
-            answers,
-            limit,
-            region,
-            &mut progress,
-            answered,
-        ) {
-            Ok(true) => answered += 1,
-            Ok(false) => return Ok(progress.counts),
-            Err(fault) => {
-                let counts = progress.counts;
-                return Err(RelayFault { fault, counts });
-            }
-        }
-    }
+    answer_all_in::<I, O, R, W, L, A, P>(&mut progress, source, out, log, answers, limit, region)
 }

@@ -35,7 +35,7 @@ use std::alloc::Global;
 /// The state of a run from message to message: the counts, and buffers, which only grow if a
 /// message needs larger ones than those before.
 #[derive(Drop)]
-pub(crate) struct Progress {
+pub struct Progress {
     alloc: Global,
     pub(crate) counts: Counts,
     /// The message that was read is at the front.
@@ -50,7 +50,7 @@ pub(crate) struct Progress {
 
 impl Progress {
     /// Makes a state with no counts, whose buffers have taken no memory yet.
-    pub(crate) fn new(alloc: Global) -> Progress
+    pub fn new(alloc: Global) -> Progress
         ensures line { KeepsLine result.line }
         ensures counts { (result.counts.written ≡ 0) × (result.counts.refused ≡ 0) }
     {
@@ -66,6 +66,23 @@ impl Progress {
             text: Vec::new(alloc),
             line: Line::new(alloc),
         }
+    }
+
+    /// Returns the allocator of the buffers.
+    pub fn alloc(&self) -> Global {
+        self.alloc
+    }
+
+    /// Begins a run with no counts, and keeps the buffers.
+    pub(crate) fn begin(&mut self)
+        ensures line { KeepsLine self.new.line }
+        ensures counts { (self.new.counts.written ≡ 0) × (self.new.counts.refused ≡ 0) }
+    {
+        self.counts = Counts {
+            written: 0,
+            refused: 0,
+        };
+        self.line.forget();
     }
 }
 

@@ -5,6 +5,7 @@
 
 pub mod at_root;
 pub mod between;
+pub mod kept;
 pub mod laws;
 mod message;
 pub mod options;

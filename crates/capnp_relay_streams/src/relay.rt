@@ -79,7 +79,7 @@ pub fn relay<R: BufRead, W: Write, L: Write>(
 }
 
 /// Returns the fault of a run that lacks memory before it answers a message.
-fn wants_memory() -> RelayFault
+pub(crate) fn wants_memory() -> RelayFault
     ensures fault { result.fault ≡ Fault.Memory }
     ensures counts { (result.counts.written ≡ 0) × (result.counts.refused ≡ 0) }
 {

@@ -14,7 +14,6 @@ use std::alloc::Global;
 /// Answers the messages of the input, copies what is written and logged, and returns the status.
 #[tactic(auto, using(crate::proofs::Ended::ran_all, crate::proofs::Ended::ran_cut, crate::proofs::Ended::stopped))]
 pub(crate) fn relay_into(
-    alloc: Global,
     kind: &mut Kind,
     input: &[u8],
     out: &mut [u8],
@@ -33,7 +32,7 @@ pub(crate) fn relay_into(
 {
     match kind {
         Kind::Relay(relay) => {
-            let end = relay.relay(alloc, input);
+            let end = relay.relay(input);
             let fits = copy_results(relay, out, out_len, log, log_len);
             relay_status(end, fits)
         }

@@ -128,7 +128,7 @@ pub extern "C" fn hz_relay(
     let Some(mut kind) = handle.take(alloc) else {
         return CLOSED;
     };
-    let status = relay_into(alloc, &mut kind, input, out, out_len, log, log_len);
+    let status = relay_into(&mut kind, input, out, out_len, log, log_len);
     handle.put(kind);
     status
 }

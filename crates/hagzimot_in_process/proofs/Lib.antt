@@ -1,6 +1,7 @@
 mod Compared
 mod Framing
 mod Handles
+mod Kept
 mod Made
 mod Refusals
 mod Runs

@@ -1,4 +1,5 @@
 pub mod Frames
 pub mod Held
+pub mod Kept
 pub mod Opened
 pub mod Relays

@@ -7,7 +7,7 @@ use Rattle.capnp_relay_loop.specs.Run.{Answered}
 use Rattle.capnp_relay_loop.specs.Lines.{KeepsLine}
 use Rattle.capnp_relay_loop.specs.Pauses.{moment, pauses, AnsweredPausing}
 use Rattle.capnp_relay_loop.specs.Streams.{streams_of}
-use Rattle.capnp_relay_loop.proofs.run.answer_all.Given as goal
+use Rattle.capnp_relay_loop.proofs.kept.answer_all_in.Given as goal
 
 abbrev pub invariant-loop-fault : goal.invariant-loop-fault
 invariant-loop-fault g l = record {

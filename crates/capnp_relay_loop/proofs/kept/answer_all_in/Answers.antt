@@ -8,10 +8,10 @@ use Rattle.capnp_relay_loop.specs.Stops.{StopsByFault}
 use Rattle.capnp_relay_loop.specs.Pauses.{moment, pauses}
 use Rattle.capnp_relay_loop.specs.declared.ends.Counts.{Counts}
 use Rattle.capnp_relay_loop.proofs.lemmas.PauseLemmas.{Answered-rests, AnsweredPausing-more}
-use Rattle.capnp_relay_loop.proofs.run.answer_all.Goals as goal
+use Rattle.capnp_relay_loop.proofs.kept.answer_all_in.Goals as goal
 
 pub loop-fault-init : goal.loop-fault-init
-loop-fault-init g c = let begun = c.new-progress.ensures in record { zeros = refl; line = begun.line; together = omega (arith, begun.counts.0, begun.counts.1); pauses = refl; run = ([], [], refl, Answered-nil _ _ _ begun.counts.0 begun.counts.1) }
+loop-fault-init g c = let begun = c.begin.ensures in record { zeros = refl; line = begun.line; together = omega (arith, begun.counts.0, begun.counts.1); pauses = refl; run = ([], [], refl, Answered-nil _ _ _ begun.counts.0 begun.counts.1) }
 
 pub loop-fault-preserved : goal.loop-fault-preserved
 loop-fault-preserved g c =
