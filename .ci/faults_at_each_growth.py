@@ -47,27 +47,8 @@ def record(**changed):
     return "(" + ", ".join(f"{name} = {text}" for name, text in fields.items() if text is not None) + ")"
 
 
-# What a refused call may leave in place of what stood: the source's data with each pointer old, new or null, where a
-# content is copied, to a struct element too; a group with a beginning of the writes to it; a default that was written,
-# and isn't wide enough; the root before the first call, made an empty struct, or with the first call's text; and what
-# a call makes on its path, or the record behind it.
+# What a refused call may leave in place of what was there: what a call makes on its path, or the struct without its text.
 MAY_LEAVE = {
-    "layout.copy_content_from": [
-        "0000000001000100070000000000000001000000220000006f6c640000000000",
-        "00000000010001000700000000000000010000001a0000006869000000000000",
-        "000000000100010007000000000000000000000000000000",
-    ],
-    "schema.set.group": [
-        record(group=it)
-        for it in ("(count = 0)", '(first = "g", count = 0)', '(first = "g", count = 8)')
-    ],
-    "default.get.structs": ["(structs = [(a = 5)], lists = [[(a = 5)]], numbers = [1, 2])"],
-    "element.set.structs": [record(structs="[(a = 7)]")],
-    "record.run": [
-        "0000000000000000",
-        "000000000100010000000000000000000000000000000000",
-        "00000000010001000000000000000000010000001a0000006869000000000000",
-    ],
     "run.set_below_null": [record(struct="(a = 0)")],
     "run.set_in_default": [record(given='(a = 7, t = "hi")')],
     "run.set_element": [record(structs="[(a = 7)]")],

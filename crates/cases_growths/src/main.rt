@@ -4,14 +4,9 @@
 //! Each argument names a case; README.md lists the cases.
 #![tactic(auto)]
 
-mod dynamics;
-mod elements;
+mod edits;
 mod fault;
-mod files;
 mod large;
-mod layout;
-mod layout_gets;
-mod layout_reads;
 mod marks;
 mod messages;
 mod reading;
@@ -21,9 +16,9 @@ mod runs;
 mod samples;
 mod schema_reads;
 mod schemas;
-mod shows;
 mod texts;
 mod typed;
+mod untyped;
 mod writing;
 
 use fault::Fault;
@@ -33,19 +28,13 @@ use std::{env, io};
 /// Makes a call of a part of the library that takes memory, and returns its line.
 fn told_with_memory(rt: &HostRuntime, part: &str, call: &str) -> Result<String, Fault> {
     match part {
-        "layout" => layout::told(rt, call),
-        "layout_get" => layout_gets::told(rt, call),
-        "schema" => dynamics::told(rt, call),
-        "default" => dynamics::told_of_defaults(rt, call),
-        "element" | "untyped" => elements::told(rt, call),
+        "untyped" => untyped::told(rt, call),
         "root" => roots::told(rt, call),
         "typed" => typed::told(rt, call),
         "words" => typed::told_of_words(rt, call),
         "read" => reading::told(rt, call),
         "write" => writing::told(rt, call),
         "make" => texts::told(rt, call),
-        "file" => files::told(rt, call),
-        "record" => shows::told(rt, call),
         "run" => runs::told(rt, call),
         "relay" => relays::told(rt, call),
         "large" => large::told(rt, call),
@@ -56,15 +45,13 @@ fn told_with_memory(rt: &HostRuntime, part: &str, call: &str) -> Result<String, 
 /// Makes a call of a part of the library that takes no memory, and returns its line.
 fn told_without_memory(rt: &HostRuntime, part: &str, call: &str) -> Result<String, Fault> {
     match part {
-        "layout" => layout_reads::told(rt, call),
-        "schema" => dynamics::told(rt, call),
-        "element" | "untyped" => elements::told(rt, call),
+        "layout" => edits::told(rt),
+        "untyped" => untyped::told(rt, call),
         "root" => roots::read_back(rt),
         "typed" => typed::read(rt),
         "read" => reading::lent(rt, call),
         "write" => writing::lent(rt),
         "record" => schema_reads::told(rt, call),
-        "versions" => shows::told(rt, call),
         _ => Err(Fault::NoCase),
     }
 }

@@ -10,33 +10,26 @@ use capnp_relay_loop::ends::Counts;
 use capnp_relay_loop::pauses::NoPause;
 use capnp_relay_program::settings::Settings;
 use capnp_relay_program::version::Version;
-use capnp_relay_streams::between::{
-    BetweenFault, relay_between, relay_between_pausing, relay_between_with,
-};
+use capnp_relay_streams::between::{BetweenFault, relay_between_pausing};
 use capnp_relay_streams::options::RelayOptions;
-use capnp_relay_streams::relay::{relay, relay_pausing};
+use capnp_relay_streams::relay::relay_pausing;
 use capnp_values_queries::structs::StructSchema;
 use std::alloc::Global;
 
 /// P (1): a UInt16, t Text.
-pub const SCHEMA: &str = r#"[{"id":1,"name":"P","data":1,"pointers":1,"fields":[
+const SCHEMA: &str = r#"[{"id":1,"name":"P","data":1,"pointers":1,"fields":[
     {"name":"a","type":"UInt16","offset":0},{"name":"t","type":"Text","offset":0}]}]"#;
 
-/// P with b UInt64 and one more text.
-pub const NEWER: &str = r#"[{"id":1,"name":"P","data":2,"pointers":2,"fields":[
-    {"name":"a","type":"UInt16","offset":0},{"name":"t","type":"Text","offset":0},
-    {"name":"b","type":"UInt64","offset":1},{"name":"u","type":"Text","offset":1}]}]"#;
-
-/// The newer schema with another name for a.
-pub const RENAMED: &str = r#"[{"id":1,"name":"P","data":2,"pointers":2,"fields":[
+/// P with another name for a, b UInt64 and one more text.
+const RENAMED: &str = r#"[{"id":1,"name":"P","data":2,"pointers":2,"fields":[
     {"name":"number","type":"UInt16","offset":0},{"name":"t","type":"Text","offset":0},
     {"name":"b","type":"UInt64","offset":1},{"name":"u","type":"Text","offset":1}]}]"#;
 
 /// The names that differ in the newer schema.
-pub const RENAMES: &str = r#"[{"node":1,"from":"a","to":"number"}]"#;
+const RENAMES: &str = r#"[{"node":1,"from":"a","to":"number"}]"#;
 
 /// Two calls, which set t to a text, and get it.
-pub const CALLS: &str = r#"{"calls":[{"path":["t"],"verb":"set","value":{"text":"hi"}},
+const CALLS: &str = r#"{"calls":[{"path":["t"],"verb":"set","value":{"text":"hi"}},
     {"path":["t"],"verb":"get"}],"words":1000}"#;
 
 /// A frame of a capability, and one of a null root; and the same packed.
@@ -88,7 +81,7 @@ fn words_in(alloc: Global, form: &str) -> Result<Vec<String>, Fault> {
 pub fn settings(alloc: Global, form: &str, calls: &str) -> Result<Settings, Fault> {
     let words = words_in(alloc, form)?;
     let schema = Some(SCHEMA.as_bytes());
-    let (calls, newer) = (Some(calls.as_bytes()), Some(NEWER.as_bytes()));
+    let (calls, newer) = (Some(calls.as_bytes()), Some(RENAMED.as_bytes()));
     match Settings::new(alloc, &words, schema, calls, newer, None) {
         Ok(settings) => Ok(settings),
         Err(_) => Err(Fault::Unmade),
@@ -96,7 +89,7 @@ pub fn settings(alloc: Global, form: &str, calls: &str) -> Result<Settings, Faul
 }
 
 /// Returns the renaming of a field in the newer schema.
-pub fn renamings(alloc: Global) -> Result<Renamings, Fault> {
+fn renamings(alloc: Global) -> Result<Renamings, Fault> {
     let list = renames_file(alloc, RENAMES.as_bytes())?;
     Renamings::new(list).ok().ok_or(Fault::Unmade)
 }
@@ -106,39 +99,6 @@ pub fn version(alloc: Global, file: &str) -> Result<Version, Fault> {
     match Version::new(alloc, Some(file.as_bytes()), 1) {
         Ok(version) => Ok(version),
         Err(_) => Err(Fault::Unmade),
-    }
-}
-
-/// The function that is called.
-#[derive(Clone, Copy, PartialEq, Eq)]
-enum Way {
-    Alone,
-    Between,
-    /// Between versions; the newer has another name for a field.
-    Renamed,
-    /// Under one schema, with a region that is too short.
-    Pausing,
-    BetweenPausing,
-}
-
-impl Way {
-    /// Returns the newer schema.
-    fn newer(self) -> &'static str {
-        match self {
-            Way::Renamed | Way::BetweenPausing => RENAMED,
-            _ => NEWER,
-        }
-    }
-
-    /// Returns the call, and its form, of the name of a case.
-    fn of(name: &str) -> (Way, &str) {
-        match name.split_once('.') {
-            Some(("between", form)) => (Way::Between, form),
-            Some(("renamed", form)) => (Way::Renamed, form),
-            Some(("pausing", form)) => (Way::Pausing, form),
-            Some(("between_pausing", form)) => (Way::BetweenPausing, form),
-            _ => (Way::Alone, name),
-        }
     }
 }
 
@@ -155,11 +115,11 @@ struct Given<'a> {
 /// The end of a call, and the byte that fills its region after it, if all its bytes are equal.
 type Ended = (std::result::Result<Counts, BetweenFault>, Option<u8>);
 
-/// Runs the relay with a region that is too short, and returns how the run ends. The allocations
-/// between the marks are counted.
-fn paused(
+/// Runs the relay under one schema, or between versions, with a region that is too short. The
+/// allocations between the marks are counted.
+fn relayed(
     rt: &HostRuntime,
-    way: Way,
+    is_between: bool,
     given: Given<'_>,
     source: &mut &[u8],
     out: &mut Vec<u8>,
@@ -177,7 +137,7 @@ fn paused(
     let mut region = vec![in rt.alloc(); DIRT; SHORT]?;
     let into = &mut region;
     marks::begin(rt);
-    let end = if way == Way::BetweenPausing {
+    let end = if is_between {
         relay_between_pausing::<&[u8], Vec<u8>, Vec<u8>, NoPause>(
             rt.alloc(),
             source,
@@ -209,49 +169,11 @@ fn paused(
     Ok((end, byte_of(&region)))
 }
 
-/// Runs the relay with the whole region, and returns how the run ends.
-fn relayed(
-    rt: &HostRuntime,
-    way: Way,
-    given: Given<'_>,
-    source: &mut &[u8],
-    out: &mut Vec<u8>,
-    log: &mut Vec<u8>,
-) -> Result<Ended, Fault>
-    requires { IsRoot given.root }
-{
-    let Given {
-        root,
-        newer,
-        renamings,
-        calls,
-        options,
-    } = given;
-    let alloc = rt.alloc();
-    let mut region = vec![in alloc; DIRT; options.region_len()]?;
-    let into = &mut region;
-    marks::begin(rt);
-    let end = match way {
-        Way::Between => {
-            relay_between(alloc, source, out, log, root, newer, calls, options, into)
-        }
-        Way::Renamed => relay_between_with(
-            alloc, source, out, log, root, newer, renamings, calls, options, into,
-        ),
-        _ => match relay(alloc, source, out, log, root, calls, options, into) {
-            Ok(counts) => Ok(counts),
-            Err(fault) => Err(BetweenFault::Relay(fault)),
-        },
-    };
-    marks::end(rt);
-    Ok((end, byte_of(&region)))
-}
-
 /// Runs the relay on messages.
-fn ran(rt: &HostRuntime, form: &str, way: Way, mut source: &[u8]) -> Result<Left, Fault> {
+fn ran(rt: &HostRuntime, form: &str, is_between: bool, mut source: &[u8]) -> Result<Left, Fault> {
     let alloc = rt.alloc();
     let settings = settings(alloc, form, CALLS)?;
-    let (older, newer) = (version(alloc, SCHEMA)?, version(alloc, way.newer())?);
+    let (older, newer) = (version(alloc, SCHEMA)?, version(alloc, RENAMED)?);
     let renamings = renamings(alloc)?;
     let given = Given {
         root: older.root(),
@@ -262,12 +184,7 @@ fn ran(rt: &HostRuntime, form: &str, way: Way, mut source: &[u8]) -> Result<Left
     };
     let mut out = Vec::with_capacity(alloc, ROOM)?;
     let mut log = Vec::with_capacity(alloc, ROOM)?;
-    let (end, region) = match way {
-        Way::Pausing | Way::BetweenPausing => {
-            paused(rt, way, given, &mut source, &mut out, &mut log)?
-        }
-        _ => relayed(rt, way, given, &mut source, &mut out, &mut log)?,
-    };
+    let (end, region) = relayed(rt, is_between, given, &mut source, &mut out, &mut log)?;
     Ok(Left {
         end,
         out,
@@ -314,18 +231,19 @@ fn told_of(alloc: Global, left: &Left) -> Result<(usize, String), Fault> {
 /// Makes a case, and returns its line: a run, and a run on the messages that it didn't answer.
 pub fn told(rt: &HostRuntime, call: &str) -> Result<String, Fault> {
     let alloc = rt.alloc();
-    let (way, form) = Way::of(call);
+    let (way, form) = call.split_once('.').ok_or(Fault::NoCase)?;
+    let is_between = way == "between_pausing";
     let messages: &[u8] = if form.starts_with("packed") {
         &PACKED
     } else {
         &FRAMED
     };
-    let (answered, first) = told_of(alloc, &ran(rt, form, way, messages)?)?;
+    let (answered, first) = told_of(alloc, &ran(rt, form, is_between, messages)?)?;
     let rest = match answered {
         0 => messages,
         1 => messages.get(messages.len() / 2..).ok_or(Fault::Unmade)?,
         _ => return Ok(first),
     };
-    let (_, second) = told_of(alloc, &ran(rt, form, way, rest)?)?;
+    let (_, second) = told_of(alloc, &ran(rt, form, is_between, rest)?)?;
     Ok(format!(in alloc; "{}; then {}", first.as_str(), second.as_str())?)
 }

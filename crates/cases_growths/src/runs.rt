@@ -20,7 +20,7 @@ use capnp_schema_structs::init::Part;
 use capnp_units::kinds::ErrorKind;
 use capnp_values_queries::structs::StructSchema;
 
-/// Returns the named call, as it is written in a file. Its messages are the texts `b` and `c`; the
+/// Returns the named call, or two calls, as they are written in a file. Its messages are the texts `b` and `c`; the
 /// struct of the number 7 and the text `hi`; and a struct of the group's fields `g` and `h`.
 fn call_of(name: &str) -> Option<&'static str> {
     Some(match name {
@@ -41,11 +41,14 @@ fn call_of(name: &str) -> Option<&'static str> {
         "initn_element" => r#"{"path":["list",0],"verb":"initn","size":2}"#,
         "clear_group" => r#"{"path":["group"],"verb":"clear"}"#,
         "get_group" => r#"{"path":["group"],"verb":"get"}"#,
+        "set_and_get" => {
+            r#"{"path":["text"],"verb":"set","value":{"text":"hi"}},{"path":["text"],"verb":"get"}"#
+        }
         _ => return None,
     })
 }
 
-/// Runs calls at the root of a message, between the marks. Returns the reply to the only call.
+/// Runs calls at the root of a message, between the marks. Returns the reply to the last call.
 fn answered<A: BuilderArena>(
     rt: &HostRuntime,
     memory: &mut Memory<A>,
@@ -64,7 +67,7 @@ fn answered<A: BuilderArena>(
     match replies {
         Ok(replies) => match replies.as_slice() {
             [Reply::Done] => Ok(String::from_str(alloc, "done")?),
-            [Reply::Text(text)] => {
+            [.., Reply::Text(text)] => {
                 Ok(format!(in alloc; "done, {}", str::from_utf8(text).unwrap_or("?"))?)
             }
             _ => Err(Fault::Unmade),

@@ -2,24 +2,14 @@
 
 use capnp_units::sizes::Word;
 
-/// A null root.
-pub const NULL: &str = "0000000000000000";
-
 /// The text `old`.
 pub const OLD_TEXT: &str = "01000000220000006f6c640000000000";
 
 /// A struct of the number 5 and the text `old`.
 pub const OLD_STRUCT: &str = "0000000001000100050000000000000001000000220000006f6c640000000000";
 
-/// A list of one struct of the number 5.
-pub const OLD_STRUCTS: &str = "010000000f00000004000000010000000500000000000000";
-
 /// A struct of the number 7 and the text `hi`.
 pub const STRUCT: &str = "00000000010001000700000000000000010000001a0000006869000000000000";
-
-/// A list of the texts `a` and `b`.
-pub const LIST: &str =
-    "01000000160000000500000012000000050000001200000061000000000000006200000000000000";
 
 /// The words of `STRUCT`, as a default has them.
 pub const STRUCT_WORDS: [Word; 4] = [
@@ -28,15 +18,3 @@ pub const STRUCT_WORDS: [Word; 4] = [
     [1, 0, 0, 0, 0x1a, 0, 0, 0],
     [0x68, 0x69, 0, 0, 0, 0, 0, 0],
 ];
-
-/// Those of `LIST`.
-pub const LIST_WORDS: [Word; 5] = [
-    [1, 0, 0, 0, 0x16, 0, 0, 0],
-    [5, 0, 0, 0, 0x12, 0, 0, 0],
-    [5, 0, 0, 0, 0x12, 0, 0, 0],
-    [0x61, 0, 0, 0, 0, 0, 0, 0],
-    [0x62, 0, 0, 0, 0, 0, 0, 0],
-];
-
-/// Those of the text `hi`.
-pub const TEXT_WORDS: [Word; 2] = [[1, 0, 0, 0, 0x1a, 0, 0, 0], [0x68, 0x69, 0, 0, 0, 0, 0, 0]];

@@ -1,10 +1,9 @@
 //! Queries of schemas, and calls of dynamic readers, which take no memory.
 
-use crate::dynamics::record;
 use crate::fault::Fault;
 use crate::marks;
 use crate::messages::Segments;
-use crate::schemas::{NEW, schema_of, set_of};
+use crate::schemas::{NEW, record, schema_of, set_of};
 use capnp_records::set::SchemaSet;
 use capnp_text::text;
 use capnp_units::errors::{Error, Result};

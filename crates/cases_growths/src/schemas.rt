@@ -6,6 +6,7 @@ ghost use Rattle.capnp_schema_structs.specs.Builders.{IsReady};
 ghost use Rattle.capnp_schema_structs.specs.Edits.{IsThere, HoldsShape};
 
 use crate::fault::Fault;
+use crate::messages::Segments;
 use capnp_copy_arenas::arena::{BuilderArena, Memory};
 use capnp_copy_arenas::fields::StructPlace;
 use capnp_copy_widening::structs::get_struct;
@@ -16,15 +17,18 @@ use capnp_schema_structs::dynamic_struct::{Builder, has_sizes};
 use capnp_schema_structs::init::{Part, struct_size};
 use capnp_units::errors::{Error, Result};
 use capnp_units::kinds::ErrorKind;
+use capnp_units::limiter::ReadLimiter;
+use capnp_values::dynamic_struct;
 use capnp_values::dynamic_value::Reader;
 use capnp_values_print::stringify::print;
 use capnp_values_queries::structs::StructSchema;
+use capnp_wire::pointer::PointerReader;
 use capnp_wire_objects::arena::ReaderArena;
 use capnp_wire_objects::place::{ROOT, has_words};
 use std::alloc::Global;
 
 /// S (1), of a field of each sort, with a union, a group (3) and a default; P (2): a UInt16, t
-/// Text; the enum C (4); and D (5), of defaults and lists.
+/// Text; and the enum C (4).
 pub const SCHEMA: &str = r#"[
     {"id":1,"name":"S","data":2,"pointers":10,"union":3,"fields":[
         {"name":"number","type":"UInt16","offset":0},
@@ -48,16 +52,7 @@ pub const SCHEMA: &str = r#"[
         {"name":"first","type":"Text","offset":8},
         {"name":"count","type":"UInt16","offset":6},
         {"name":"second","type":"Text","offset":9}]},
-    {"id":4,"name":"C","enumerants":["red","green"]},
-    {"id":5,"name":"D","data":0,"pointers":6,"fields":[
-        {"name":"text","type":"Text","offset":0,"default":"hi"},
-        {"name":"data","type":"Data","offset":1,"default":"010203"},
-        {"name":"list","type":{"list":"Text"},"offset":2,
-            "default":"01000000160000000500000012000000050000001200000061000000000000006200000000000000"},
-        {"name":"structs","type":{"list":{"struct":2}},"offset":3,
-            "default":"010000000f00000004000000010000000500000000000000"},
-        {"name":"lists","type":{"list":{"list":{"struct":2}}},"offset":4},
-        {"name":"numbers","type":{"list":"UInt16"},"offset":5}]}]"#;
+    {"id":4,"name":"C","enumerants":["red","green"]}]"#;
 
 /// `(number = 5, flag = true, colour = green, plain = 3, text = "old", data = 0x"0102", list =
 /// ["a"], structs = [(a = 1)], untyped = <opaque pointer>, group = (count = 4), nothing = ())`.
@@ -67,11 +62,6 @@ pub const OLD: &str =
     0000000000000000000000000000000000000000000000006f6c6400000000000102000000000000\
     01000000120000006100000000000000040000000100010001000000000000000000000000000000\
     7800000000000000";
-
-/// `(lists = [[(a = 5)]], numbers = [1, 2])`, in which the structs are a list of numbers.
-pub const DEFAULTS: &str = "0000000000000600000000000000000000000000000000000000000000000000\
-    0000000000000000050000000e0000000900000013000000010000000b0000000500000000000000\
-    0100020000000000";
 
 /// A record of other values, in which each field that is null in the old one is present, and the
 /// other member of the union is active.
@@ -83,6 +73,17 @@ pub const NEW: &str =
     05000000120000006200000000000000630000000000000008000000010001000200000000000000\
     09000000120000000300000000000000000000000000000064000000000000007900000000000000\
     0900000000000000000000000000000067000000000000006800000000000000";
+
+/// Returns the record at the root of a source.
+pub fn record<'a>(
+    arena: &'a Segments<'a>,
+    schema: StructSchema<'a>,
+) -> Result<dynamic_struct::Reader<'a, Segments<'a>>> {
+    let mut unlimited = ReadLimiter::new(None);
+    let root = PointerReader::get_root_from_arena(arena)?;
+    let reader = root.get_struct(&mut unlimited, None)?;
+    Ok(dynamic_struct::Reader::new(reader, schema))
+}
 
 /// The set of the schema's nodes.
 pub fn set_of(alloc: Global) -> std::result::Result<SchemaSet, Fault> {
@@ -142,7 +143,7 @@ pub fn struct_at<'a, A: BuilderArena>(memory: &'a mut Memory<A>, part: Part<'a>)
 }
 
 /// The text of a value.
-pub fn text_of<A: ReaderArena>(
+fn text_of<A: ReaderArena>(
     alloc: Global,
     value: Reader<'_, A>,
 ) -> std::result::Result<String, Fault> {

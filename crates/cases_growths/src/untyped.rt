@@ -1,28 +1,24 @@
-//! Calls at elements of dynamic builders of lists, and at untyped pointers.
+//! Calls at untyped pointers of dynamic builders.
 ghost use Rattle.std.specs.Prelude.{◌≡◌, IfOk, true};
 ghost use Rattle.std.specs.Option.{is_some};
 ghost use Rattle.capnp_units.specs.Segments.{words_in};
 ghost use Rattle.capnp_values_queries.specs.Structs.{shape_of_struct};
 ghost use Rattle.capnp_schema_structs.specs.Edits.{IsThere, HoldsShape};
-ghost use Rattle.capnp_schema_lists.specs.Builders.{IsReadyList as IsListReady};
-ghost use Rattle.capnp_schema_values.specs.Built.{IsPlaced, IsListPlaced, IsReadyValue};
+ghost use Rattle.capnp_schema_values.specs.Built.{IsPlaced, IsReadyValue};
 ghost use Rattle.capnp_schema_values.specs.Untyped.{IsReadyPointer as IsPointerReady};
 ghost use Rattle.capnp_schema_values.specs.Variants.{built_untyped};
 
-use crate::dynamics::{Call, record};
 use crate::fault::Fault;
 use crate::marks;
 use crate::messages::{Segments, end, outcome, put_words, segments_of, small, stands, tree_of};
-use crate::schemas::{DEFAULTS, NEW, OLD, root_place, root_text, schema_of, set_of, struct_at};
+use crate::schemas::{NEW, OLD, record, root_place, schema_of, set_of, struct_at};
 use capnp_copy_arenas::arena::{BuilderArena, Memory};
-use capnp_layout_builders::list_builder::ListBuilder;
 use capnp_message::placed::{DataPlace, PointerPlace, TextPlace};
-use capnp_schema_lists::dynamic_list;
 use capnp_schema_structs::init::Part;
+use capnp_schema_values::any_pointer;
 use capnp_schema_values::dynamic_struct::get;
 use capnp_schema_values::dynamic_value::Builder;
-use capnp_schema_values::placed::{ListPart, Placed};
-use capnp_schema_values::{any_pointer, dynamic_list as gets};
+use capnp_schema_values::placed::Placed;
 use capnp_text::{data, text};
 use capnp_units::errors::{Error, Result};
 use capnp_units::kinds::ErrorKind;
@@ -34,25 +30,6 @@ use capnp_wire_objects::arena::{ReaderArena, ReaderArenaImpl};
 const NO_CALL: Error = Error {
     kind: ErrorKind::FieldNotFound,
 };
-
-/// Returns a list that is there, to write.
-fn list_at<'a, A: BuilderArena>(
-    memory: &'a mut Memory<A>,
-    list: ListPart<'a>,
-) -> dynamic_list::Builder<'a, A>
-    requires { IsListPlaced (words_in (A.segments memory.old.arena)) list }
-    ensures same { result.memory.ghost_name ≡ memory.entry.ghost_name }
-    ensures now { result.memory.now ≡ memory.old }
-    ensures place { result.place ≡ list.entry.place }
-    ensures ready { IsListReady A.segments result }
-{
-    let ListPart {
-        place,
-        set,
-        element_type,
-    } = list;
-    dynamic_list::Builder::new(ListBuilder { memory, place }, set, element_type)
-}
 
 /// Returns the place of a field of a struct.
 fn field_of<'a, A: BuilderArena>(
@@ -70,34 +47,6 @@ fn field_of<'a, A: BuilderArena>(
     match get(&mut object, field) {
         Ok(placed) => Ok(placed),
         Err(error) => Err(error),
-    }
-}
-
-/// Sets the first element of a list to a value, or begins it.
-fn edit_element<A: BuilderArena, B: ReaderArena>(
-    memory: &mut Memory<A>,
-    part: ListPart<'_>,
-    call: Call<'_>,
-    value: Reader<'_, B>,
-) -> Result<()>
-    requires { IsListPlaced (words_in (A.segments memory.old.arena)) part }
-{
-    let mut list = list_at(memory, part);
-    if list.len() == 0 {
-        return Err(NO_CALL);
-    }
-    match call.verb {
-        "set" => list.set(0, value),
-        "init" => list.init(0, 2),
-        "get" => {
-            let _placed = gets::get(&mut list, 0)?;
-            Ok(())
-        }
-        "init_and_get" => {
-            let _placed = gets::init(&mut list, 0, 2)?;
-            Ok(())
-        }
-        _ => Err(NO_CALL),
     }
 }
 
@@ -139,7 +88,7 @@ fn set_untyped<A: BuilderArena, B: ReaderArena>(
 fn edit_untyped<A: BuilderArena, B: ReaderArena>(
     memory: &mut Memory<A>,
     placed: Placed<'_>,
-    call: Call<'_>,
+    call: &str,
     value: Reader<'_, B>,
 ) -> Result<()>
     requires { IsPlaced (words_in (A.segments memory.old.arena)) placed }
@@ -149,7 +98,7 @@ fn edit_untyped<A: BuilderArena, B: ReaderArena>(
         return Err(NO_CALL);
     }
     let mut pointer = untyped_of(built);
-    match call.verb {
+    match call {
         "set_as_text" => pointer.set_as::<text::Owned, text::Reader<'_>>(text::Reader(b"hi")),
         "set_as_data" => pointer.set_as::<data::Owned, &[u8]>(&[1, 2, 3]),
         "set_as_str" => pointer.set_as::<text::Owned, &str>("hi"),
@@ -175,12 +124,10 @@ fn edit_untyped<A: BuilderArena, B: ReaderArena>(
 }
 
 /// Returns the field of a source that has the value for a call.
-fn source_of(call: Call<'_>) -> &'static str {
-    match (call.verb, call.field) {
-        ("set_as_list", _) => "list",
-        ("set_as_pointer", _) => "untyped",
-        (_, "list") => "text",
-        (_, "numbers") => "number",
+fn source_of(call: &str) -> &'static str {
+    match call {
+        "set_as_list" => "list",
+        "set_as_pointer" => "untyped",
         _ => "struct",
     }
 }
@@ -190,16 +137,13 @@ fn called<A: BuilderArena, B: ReaderArena>(
     rt: &HostRuntime,
     memory: &mut Memory<A>,
     schema: StructSchema<'_>,
-    call: Call<'_>,
+    call: &str,
     value: Reader<'_, B>,
 ) -> Result<()> {
     let place = root_place(memory, schema)?;
-    let placed = field_of(memory, Part { place, schema }, call.field)?;
+    let placed = field_of(memory, Part { place, schema }, "untyped")?;
     marks::begin(rt);
-    let done = match placed {
-        Placed::List(part) => edit_element(memory, part, call, value),
-        _ => edit_untyped(memory, placed, call, value),
-    };
+    let done = edit_untyped(memory, placed, call, value);
     marks::end(rt);
     done
 }
@@ -209,41 +153,31 @@ fn told_of<A: BuilderArena, B: ReaderArena>(
     rt: &HostRuntime,
     memory: &mut Memory<A>,
     schema: StructSchema<'_>,
-    call: Call<'_>,
+    call: &str,
     value: Reader<'_, B>,
 ) -> std::result::Result<String, Fault> {
     let alloc = rt.alloc();
     let before = segments_of(alloc, &memory.arena)?;
     let done = called(rt, memory, schema, call, value);
     let is_standing = stands(&memory.arena, &before);
-    let read = if call.field == "untyped" {
-        tree_of(alloc, &memory.arena)?
-    } else {
-        root_text(alloc, memory, schema)?
-    };
-    outcome(alloc, done, is_standing, read.as_str())
-}
-
-/// Returns the struct that has the field of a call, by its id, and the record before the call.
-fn record_of(call: Call<'_>) -> (u64, &'static str) {
-    match call.field {
-        "lists" | "numbers" => (5, DEFAULTS),
-        _ => (1, OLD),
-    }
+    outcome(
+        alloc,
+        done,
+        is_standing,
+        tree_of(alloc, &memory.arena)?.as_str(),
+    )
 }
 
 /// Makes a case, and returns its line.
 pub fn told(rt: &HostRuntime, call: &str) -> std::result::Result<String, Fault> {
     let alloc = rt.alloc();
-    let call = Call::new(call)?;
     let set = set_of(alloc)?;
     let source = hex::decode(alloc, NEW.as_bytes())?;
     let segments = [source.as_slice()];
     let arena: Segments<'_> = ReaderArenaImpl::new(segments.as_slice(), 64);
-    let value = record(&arena, schema_of(&set, 1)?)?.get_named(source_of(call))?;
-    let (id, old) = record_of(call);
-    let schema = schema_of(&set, id)?;
-    let old = hex::decode(alloc, old.as_bytes())?;
+    let schema = schema_of(&set, 1)?;
+    let value = record(&arena, schema)?.get_named(source_of(call))?;
+    let old = hex::decode(alloc, OLD.as_bytes())?;
     let mut message = small(alloc);
     let told = match put_words(&mut message.memory, &old) {
         Ok(()) => told_of(rt, &mut message.memory, schema, call, value),
