@@ -40,8 +40,8 @@ is_untyped_base T.AnyPointer = true
 is_untyped_base _ = false
 
 -- The untyped pointer, and no list of it.
-abbrev pub is_untyped_pointer : BoundType → Bool
-is_untyped_pointer t = (t.ty.list_count == 0) && is_untyped_base t.ty.base
+abbrev pub is_untyped_type : BoundType → Bool
+is_untyped_type t = (t.ty.list_count == 0) && is_untyped_base t.ty.base
 
 -- The most types that are nested in an argument, and in those of a start.
 abbrev pub deepest : ℕ → List Binding → ℕ

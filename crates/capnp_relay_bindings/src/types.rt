@@ -35,7 +35,7 @@ fn is_pointer_base(base: BaseType) -> bool
 impl BoundType {
     ghost use Rattle.std.specs.Prelude.{◌≡◌, ◌==◌, ◌&&◌};
     ghost use Rattle.capnp_records.specs.declared.node.BaseType.TheVariants.{AnyPointer, Capability};
-    ghost use Rattle.capnp_relay_bindings.specs.Types.{plain_type, argument_of, listed_type, is_untyped_pointer};
+    ghost use Rattle.capnp_relay_bindings.specs.Types.{plain_type, argument_of, listed_type, is_untyped_type};
 
     /// Makes a type that isn't nested.
     pub fn of(base: BaseType) -> BoundType
@@ -84,7 +84,7 @@ impl BoundType {
 
     /// Returns whether the type is the untyped pointer.
     pub fn is_untyped(self) -> bool
-        ensures { result ≡ is_untyped_pointer self }
+        ensures { result ≡ is_untyped_type self }
     {
         self.ty.list_count == 0 && self.ty.base == BaseType::AnyPointer
     }

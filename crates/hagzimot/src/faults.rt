@@ -196,9 +196,11 @@ impl Failure {
     ) -> Failure {
         let text = match fault {
             Some(why) if why.is_memory() => return Failure::Memory,
-            Some(why) => format!(in alloc; "{name}: no {sort} file: {why}"),
+            Some(why) => format!(in alloc;
+                "{name}: not a {sort} file: {why} (compare it with docs/FILES.md)"
+            ),
             None => format!(in alloc;
-                "{name}: JSON, but no {sort} file: compare it with docs/FILES.md"
+                "{name}: JSON, but not a {sort} file: compare it with docs/FILES.md"
             ),
         };
         match text {

@@ -4,10 +4,11 @@ use crate::faults::Failure;
 use crate::files::{OutFile, Output, Receiver};
 use crate::words;
 use clap::ArgMatches;
-use hagzimot_files::drafts::{Draft, Goal};
+use hagzimot_files::drafts::Draft;
 use hagzimot_files::host::Host;
+use hagzimot_files::openings::{Opening, Role, Use, opening_of, would_lose};
 use hagzimot_files::places::{
-    FileId, Place, PlaceError, file_at, file_of_descriptor, is_at, is_one_file, is_standard,
+    FileId, Place, PlaceError, Target, file_at, file_of_descriptor, is_one_file, is_standard,
     open_direct, resolve,
 };
 use std::alloc::Global;
@@ -29,10 +30,18 @@ static SETTINGS: [(&str, &str); 4] = [
     ("calls", "--calls"),
 ];
 
+/// The option that names an output.
+fn option_of(role: Role) -> &'static str {
+    match role {
+        Role::Messages => "-o",
+        Role::Refused => "--refused",
+    }
+}
+
 /// An output that the words name.
 #[derive(Drop)]
 struct Named<'a> {
-    option: &'a str,
+    role: Role,
     name: &'a str,
     /// The path behind all links, `None` for standard output.
     path: Option<String>,
@@ -41,11 +50,11 @@ struct Named<'a> {
 }
 
 impl<'a> Named<'a> {
-    /// The output of an option, which is not opened yet.
-    fn new(rt: &HostRuntime, option: &'a str, name: &'a str) -> Result<Named<'a>, Failure> {
+    /// The output of a name, which is not opened yet.
+    fn new(rt: &HostRuntime, role: Role, name: &'a str) -> Result<Named<'a>, Failure> {
         if is_standard(name) {
             return Ok(Named {
-                option,
+                role,
                 name,
                 path: None,
                 place: match file_of_descriptor(rt, OUTPUT) {
@@ -58,20 +67,23 @@ impl<'a> Named<'a> {
             Ok(target) => target,
             Err(PlaceError::Memory) => return Err(Failure::Memory),
             Err(PlaceError::System(e)) => return Err(Failure::file(rt.alloc(), name, e)),
-            Err(why) => return Err(Failure::output_words(rt.alloc(), option, name, &why)),
+            Err(why) => {
+                return Err(Failure::output_words(rt.alloc(), option_of(role), name, &why));
+            }
         };
         Ok(Named {
-            option,
+            role,
             name,
             path: Some(target.path),
             place: Some(target.place),
         })
     }
 
-    /// Refuses it if it is a file that another argument names.
+    /// Refuses it if it is a file that another argument names, and data would be lost.
     fn check(
         &self,
         rt: &HostRuntime,
+        used: Use,
         file: io::Result<Option<FileId>>,
         other: &str,
         name: &str,
@@ -82,7 +94,9 @@ impl<'a> Named<'a> {
             Err(e) => return Err(Failure::file(rt.alloc(), name, e)),
         };
         match &self.place {
-            Some(place) if is_at(place, file) => Err(self.clash(rt, other, name)),
+            Some(place) if would_lose(place, self.role, used, file) => {
+                Err(self.clash(rt, other, name))
+            }
             _ => Ok(()),
         }
     }
@@ -94,7 +108,7 @@ impl<'a> Named<'a> {
 
     /// The failure of an output that is another file of the run too.
     fn clash(&self, rt: &HostRuntime, other: &str, name: &str) -> Failure {
-        Failure::one_file(rt.alloc(), self.option, self.name, other, name)
+        Failure::one_file(rt.alloc(), option_of(self.role), self.name, other, name)
     }
 
     /// Refuses an output that is a file which is read before any message, or standard error.
@@ -106,10 +120,11 @@ impl<'a> Named<'a> {
             let Some(name) = matches.get_str(id) else {
                 continue;
             };
-            self.check(rt, file_at(rt, name), option, name)?;
+            self.check(rt, Use::Setting, file_at(rt, name), option, name)?;
         }
         if self.replaces() {
-            self.check(rt, file_of_descriptor(rt, ERROR), "standard error", ERROR)?;
+            let file = file_of_descriptor(rt, ERROR);
+            self.check(rt, Use::Log, file, "standard error", ERROR)?;
         }
         Ok(())
     }
@@ -119,12 +134,12 @@ impl<'a> Named<'a> {
         matches!(self.place, Some(Place::File { .. } | Place::Stream(_)))
     }
 
-    /// Refuses an output that is an input.
-    fn check_inputs(&self, rt: &HostRuntime, names: &[String]) -> Result<(), Failure> {
+    /// Refuses an output that is an input, where data would be lost.
+    fn check_inputs(&self, rt: &HostRuntime, used: Use, names: &[String]) -> Result<(), Failure> {
         for name in names {
             let name = name.as_str();
             let path = if name == "-" { INPUT } else { name };
-            self.check(rt, file_at(rt, path), "the input", name)?;
+            self.check(rt, used, file_at(rt, path), "the input", name)?;
         }
         Ok(())
     }
@@ -136,21 +151,15 @@ impl<'a> Named<'a> {
         let (Some(path), Some(place)) = (self.path, self.place) else {
             return OutFile::standard(rt);
         };
-        let owners = match place {
-            Place::File { owners, .. } => Some(owners),
-            Place::Free { .. } => None,
-            Place::Device(_) | Place::Stream(_) => {
+        let target = Target { path, place };
+        let goal = match opening_of(target, process::id(rt.process()), sync) {
+            Opening::Draft(goal) => goal,
+            Opening::Direct(Target { path, place }) => {
                 return match open_direct(rt, path.as_str(), &place) {
                     Ok(file) => OutFile::new(alloc, name, Receiver::Direct(file)),
                     Err(e) => Err(Failure::file(alloc, name, e)),
                 };
             }
-        };
-        let goal = Goal {
-            path,
-            owners,
-            process: process::id(rt.process()),
-            sync,
         };
         let mut host = Host::new(rt);
         match Draft::create(&mut host, alloc, goal) {
@@ -162,7 +171,7 @@ impl<'a> Named<'a> {
 
 /// Opens an output under a name that nothing has: a draft, which gets the name once it is written.
 pub fn open_new(rt: &HostRuntime, name: &str, sync: bool) -> Result<Rc<OutFile>, Failure> {
-    let named = Named::new(rt, "-o", name)?;
+    let named = Named::new(rt, Role::Messages, name)?;
     if matches!(named.place, Some(Place::Free { .. })) {
         return named.open(rt, sync);
     }
@@ -187,14 +196,14 @@ fn check_all(
 ) -> Result<(), Failure> {
     messages.check_settings(rt, matches)?;
     if matches!(messages.place, Some(Place::Stream(_))) {
-        messages.check_inputs(rt, inputs)?;
+        messages.check_inputs(rt, Use::Input, inputs)?;
     }
     let Some(refused) = refused else {
         return Ok(());
     };
     refused.check_settings(rt, matches)?;
     if refused.is_there() {
-        refused.check_inputs(rt, inputs)?;
+        refused.check_inputs(rt, Use::Input, inputs)?;
     }
     let are_one = match (&messages.place, &refused.place) {
         (Some(a), Some(b)) => is_one_file(a, b),
@@ -202,7 +211,7 @@ fn check_all(
         _ => false,
     };
     if are_one {
-        return Err(refused.clash(rt, messages.option, messages.name));
+        return Err(refused.clash(rt, option_of(messages.role), messages.name));
     }
     Ok(())
 }
@@ -214,9 +223,9 @@ pub fn check_apart(
     inputs: &[String],
 ) -> Result<(), Failure> {
     let name = matches.get_str("output").unwrap_or("-");
-    let messages = Named::new(rt, "-o", name)?;
+    let messages = Named::new(rt, Role::Messages, name)?;
     if messages.is_there() {
-        messages.check_inputs(rt, inputs)?;
+        messages.check_inputs(rt, Use::Setting, inputs)?;
     }
     Ok(())
 }
@@ -231,9 +240,9 @@ impl Outputs {
     ) -> Result<Outputs, Failure> {
         let sync = !words::has_flag(matches, "no-sync");
         let name = matches.get_str("output").unwrap_or("-");
-        let messages = Named::new(rt, "-o", name)?;
+        let messages = Named::new(rt, Role::Messages, name)?;
         let refused = match words::refused_name(matches) {
-            Some(name) => Some(Named::new(rt, "--refused", name)?),
+            Some(name) => Some(Named::new(rt, Role::Refused, name)?),
             None => None,
         };
         check_all(rt, matches, &messages, refused.as_ref(), inputs)?;

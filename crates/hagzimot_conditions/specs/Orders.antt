@@ -1,5 +1,6 @@
 -- Which operators hold of two values, by their order.
-use Rattle.std.specs.Prelude.{Bool, true, false, not, ◌||◌, Option, Some, None}
+use Rattle.std.specs.Prelude.{ℕ, ◌-◌, ◌==◌, nat_lt, nat_le, ℤ, pos, neg_ℤ, Bool, true, false, not, ◌&&◌, ◌||◌, if◌then◌else◌, Option, Some, None, List, [], ◌∷◌}
+use Rattle.std.specs.Ordering.{int_cmp}
 use Rattle.std.specs.declared.cmp.Ordering.{Ordering}
 use Rattle.std.specs.declared.cmp.Ordering.TheVariants as order
 use Rattle.hagzimot_expressions.specs.declared.tree.Operator.{Operator}
@@ -32,3 +33,31 @@ fits_order op.AtMost o = is_less_order o || is_equal_order o
 fits_order op.Greater o = is_greater_order o
 fits_order op.AtLeast o = is_greater_order o || is_equal_order o
 fits_order op.Contains o = false
+
+-- The bits of a float without its sign, whose bit is given. (IEEE 754, interchange formats)
+abbrev pub size_of_bits : ℕ → ℕ → ℕ
+size_of_bits sign bits = if nat_le sign bits then bits - sign else bits
+
+-- A number that grows with the float; 0 of both zeros.
+abbrev pub place_of_bits : ℕ → ℕ → ℤ
+place_of_bits sign bits = if nat_le sign bits then neg_ℤ (pos (size_of_bits sign bits)) else pos (size_of_bits sign bits)
+
+abbrev pub is_nan_of : ℕ → ℕ → ℕ → Bool
+is_nan_of sign infinity bits = nat_lt infinity (size_of_bits sign bits)
+
+-- The order of two floats by their bits; a NaN is equal to another one, and has no order with other floats.
+abbrev pub float_order : ℕ → ℕ → ℕ → ℕ → Option Ordering
+float_order sign infinity left right =
+    if is_nan_of sign infinity left then (if is_nan_of sign infinity right then Some order.Equal else None)
+    else (if is_nan_of sign infinity right then None else Some (int_cmp (place_of_bits sign left) (place_of_bits sign right)))
+
+-- Bytes begin with others.
+abbrev pub begins_with : List ℕ → List ℕ → Bool
+begins_with bytes [] = true
+begins_with [] (p ∷ ps) = false
+begins_with (b ∷ bs) (p ∷ ps) = (b == p) && begins_with bs ps
+
+-- Bytes have others as a part.
+abbrev pub has_part : List ℕ → List ℕ → Bool
+has_part [] part = begins_with [] part
+has_part (b ∷ bs) part = begins_with (b ∷ bs) part || has_part bs part

@@ -1,5 +1,4 @@
 //! Expressions under a schema, decided for structs.
-ghost use Rattle.std.specs.Prelude.{⊤};
 
 use crate::checks::{Condition, Scope, condition_of};
 use crate::reads::{Budget, Unread, holds_behind};
@@ -29,7 +28,9 @@ struct AtStruct<'a, 'b, A> {
 impl<A: ReaderArena> Truths for AtStruct<'_, '_, A> {
     type Fault = Unread;
 
-    ghost says = { λ _ _ _. ⊤ };
+    ghost use Rattle.hagzimot_conditions.specs.Meaning.{Says};
+
+    ghost says = { Says A.segments };
 
     fn is_true(&self, number: usize) -> Result<bool, Unread> {
         match self.conditions.get(number) {

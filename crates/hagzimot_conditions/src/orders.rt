@@ -1,6 +1,8 @@
 //! Orders of values.
-ghost use Rattle.std.specs.Prelude.{◌≡◌};
-ghost use Rattle.hagzimot_conditions.specs.Orders.{fits_order};
+ghost use Rattle.std.specs.Prelude.{◌≡◌, ℕ, ◌^◌, nat_eq};
+ghost use Rattle.std.specs.Ordering.{nat_cmp, int_cmp};
+ghost use Rattle.std.specs.Cmp.Lexicographic.{slice_cmp};
+ghost use Rattle.hagzimot_conditions.specs.Orders.{fits_order, size_of_bits, place_of_bits, float_order, begins_with, has_part};
 
 use hagzimot_expressions::tree::Operator;
 use std::cmp::Ordering;
@@ -21,25 +23,17 @@ pub(crate) fn fits(operator: Operator, order: Option<Ordering>) -> bool
 }
 
 /// Returns the order of two whole numbers.
-pub(crate) fn order_of(left: i128, right: i128) -> Ordering {
-    if left < right {
-        return Ordering::Less;
-    }
-    if left == right {
-        Ordering::Equal
-    } else {
-        Ordering::Greater
-    }
+pub(crate) fn order_of(left: i128, right: i128) -> Ordering
+    ensures { result ≡ int_cmp left right }
+{
+    left.cmp(&right)
 }
 
 /// Returns the order of two texts by their bytes.
-pub(crate) fn bytes_order(left: &[u8], right: &[u8]) -> Ordering {
-    for (ours, theirs) in left.iter().zip(right) {
-        if *ours != *theirs {
-            return order_of(*ours as i128, *theirs as i128);
-        }
-    }
-    order_of(left.len() as i128, right.len() as i128)
+pub(crate) fn bytes_order(left: &[u8], right: &[u8]) -> Ordering
+    ensures { result ≡ slice_cmp nat_cmp left.now right.now }
+{
+    left.cmp(right)
 }
 
 /// The sign of a float of 64 bits.
@@ -48,72 +42,78 @@ const SIGN: u64 = 0x8000_0000_0000_0000;
 /// The bits of the infinity of 64 bits.
 const INFINITY: u64 = 0x7ff0_0000_0000_0000;
 
-/// Returns the bits of a float of 64 bits without its sign.
-fn magnitude(bits: u64) -> u64 {
-    bits & (SIGN - 1)
-}
-
-/// Returns a number that grows with the float of these bits, which isn't a NaN. It is 0 of both
-/// zeros.
-fn place(bits: u64) -> i128 {
-    let magnitude = magnitude(bits) as i128;
-    if bits >= SIGN { -magnitude } else { magnitude }
-}
-
-/// Returns the order of two floats of 64 bits by their bits. NaNs are equal to one another, and
-/// have no order with other floats.
-pub(crate) fn order_64(left: u64, right: u64) -> Option<Ordering> {
-    let (left_is_nan, right_is_nan) = (magnitude(left) > INFINITY, magnitude(right) > INFINITY);
-    match (left_is_nan, right_is_nan) {
-        (false, false) => Some(order_of(place(left), place(right))),
-        (true, true) => Some(Ordering::Equal),
-        _ => None,
-    }
-}
-
 /// The sign of a float of 32 bits.
-const SIGN_32: u32 = 0x8000_0000;
+const SIGN_32: u64 = 0x8000_0000;
 
 /// The bits of the infinity of 32 bits.
-const INFINITY_32: u32 = 0x7f80_0000;
+const INFINITY_32: u64 = 0x7f80_0000;
 
-/// Returns the bits of a float of 32 bits without its sign.
-fn magnitude_32(bits: u32) -> u32 {
-    bits & (SIGN_32 - 1)
+/// Returns the bits of a float without its sign, whose bit is given.
+fn size_of_bits(sign: u64, bits: u64) -> u64
+    ensures { result ≡ size_of_bits sign bits }
+{
+    if bits >= sign { bits - sign } else { bits }
 }
 
 /// Returns a number that grows with the float of these bits, which isn't a NaN. It is 0 of both
 /// zeros.
-fn place_32(bits: u32) -> i128 {
-    let magnitude = magnitude_32(bits) as i128;
-    if bits >= SIGN_32 {
-        -magnitude
-    } else {
-        magnitude
-    }
+fn place_of_bits(sign: u64, bits: u64) -> i128
+    ensures { result ≡ place_of_bits sign bits }
+{
+    let size = size_of_bits(sign, bits) as i128;
+    if bits >= sign { -size } else { size }
 }
 
-/// Returns the order of two floats of 32 bits by their bits, as `order_64` does.
-pub(crate) fn order_32(left: u32, right: u32) -> Option<Ordering> {
-    let left_is_nan = magnitude_32(left) > INFINITY_32;
-    let right_is_nan = magnitude_32(right) > INFINITY_32;
-    match (left_is_nan, right_is_nan) {
-        (false, false) => Some(order_of(place_32(left), place_32(right))),
-        (true, true) => Some(Ordering::Equal),
-        _ => None,
+/// Returns the order of two floats by their bits. NaNs are equal to one another, and have no order
+/// with other floats.
+fn float_order(sign: u64, infinity: u64, left: u64, right: u64) -> Option<Ordering>
+    ensures { result ≡ float_order sign infinity left right }
+{
+    let left_is_nan = size_of_bits(sign, left) > infinity;
+    let right_is_nan = size_of_bits(sign, right) > infinity;
+    if left_is_nan {
+        return if right_is_nan { Some(Ordering::Equal) } else { None };
     }
+    if right_is_nan {
+        return None;
+    }
+    Some(order_of(place_of_bits(sign, left), place_of_bits(sign, right)))
+}
+
+/// Returns the order of two floats of 64 bits by their bits, as `float_order` does.
+pub(crate) fn order_64(left: u64, right: u64) -> Option<Ordering>
+    ensures { result ≡ float_order (2 ^ 63) 0x7ff0000000000000 left right }
+{
+    float_order(SIGN, INFINITY, left, right)
+}
+
+/// Returns the order of two floats of 32 bits by their bits, as `float_order` does.
+pub(crate) fn order_32(left: u32, right: u32) -> Option<Ordering>
+    ensures { result ≡ float_order (2 ^ 31) 0x7f800000 left right }
+{
+    float_order(SIGN_32, INFINITY_32, left as u64, right as u64)
 }
 
 /// Returns whether bytes begin with others.
-fn begins_with(bytes: &[u8], part: &[u8]) -> bool {
-    match bytes.get(..part.len()) {
-        Some(front) => front == part,
-        None => false,
+fn begins_with(bytes: &[u8], part: &[u8]) -> bool
+    ensures { result ≡ begins_with bytes.now part.now }
+{
+    let mut left = bytes;
+    let mut rest = part;
+    while let [first, others @ ..] = rest {
+        match left {
+            [byte, behind @ ..] if *byte == *first => left = behind,
+            _ => return false,
+        }
+        rest = others;
     }
+    true
 }
 
 /// Returns whether bytes have others as a part.
-pub(crate) fn contains(bytes: &[u8], part: &[u8]) -> bool {
+pub(crate) fn contains(bytes: &[u8], part: &[u8]) -> bool
+    ensures { result ≡ has_part bytes.now part.now }
+{
     let mut left = bytes;
     while let [_, behind @ ..] = left {
         if begins_with(left, part) {
@@ -121,5 +121,5 @@ pub(crate) fn contains(bytes: &[u8], part: &[u8]) -> bool {
         }
         left = behind;
     }
-    part.is_empty()
+    begins_with(left, part)
 }

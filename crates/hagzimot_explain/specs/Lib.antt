@@ -4,3 +4,4 @@ pub mod Contents
 pub mod Marks
 pub mod Reached
 pub mod Explanations
+pub mod Lines

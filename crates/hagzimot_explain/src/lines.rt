@@ -1,4 +1,10 @@
 //! Lines about the words of a message.
+ghost use Rattle.std.specs.Prelude.{◌≡◌, ◌++◌, List, ℕ, IfOk, codes, string_bytes};
+ghost use Rattle.capnp_units.specs.Segments.{words_in};
+ghost use Rattle.capnp_wire_objects.specs.Places.{place_view};
+ghost use Rattle.hagzimot_explain.specs.Parts.{object_there, start_of};
+ghost use Rattle.hagzimot_explain.specs.Lines.{place_told, step_told, element_told, TellsPart, TellsMark, pad_told};
+
 use crate::contents::{Contents, contents_of};
 use crate::marks::{Mark, Part, Word};
 use crate::parts::{object_there, start_of};
@@ -11,7 +17,9 @@ use hagzimot_faults::steps::Step;
 use std::alloc::{AllocError, Global};
 
 /// Returns a place as text, its segment before a colon.
-fn place_text(alloc: Global, place: Place) -> Result<String, AllocError> {
+fn place_text(alloc: Global, place: Place) -> Result<String, AllocError>
+    ensures { IfOk result (λ text. string_bytes text ≡ place_told (place_view place)) }
+{
     let Place { segment, position } = place;
     format!(in alloc; "{segment}:{position}")
 }
@@ -158,16 +166,15 @@ fn bytes_text(alloc: Global, word: u64, count: u64) -> Result<String, AllocError
     Ok(text)
 }
 
-/// Returns which elements of a list of plain elements a word has.
+/// Returns which elements of a list of plain elements a word has, and the text of bytes.
 fn plain_text(
     alloc: Global,
     word: u64,
     object: Object,
     index: u64,
-    start: &str,
-) -> Result<String, AllocError> {
+) -> Result<(String, String), AllocError> {
     let Object::List { size, count, .. } = object else {
-        return format!(in alloc; "word {index} of the list at {start}");
+        return Ok((format!(in alloc; "word {index}")?, String::new(alloc)));
     };
     let bits = (data_bits_per_element(size) as u64).max(1);
     let in_word = 64 / bits;
@@ -182,15 +189,15 @@ fn plain_text(
         _ => "8-byte element",
     };
     let which = if first == last {
-        format!(in alloc; "{name} {first} of the list at {start}")?
+        format!(in alloc; "{name} {first}")?
     } else {
-        format!(in alloc; "{name}s {first} to {last} of the list at {start}")?
+        format!(in alloc; "{name}s {first} to {last}")?
     };
     if size != ElementSize::Byte {
-        return Ok(which);
+        return Ok((which, String::new(alloc)));
     }
     let bytes = bytes_text(alloc, word, end.saturating_sub(first))?;
-    format!(in alloc; "{which}: \"{bytes}\"")
+    Ok((which, format!(in alloc; ": \"{bytes}\"")?))
 }
 
 /// Returns what the tag of a list of structs says.
@@ -211,7 +218,9 @@ fn tag_text(alloc: Global, object: Object) -> Result<String, AllocError> {
 }
 
 /// Returns which pointer of an object one is.
-fn step_text(alloc: Global, step: Step, start: &str) -> Result<String, AllocError> {
+fn step_text(alloc: Global, step: Step, start: &str) -> Result<String, AllocError>
+    ensures { IfOk result (λ text. string_bytes text ≡ step_told step start.now) }
+{
     match step {
         Step::Pointer(index) => format!(in alloc; "pointer {index} of the struct at {start}"),
         Step::Item(index) => format!(in alloc; "pointer {index} of the list at {start}"),
@@ -221,6 +230,21 @@ fn step_text(alloc: Global, step: Step, start: &str) -> Result<String, AllocErro
     }
 }
 
+/// Returns which elements of the list at a place a word has.
+fn elements_at(alloc: Global, which: &str, start: &str, more: &str) -> Result<String, AllocError>
+    ensures { IfOk result (λ text. string_bytes text
+        ≡ which.now ++ (codes " of the list at " ++ (start.now ++ more.now))) }
+{
+    format!(in alloc; "{which} of the list at {start}{more}")
+}
+
+/// Returns which word of the data of an element one is.
+fn element_text(alloc: Global, element: u64, index: u64, start: &str) -> Result<String, AllocError>
+    ensures { IfOk result (λ text. string_bytes text ≡ element_told element index start.now) }
+{
+    format!(in alloc; "data word {index} of element {element} of the list at {start}")
+}
+
 /// Returns what a word of the object of a pointer is.
 fn part_text<A: ReaderArena>(
     alloc: Global,
@@ -228,7 +252,11 @@ fn part_text<A: ReaderArena>(
     place: Place,
     pointer: Place,
     part: Part,
-) -> Result<String, AllocError> {
+) -> Result<String, AllocError>
+    ensures { let s = words_in (A.segments arena.now) in
+        IfOk result (λ text. TellsPart
+        (place_told (start_of (object_there s (place_view pointer)))) part (string_bytes text)) }
+{
     let object = object_there(arena, pointer);
     let start = place_text(alloc, start_of(object))?;
     let word = word_at(arena, place).unwrap_or(0);
@@ -239,13 +267,16 @@ fn part_text<A: ReaderArena>(
             let says = pointer_text(alloc, arena, place)?;
             format!(in alloc; "{which}: {says}")
         }
-        Part::Elements { index } => plain_text(alloc, word, object, index, start.as_str()),
+        Part::Elements { index } => {
+            let (which, more) = plain_text(alloc, word, object, index)?;
+            elements_at(alloc, which.as_str(), start.as_str(), more.as_str())
+        }
         Part::Tag => {
             let tag = tag_text(alloc, object)?;
             format!(in alloc; "tag of the list at {start}: {tag}")
         }
         Part::ElementData { element, index } => {
-            format!(in alloc; "data word {index} of element {element} of the list at {start}")
+            element_text(alloc, element, index, start.as_str())
         }
         Part::Unfilled => { format!(in alloc; "word after the elements of the list at {start}") }
     }
@@ -258,7 +289,10 @@ fn pad_text<A: ReaderArena>(
     place: Place,
     pointer: Place,
     is_second: bool,
-) -> Result<String, AllocError> {
+) -> Result<String, AllocError>
+    ensures { IfOk result (λ text. (says : List ℕ) × (string_bytes text
+        ≡ pad_told is_second ++ (place_told (place_view pointer) ++ (codes ": " ++ says)))) }
+{
     let word = word_at(arena, place).unwrap_or(0);
     let from = place_text(alloc, pointer)?;
     if is_second {
@@ -267,6 +301,27 @@ fn pad_text<A: ReaderArena>(
     }
     let says = contents_text(alloc, word, Some(place))?;
     format!(in alloc; "landing pad of the pointer at {from}: {says}")
+}
+
+/// Returns what a word with a mark is.
+fn mark_text<A: ReaderArena>(
+    alloc: Global,
+    arena: &A,
+    place: Place,
+    mark: Mark,
+) -> Result<String, AllocError>
+    ensures { IfOk result (λ text. TellsMark (words_in (A.segments arena.now)) mark
+        (string_bytes text)) }
+{
+    match mark {
+        Mark::NotReached => String::from_str(alloc, "not reached"),
+        Mark::Root => {
+            let says = pointer_text(alloc, arena, place)?;
+            format!(in alloc; "root pointer: {says}")
+        }
+        Mark::Pad { pointer, is_second } => pad_text(alloc, arena, place, pointer, is_second),
+        Mark::Object { pointer, part } => part_text(alloc, arena, place, pointer, part),
+    }
 }
 
 /// Returns the line about the word at a place, which has a mark, without its line feed: the place,
@@ -278,20 +333,13 @@ pub fn word_line<A: ReaderArena>(
     word: Word,
 ) -> Result<String, AllocError> {
     let at = place_text(alloc, place)?;
-    let bytes = word_at(arena, place).unwrap_or(0).swap_bytes();
-    let what = match word.mark {
-        Mark::NotReached => String::from_str(alloc, "not reached")?,
-        Mark::Root => {
-            let says = pointer_text(alloc, arena, place)?;
-            format!(in alloc; "root pointer: {says}")?
-        }
-        Mark::Pad { pointer, is_second } => pad_text(alloc, arena, place, pointer, is_second)?,
-        Mark::Object { pointer, part } => part_text(alloc, arena, place, pointer, part)?,
-    };
+    let bytes = word_at(arena, place).unwrap_or(0).to_le_bytes();
+    let bytes = hex::encode(alloc, bytes.as_slice())?;
+    let what = mark_text(alloc, arena, place, word.mark)?;
     let again = if word.again {
         " (reached more than once)"
     } else {
         ""
     };
-    format!(in alloc; "{at}\t{bytes:016x}\t{what}{again}")
+    format!(in alloc; "{at}\t{bytes}\t{what}{again}")
 }

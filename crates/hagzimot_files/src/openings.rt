@@ -1,4 +1,4 @@
-//! How outputs are opened, and which files they must differ from.
+//! Ways to open outputs, and the files that outputs must differ from.
 ghost use Rattle.std.specs.Prelude.{◌≡◌, ◌↔◌, IsTrue};
 ghost use Rattle.hagzimot_files.specs.Openings.{IsOpening, WouldLose, owners_there};
 
@@ -6,12 +6,12 @@ use crate::drafts::Goal;
 use crate::files::Owners;
 use crate::places::{FileId, Place, Target, is_at};
 
-/// How an output is opened.
+/// The way to open an output.
 #[derive(Debug, Drop)]
 pub enum Opening {
     /// A draft is made beside the name, and gets the name once it is whole.
     Draft(Goal),
-    /// What is there is written to as it is.
+    /// The output that is there is written to as it is.
     Direct(Target),
 }
 
@@ -43,7 +43,7 @@ pub fn opening_of(target: Target, process: u32, sync: bool) -> Opening
     })
 }
 
-/// What is written to an output.
+/// The messages that an output takes.
 #[derive(Clone, Copy, Debug, PartialEq, Eq)]
 pub enum Role {
     /// The messages of the run.
@@ -52,7 +52,7 @@ pub enum Role {
     Refused,
 }
 
-/// What else a run does with a file.
+/// Another use of a file in a run.
 #[derive(Clone, Copy, Debug, PartialEq, Eq)]
 pub enum Use {
     /// It is read before any message: a schema, calls or renames.

@@ -69,11 +69,21 @@ impl Display for Reason {
         match self {
             Reason::Source => write!(f, "the input can't be read"),
             Reason::Out => write!(f, "the output can't be written"),
+            Reason::NoObject(b'[') => write!(
+                f,
+                "a JSON object is expected, and not an array (write its objects one after another)"
+            ),
             Reason::NoObject(byte) if byte.is_ascii_graphic() => {
                 let byte = char::from(*byte);
-                write!(f, "a JSON object is expected, and not {byte:?}")
+                write!(
+                    f,
+                    "a JSON object is expected, and not {byte:?} (write objects as show --json does)"
+                )
             }
-            Reason::NoObject(byte) => write!(f, "a JSON object is expected, and not byte {byte}"),
+            Reason::NoObject(byte) => write!(
+                f,
+                "a JSON object is expected, and not byte {byte} (is it a file of messages?)"
+            ),
             Reason::Cut => write!(f, "the input ends within this object"),
             Reason::TooLong => write!(f, "the object has more than 1 GiB"),
             Reason::Json(why) => write!(f, "not JSON: {why}"),

@@ -1,4 +1,7 @@
 //! The fields that are cleared, by their paths.
+ghost use Rattle.std.specs.Prelude.{◌≡◌, ◌++◌, true, IfOk, OnOk, string_bytes};
+ghost use Rattle.std.specs.List.{flat_map};
+ghost use Rattle.hagzimot_redact.specs.Plans.{step_text, SpellsPath, is_same_step};
 
 use capnp_values_queries::structs::StructSchema;
 use hagzimot_make::fields::nearest_field;
@@ -17,20 +20,10 @@ pub(crate) enum PlanStep {
     Each,
 }
 
-/// A step, and what is cleared after it.
-#[cycle(plan)]
-#[derive(Debug, Drop)]
-pub(crate) struct Branch {
-    step: PlanStep,
-    plan: Plan,
-}
-
-/// The parts of a value that are cleared, or the whole value.
-#[cycle(plan)]
+/// The paths of the values that are cleared.
 #[derive(Debug, Drop)]
 pub struct Plan {
-    is_cut: bool,
-    branches: Vec<Branch>,
+    paths: Vec<Vec<PlanStep>>,
 }
 
 /// Why a path names nothing to clear.
@@ -151,13 +144,61 @@ fn push_steps(alloc: Global, part: &str, steps: &mut Vec<PlanStep>) -> Result<()
     Ok(())
 }
 
-/// Returns the steps of a path.
-fn steps_of(alloc: Global, path: &str) -> Result<Vec<PlanStep>, PathTrouble> {
+/// Returns the steps of a path, if each part of it is written so.
+fn steps_in(alloc: Global, path: &str) -> Result<Vec<PlanStep>, PathTrouble> {
     let mut steps = Vec::new(alloc);
     for part in path.split('.') {
         push_steps(alloc, part, &mut steps)?;
     }
     Ok(steps)
+}
+
+/// Adds the text of a step: a name after a point, or a star in brackets.
+fn push_step(text: &mut String, step: &PlanStep) -> Result<(), AllocError>
+    ensures { OnOk result
+        (string_bytes text.new ≡ string_bytes text.old ++ step_text step.now) }
+{
+    match step {
+        PlanStep::Name(name) => {
+            text.push_str(".")?;
+            text.push_str(name.as_str())
+        }
+        PlanStep::Each => text.push_str("[*]"),
+    }
+}
+
+/// Adds the text of each step.
+fn push_all(text: &mut String, path: &[PlanStep]) -> Result<(), AllocError>
+    ensures { OnOk result (string_bytes text.new
+        ≡ string_bytes text.old ++ flat_map step_text path.now) }
+{
+    for step in path {
+        push_step(text, step)?;
+    }
+    Ok(())
+}
+
+/// Returns whether a text is that of these steps.
+fn spells(alloc: Global, text: &str, path: &[PlanStep]) -> Result<bool, AllocError>
+    ensures { IfOk result (λ is. is ≡ true → SpellsPath text.now path.now) }
+{
+    let mut given = String::new(alloc);
+    given.push_str(".")?;
+    given.push_str(text)?;
+    let mut told = String::new(alloc);
+    push_all(&mut told, path)?;
+    Ok(given.as_bytes() == told.as_bytes())
+}
+
+/// Returns the steps that a path spells.
+fn steps_of(alloc: Global, path: &str) -> Result<Vec<PlanStep>, PathTrouble>
+    ensures { IfOk result (λ steps. SpellsPath path.now steps.items) }
+{
+    let steps = steps_in(alloc, path)?;
+    if spells(alloc, path, &steps)? {
+        return Ok(steps);
+    }
+    Err(PathTrouble::Form)
 }
 
 /// Checks that steps lead to a value of a schema.
@@ -177,7 +218,9 @@ fn check_steps(
 }
 
 /// Returns whether two steps are the same.
-fn are_same(a: &PlanStep, b: &PlanStep) -> bool {
+fn are_same(a: &PlanStep, b: &PlanStep) -> bool
+    ensures { result ≡ is_same_step a.now b.now }
+{
     match (a, b) {
         (PlanStep::Name(a), PlanStep::Name(b)) => a.as_str() == b.as_str(),
         (PlanStep::Each, PlanStep::Each) => true,
@@ -186,95 +229,109 @@ fn are_same(a: &PlanStep, b: &PlanStep) -> bool {
 }
 
 impl Plan {
+    ghost use Rattle.std.specs.Prelude.{◌≡◌, ◌++◌, List, [], ◌∷◌, OnOk, OnErr};
+    ghost use Rattle.hagzimot_redact.specs.declared.plan.PlanStep.{PlanStep};
+    ghost use Rattle.hagzimot_redact.specs.Plans.{SpellsPath, paths_of};
+
     /// Makes a plan that clears nothing.
-    pub fn new(alloc: Global) -> Plan {
+    pub fn new(alloc: Global) -> Plan
+        ensures { paths_of result ≡ [] }
+    {
         Plan {
-            is_cut: false,
-            branches: Vec::new(alloc),
+            paths: Vec::new(alloc),
         }
     }
 
     /// Adds the values at a path, which is checked against the struct at the root of messages.
     ///
-    /// If the path is refused, the plan is unchanged. After `Memory` the plan may clear less.
+    /// After an error the plan is unchanged.
     pub fn add(
         &mut self,
         alloc: Global,
         root: StructSchema<'_>,
         path: &str,
-    ) -> Result<(), PathTrouble> {
+    ) -> Result<(), PathTrouble>
+        ensures added { OnOk result ((steps : List PlanStep) × SpellsPath path.now steps
+            × (paths_of self.new ≡ paths_of self.old ++ steps ∷ [])) }
+        ensures refused { OnErr result (paths_of self.new ≡ paths_of self.old) }
+    {
         let steps = steps_of(alloc, path)?;
         check_steps(alloc, root, &steps)?;
-        self.add_steps(alloc, steps)
-    }
-
-    /// Adds the values at the end of steps.
-    fn add_steps(&mut self, alloc: Global, steps: Vec<PlanStep>) -> Result<(), PathTrouble> {
-        let mut plan = Plan {
-            is_cut: true,
-            branches: Vec::new(alloc),
-        };
-        let mut steps = steps;
-        for _ in 0..steps.len() {
-            let Some(step) = steps.pop() else {
-                break;
-            };
-            let mut branches = Vec::new(alloc);
-            branches.push(Branch { step, plan })?;
-            plan = Plan {
-                is_cut: false,
-                branches,
-            };
-        }
-        self.branches.append(&mut plan.branches)?;
+        self.paths.push(steps)?;
         Ok(())
     }
 }
 
-/// The plans of a value: those of each path that leads into it.
+/// What is left of each path that leads into a value, from the value on.
 #[derive(Debug, Drop)]
 pub(crate) struct Plans<'a> {
-    plans: Vec<&'a Plan>,
+    rests: Vec<&'a [PlanStep]>,
 }
 
 impl<'a> Plans<'a> {
-    /// Returns the plans of a root.
-    pub(crate) fn of(alloc: Global, plan: &'a Plan) -> Result<Plans<'a>, AllocError> {
-        let mut plans = Vec::new(alloc);
-        plans.push(plan)?;
-        Ok(Plans { plans })
+    ghost use Rattle.std.specs.Prelude.{◌≡◌, IfOk};
+    ghost use Rattle.hagzimot_redact.specs.declared.plan.PlanStep.TheVariants.{Each};
+    ghost use Rattle.hagzimot_redact.specs.Plans.{paths_of, rests_of, rests_after, is_cut_by};
+
+    /// Returns the paths of a root.
+    pub(crate) fn of(alloc: Global, plan: &'a Plan) -> Result<Plans<'a>, AllocError>
+        ensures { IfOk result (λ plans. rests_of plans ≡ paths_of plan.now) }
+    {
+        let mut rests = Vec::new(alloc);
+        let mut left = plan.paths.as_slice();
+        while let [path, others @ ..] = left {
+            rests.push(path.as_slice())?;
+            left = others;
+        }
+        Ok(Plans { rests })
     }
 
     /// Returns whether the value itself is cleared.
-    pub(crate) fn is_cut(&self) -> bool {
-        self.plans.iter().any(|plan| plan.is_cut)
+    pub(crate) fn is_cut(&self) -> bool
+        ensures { result ≡ is_cut_by (rests_of self.now) }
+    {
+        let mut left = self.rests.as_slice();
+        while let [rest, others @ ..] = left {
+            if rest.is_empty() {
+                return true;
+            }
+            left = others;
+        }
+        false
     }
 
-    /// Returns the plans after a step.
-    fn after(&self, alloc: Global, step: &PlanStep) -> Result<Plans<'a>, AllocError> {
-        let mut plans = Vec::new(alloc);
-        for plan in self.plans.iter() {
-            for branch in plan.branches.iter() {
-                if are_same(&branch.step, step) {
-                    plans.push(&branch.plan)?;
+    /// Returns what is left of the paths after a step.
+    fn after(&self, alloc: Global, step: &PlanStep) -> Result<Plans<'a>, AllocError>
+        ensures { IfOk result (λ plans. rests_of plans
+            ≡ rests_after step.now (rests_of self.now)) }
+    {
+        let mut rests = Vec::new(alloc);
+        let mut left = self.rests.as_slice();
+        while let [path, others @ ..] = left {
+            if let [first, rest @ ..] = *path {
+                if are_same(first, step) {
+                    rests.push(rest)?;
                 }
             }
+            left = others;
         }
-        Ok(Plans { plans })
+        Ok(Plans { rests })
     }
 
-    /// Returns the plans of the field of a name.
+    /// Returns what is left of the paths into the field of a name.
     pub(crate) fn named(&self, alloc: Global, name: &str) -> Result<Plans<'a>, AllocError> {
-        if self.plans.is_empty() {
-            let plans = Vec::new(alloc);
-            return Ok(Plans { plans });
+        if self.rests.is_empty() {
+            let rests = Vec::new(alloc);
+            return Ok(Plans { rests });
         }
         let step = PlanStep::Name(String::from_str(alloc, name)?);
         self.after(alloc, &step)
     }
 
-    /// Returns the plans of each element.
-    pub(crate) fn each(&self, alloc: Global) -> Result<Plans<'a>, AllocError> {
+    /// Returns what is left of the paths into each element.
+    pub(crate) fn each(&self, alloc: Global) -> Result<Plans<'a>, AllocError>
+        ensures { IfOk result (λ plans. rests_of plans ≡ rests_after Each (rests_of self.now)) }
+    {
         self.after(alloc, &PlanStep::Each)
     }
 }

@@ -1,6 +1,6 @@
 //! Why a message isn't shown or edited, in words.
 ghost use Rattle.std.specs.Prelude.{◌≡◌, IfOk, string_bytes};
-ghost use Rattle.hagzimot_show.specs.Explained.{message_text};
+ghost use Rattle.hagzimot_show.specs.Explained.{message_text, TellsWireFault, IsExplained};
 
 use crate::names::name_steps;
 use crate::paths::{name_text, path_text};
@@ -33,7 +33,10 @@ fn wire_explained<'a, A: ReaderArena>(
     root: Option<StructSchema<'a>>,
     limits: WalkLimits,
     fault: &WireFault,
-) -> Result<String, AllocError> {
+) -> Result<String, AllocError>
+    ensures { IfOk result (λ text. TellsWireFault (A.segments arena.now) limits fault.now
+        (string_bytes text)) }
+{
     let Some(at) = &fault.at else {
         let kind = fault.kind.name();
         return format!(in alloc; "{kind}");
@@ -98,7 +101,9 @@ pub fn explained<S: ReaderSegments>(
     segments: &S,
     root: Option<StructSchema<'_>>,
     limits: WalkLimits,
-) -> Result<Option<String>, AllocError> {
+) -> Result<Option<String>, AllocError>
+    ensures { IfOk result (IsExplained (S.segments segments.now) limits) }
+{
     let arena = ReaderArenaImpl::new(segments, i32::MAX);
     if let Some(fault) = wire_fault(alloc, &arena, limits)? {
         return Ok(Some(wire_explained(alloc, &arena, root, limits, &fault)?));

@@ -1,4 +1,11 @@
 //! Faults of messages in words.
+ghost use Rattle.std.specs.Prelude.{◌≡◌, ◌≢◌, IfOk, string_bytes};
+ghost use Rattle.capnp_units.specs.Segments.{words_in};
+ghost use Rattle.capnp_units.specs.declared.kinds.ErrorKind.TheVariants.{NestingLimitExceeded, ReadLimitExceeded};
+ghost use Rattle.capnp_model.specs.Segments.{word_at};
+ghost use Rattle.capnp_wire_objects.specs.Places.{place_view};
+ghost use Rattle.hagzimot_faults.specs.declared.locate.WalkLimits.{WalkLimits};
+ghost use Rattle.hagzimot_show.specs.Explained.{bounds_told, fault_told, wire_told};
 
 use crate::unread::Unread;
 use capnp_units::kinds::ErrorKind;
@@ -16,7 +23,10 @@ const POINTER_KINDS: u64 = 4;
 const UPPER_HALF: u64 = 0x1_0000_0000;
 
 /// Returns what is wrong with a pointer that leads out of the message's bounds.
-fn bounds_reason<A: ReaderArena>(arena: &A, place: Place) -> &'static str {
+fn bounds_reason<A: ReaderArena>(arena: &A, place: Place) -> &'static str
+    ensures { let segments = A.segments arena.now in result.now
+        ≡ bounds_told segments place (word_at (words_in segments) (place_view place)) }
+{
     let Some(word) = word_at(arena, place) else {
         return if place == ROOT {
             "the message has no word"
@@ -34,8 +44,11 @@ fn bounds_reason<A: ReaderArena>(arena: &A, place: Place) -> &'static str {
     }
 }
 
-/// Returns what a fault of a pointer is.
-fn wire_reason<A: ReaderArena>(arena: &A, kind: ErrorKind, place: Place) -> &'static str {
+/// Returns what a fault of a pointer is, by its kind and the pointer's word.
+fn wire_reason<A: ReaderArena>(arena: &A, kind: ErrorKind, place: Place) -> &'static str
+    ensures { kind ≢ NestingLimitExceeded → kind ≢ ReadLimitExceeded → (limits : WalkLimits)
+        → result.now ≡ fault_told (A.segments arena.now) limits place kind }
+{
     match kind {
         ErrorKind::OutOfBounds => bounds_reason(arena, place),
         ErrorKind::MalformedFarPointer => "far pointer to another far pointer",
@@ -46,6 +59,29 @@ fn wire_reason<A: ReaderArena>(arena: &A, kind: ErrorKind, place: Place) -> &'st
     }
 }
 
+/// Returns what is wrong with a pointer that can't be followed within limits.
+fn fault_text<A: ReaderArena>(
+    alloc: Global,
+    arena: &A,
+    kind: ErrorKind,
+    place: Place,
+    limits: WalkLimits,
+) -> Result<String, AllocError>
+    ensures { IfOk result (λ text. string_bytes text
+        ≡ fault_told (A.segments arena.now) limits place kind) }
+{
+    let WalkLimits { words, nesting } = limits;
+    match kind {
+        ErrorKind::NestingLimitExceeded => format!(in alloc;
+            "nested more than {nesting} levels deep (--nesting allows more)"
+        ),
+        ErrorKind::ReadLimitExceeded => format!(in alloc;
+            "larger than {words} words (--words allows more)"
+        ),
+        _ => String::from_str(alloc, wire_reason(arena, kind, place)),
+    }
+}
+
 /// Returns the sentence about a pointer that can't be followed.
 pub(crate) fn wire_text<A: ReaderArena>(
     alloc: Global,
@@ -53,17 +89,11 @@ pub(crate) fn wire_text<A: ReaderArena>(
     kind: ErrorKind,
     place: Place,
     limits: WalkLimits,
-) -> Result<String, AllocError> {
-    let WalkLimits { words, nesting } = limits;
-    let reason = match kind {
-        ErrorKind::NestingLimitExceeded => format!(in alloc;
-            "nested more than {nesting} levels deep (--nesting allows more)"
-        )?,
-        ErrorKind::ReadLimitExceeded => format!(in alloc;
-            "larger than {words} words (--words allows more)"
-        )?,
-        _ => String::from_str(alloc, wire_reason(arena, kind, place))?,
-    };
+) -> Result<String, AllocError>
+    ensures { IfOk result (λ text. string_bytes text
+        ≡ wire_told (A.segments arena.now) limits kind place) }
+{
+    let reason = fault_text(alloc, arena, kind, place, limits)?;
     let Place { segment, position } = place;
     format!(in alloc; "{reason} (segment {segment}, word {position})")
 }

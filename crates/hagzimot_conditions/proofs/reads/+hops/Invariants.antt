@@ -1,5 +1,6 @@
 -- each hop is behind those before it; the elements of a list are looked at before the hops behind them
-use Rattle.std.proofs.Common.{◌+◌, ◌*◌, length}
+use Rattle.std.proofs.Common.{◌+◌, ◌*◌, ◌<◌, ℕ, Some, false, length}
+use Rattle.hagzimot_conditions.specs.Meaning.{ElementLeads, Holds}
 use Rattle.hagzimot_conditions.proofs.reads.+hops.Given as goal
 
 abbrev pub decreases-holds_behind : goal.decreases-holds_behind
