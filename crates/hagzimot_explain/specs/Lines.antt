@@ -1,6 +1,8 @@
 -- Lines about the words of a message.
-use Rattle.std.specs.Prelude.{◌≡◌, ℕ, Bool, true, false, ⊤, List, ◌++◌, codes, decimal}
-use Rattle.capnp_model.specs.Segments.{Segments, Place}
+use Rattle.std.specs.Prelude.{◌≡◌, ℕ, Bool, true, false, ⊤, List, [], ◌++◌, codes, decimal, unwrap_or}
+use Rattle.std.specs.Int.{w64, to_le_bytes}
+use Rattle.hex.specs.Hex.{encode_lower}
+use Rattle.capnp_model.specs.Segments.{Segments, Place, word_at}
 use Rattle.capnp_wire_objects.specs.Places.{place_view}
 use Rattle.hagzimot_faults.specs.declared.steps.Step.{Step}
 use Rattle.hagzimot_faults.specs.declared.steps.Step.TheVariants as step
@@ -8,6 +10,7 @@ use Rattle.hagzimot_explain.specs.declared.marks.Mark.{Mark}
 use Rattle.hagzimot_explain.specs.declared.marks.Mark.TheVariants as mark
 use Rattle.hagzimot_explain.specs.declared.marks.Part.{Part}
 use Rattle.hagzimot_explain.specs.declared.marks.Part.TheVariants as part
+use Rattle.hagzimot_explain.specs.declared.marks.Word.{Word}
 use Rattle.hagzimot_explain.specs.Parts.{object_there, start_of}
 
 -- A place: its segment, and its word behind a colon.
@@ -44,3 +47,13 @@ TellsMark s mark.NotReached text = text ≡ codes "not reached"
 TellsMark s mark.Root text = (says : List ℕ) × (text ≡ codes "root pointer: " ++ says)
 TellsMark s (mark.Pad p second) text = (says : List ℕ) × (text ≡ pad_told second ++ (place_told (place_view p) ++ (codes ": " ++ says)))
 TellsMark s (mark.Object p x) text = TellsPart (place_told (start_of (object_there s (place_view p)))) x text
+
+abbrev pub again_told : Bool → List ℕ
+again_told true = codes " (reached more than once)"
+again_told false = []
+
+-- The line of a word: its place, its bytes in hex as they stand in the message, and what its mark says, with tabs between them.
+abbrev pub IsLineOf : Segments → Place → Word → List ℕ → Type 0
+IsLineOf s p w line =
+    (what : List ℕ) × TellsMark s w.mark what
+    × (line ≡ place_told p ++ (codes "\t" ++ (encode_lower (to_le_bytes w64 (unwrap_or (word_at s p) 0)) ++ (codes "\t" ++ (what ++ again_told w.again)))))

@@ -3,7 +3,7 @@ ghost use Rattle.std.specs.Prelude.{◌≡◌, ◌++◌, List, ℕ, IfOk, codes,
 ghost use Rattle.capnp_units.specs.Segments.{words_in};
 ghost use Rattle.capnp_wire_objects.specs.Places.{place_view};
 ghost use Rattle.hagzimot_explain.specs.Parts.{object_there, start_of};
-ghost use Rattle.hagzimot_explain.specs.Lines.{place_told, step_told, element_told, TellsPart, TellsMark, pad_told};
+ghost use Rattle.hagzimot_explain.specs.Lines.{place_told, step_told, element_told, TellsPart, TellsMark, pad_told, IsLineOf};
 
 use crate::contents::{Contents, contents_of};
 use crate::marks::{Mark, Part, Word};
@@ -331,7 +331,10 @@ pub fn word_line<A: ReaderArena>(
     arena: &A,
     place: Place,
     word: Word,
-) -> Result<String, AllocError> {
+) -> Result<String, AllocError>
+    ensures { IfOk result (λ text. IsLineOf (words_in (A.segments arena.now)) (place_view place)
+        word (string_bytes text)) }
+{
     let at = place_text(alloc, place)?;
     let bytes = word_at(arena, place).unwrap_or(0).to_le_bytes();
     let bytes = hex::encode(alloc, bytes.as_slice())?;
