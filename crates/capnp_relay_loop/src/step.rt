@@ -89,50 +89,45 @@ fn spell<O: MessageForm>(
     }
 }
 
-/// Returns the answer to a message after `answered` others. Its words are at the front of the
-/// buffer. Its text, if it has several segments, and its line replace the bytes of their buffers.
+/// Makes the text of an answer after `answered` others, if it has several segments, and its line.
+/// They replace the bytes of their buffers.
 #[inline(always)]
-fn prepare<O: MessageForm, A: Answers>(
+fn note<O: MessageForm>(
     alloc: Global,
-    answers: &A,
     answered: u64,
-    message: &NoAllocSliceSegments<'_>,
-    region: &mut [u8],
-    words: &mut Vec<Word>,
+    answer: &MessageAnswer,
+    words: &[Word],
     text: &mut Vec<u8>,
     line: &mut Line,
-) -> Result<MessageAnswer, Fault>
-    requires zeros { AllZero region.old }
+) -> Result<(), Fault>
+    requires stands { StandsInBuffer words.now answer.now }
     requires kept { KeepsLine line.old }
-    ensures room { OnOk result (answered < 2 ^ 64 - 1) }
-    ensures answer { IfOk result (λ a. A.is_answer answers.now
-        (words_in (found_segments message.now)) (answer_view words.new.items a)) }
-    ensures stands { IfOk result (StandsInBuffer words.new.items) }
-    ensures text { IfOk result (λ a. HasText O.writer a text.new.items) }
-    ensures line { IfOk result (IsLineOf (answered + 1) words.new.items line.new) }
-    ensures err { IfErr result (λ f. (f ≡ Fault.Memory) ⊎ (f ≡ Fault.Size)) }
-    ensures size { result ≡ Err Fault.Size → (answered ≡ 2 ^ 64 - 1)
-        ⊎ A.is_too_large answers.now (words_in (found_segments message.now)) }
-    ensures zeros { region.new ≡ region.old }
+    requires room { answered < 2 ^ 64 - 1 }
+    ensures text { OnOk result (HasText O.writer answer.now text.new.items) }
+    ensures line { OnOk result (IsLineOf (answered + 1) words.now line.new answer.now) }
+    ensures err { IfErr result (λ f. f ≡ Fault.Memory) }
 {
-    if answered == u64::MAX {
-        return Err(Fault::Size);
-    }
-    let answer = match answers.answer(alloc, message, region, words) {
-        Ok(answer) => answer,
-        Err(Want::Memory) => return Err(Fault::Memory),
-        Err(Want::Size) => return Err(Fault::Size),
-    };
     if let MessageAnswer::Several {
         segments,
         replies: _,
-    } = &answer
+    } = answer
     {
         spell::<O>(alloc, segments, text)?;
     }
-    match line.set(answered + 1, &answer) {
-        Ok(()) => Ok(answer),
+    match line.set(answered + 1, answer) {
+        Ok(()) => Ok(()),
         Err(_) => Err(Fault::Memory),
+    }
+}
+
+/// Returns the fault of an answer that isn't made.
+fn want_fault(want: Want) -> Fault
+    ensures memory { want ≡ Want.Memory → result ≡ Fault.Memory }
+    ensures size { want ≡ Want.Size → result ≡ Fault.Size }
+{
+    match want {
+        Want::Memory => Fault::Memory,
+        Want::Size => Fault::Size,
     }
 }
 
@@ -322,13 +317,18 @@ pub(crate) fn step<I: MessageForm, O: MessageForm, R: BufRead, W: Write, L: Writ
         Ok(None) => return Ok(false),
         Err(e) => return end_at_read(e),
     };
-    let answer = prepare::<O, A>(
+    if answered == u64::MAX {
+        return Err(Fault::Size);
+    }
+    let answer = match answers.answer(progress.alloc, &message, region, &mut progress.words) {
+        Ok(answer) => answer,
+        Err(want) => return Err(want_fault(want)),
+    };
+    note::<O>(
         progress.alloc,
-        answers,
         answered,
-        &message,
-        region,
-        &mut progress.words,
+        &answer,
+        &progress.words,
         &mut progress.text,
         &mut progress.line,
     )?;
