@@ -19,7 +19,7 @@ import tempfile
 
 from message_values import BITS, INLINE, POINTER, Fault, TooLarge, Walk, found_at, list_words, spelled, tag_of, trimmed, words_at
 
-SEED, MESSAGES, LEVELS, AT_ONCE = 1, 100_000, 8, 20_000
+SEED, MESSAGES, LEVELS, AT_ONCE = 1, 100_000, 8, 1_000
 ROOT, OLD, NULL = (0, 0), "01000000220000006f6c640000000000", "00000000010000000000000000000000"
 LETTERS = {"OutOfBounds": "a", "MalformedFarPointer": "b", "WrongPointerKind": "c", "NestingLimitExceeded": "f", "ReadLimitExceeded": "g", "CapabilityInCanonical": "h", "UnknownPointerType": "j"}
 

@@ -67,6 +67,21 @@ def waits(socket, wanted):
     return shown.strip()
 
 
+def clear(socket):
+    """Deletes the line that was typed, and waits until there is only the prompt.
+
+    The keys are read in order. Control-C would be a signal, which may come after the next line's first letters.
+    """
+    tmux(socket, "send-keys", "-t", "t", "C-u")
+    tmux(socket, "send-keys", "-t", "t", "C-l")
+    end = time.monotonic() + SECONDS
+    while time.monotonic() < end:
+        shown = tmux(socket, "capture-pane", "-p", "-t", "t")
+        if [it.strip() for it in shown.splitlines() if it.strip()] == [">"]:
+            return
+        time.sleep(0.1)
+
+
 def faults_of(shell, folder, bin_folder):
     """The lines that a shell doesn't complete."""
     with tempfile.TemporaryDirectory() as room:
@@ -85,9 +100,7 @@ def faults_of(shell, folder, bin_folder):
                 shown = waits(socket, lambda it, wanted=wanted: it == f"> {wanted}" or it.startswith(f"> {wanted} ") or it == f"> {wanted}=")
                 if shown is not None:
                     yield f"{shell}: '{typed}' doesn't become '{wanted}':\n{shown}"
-                tmux(socket, "send-keys", "-t", "t", "C-c")
-                tmux(socket, "send-keys", "-t", "t", "-R", "C-l")
-                time.sleep(0.3)
+                clear(socket)
         finally:
             tmux(socket, "kill-session", "-t", "t")
 
