@@ -50,7 +50,8 @@ pub(crate) fn active_value<A: ReaderArena>(
 
 /// Returns whether a field is not a union member, or is the member of this value.
 pub(crate) fn is_active(field: Field<'_>, active: Option<u16>) -> bool
-    ensures { (e : Entry) → entry_of_field field.entry ≡ Some e → result ≡ is_active e.member active }
+    ensures { (e : Entry)
+        → entry_of_field field.entry ≡ Some e → result ≡ is_active e.member active }
 {
     let member = field.get_proto().discriminant_value;
     if member == NO_DISCRIMINANT {
